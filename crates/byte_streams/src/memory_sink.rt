@@ -48,7 +48,7 @@ impl MemorySink {
         self
     }
 
-    /// Makes one call fail: the first one after `calls` successful calls.
+    /// Makes one call fail: the one after the next `calls` calls.
     pub fn failing_after(mut self, calls: u64) -> MemorySink
         ensures written { written_to result ≡ written_to self }
         ensures max_bytes { max_bytes_of result ≡ max_bytes_of self }

@@ -49,7 +49,7 @@ impl<'a> MemorySource<'a> {
         self
     }
 
-    /// Makes one call fail: the first one after `calls` successful calls.
+    /// Makes one call fail: the one after the next `calls` calls.
     pub fn failing_after(mut self, calls: u64) -> MemorySource<'a>
         ensures left { left result ≡ left self.entry }
         ensures max_bytes { max_bytes_of result ≡ max_bytes_of self.entry }

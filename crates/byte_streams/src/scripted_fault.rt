@@ -2,7 +2,7 @@
 ghost use Rattle.std.specs.Prelude.{◌≡◌, ◌-◌, None, Some, IsTrue, ◌↔◌};
 ghost use Rattle.byte_streams.specs.ScriptedFault.{calls_after};
 
-/// The number of successful calls before the call that fails, or `None` if no call is to fail.
+/// The number of calls before the call that is to fail, or `None` if no call is to fail.
 #[derive(Clone, Copy)]
 pub(crate) struct ScriptedFault {
     pub(crate) calls_before: Option<u64>,

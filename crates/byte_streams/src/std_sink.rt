@@ -44,9 +44,9 @@ impl<W: Write> Sink for StdSink<W> {
 
     ghost failures = { failure_count };
 
-    /// Writes to the writer once, with up to a million tries if signals interrupt the call. Any
-    /// other error is a fault. It is also a fault if the writer accepts no byte of a nonempty
-    /// slice.
+    /// Writes to the writer once. If a signal interrupts the call, tries again, up to a million
+    /// times in total. It is a fault if all tries are interrupted, if the writer returns another
+    /// error, or if it accepts no byte of a nonempty slice.
     fn write(&mut self, bytes: &[u8]) -> Result<usize, IoFault> {
         let outcome = write_retrying(&mut self.writer, bytes);
         if outcome.is_err() {

@@ -48,8 +48,9 @@ impl<R: Read> Source for StdSource<R> {
 
     ghost failures = { failure_count };
 
-    /// Reads from the reader once, with up to a million tries if signals interrupt the call. Any
-    /// other error is a fault.
+    /// Reads from the reader once. If a signal interrupts the call, tries again, up to a million
+    /// times in total. It is a fault if all tries are interrupted, or if the reader returns another
+    /// error.
     fn read(&mut self, piece: &mut [u8]) -> Result<usize, IoFault> {
         let outcome = read_retrying(&mut self.reader, piece);
         if outcome.is_err() {

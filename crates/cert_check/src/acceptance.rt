@@ -42,7 +42,8 @@ pub(crate) fn conditions_hold(plan: &Plan, cert: &Cert) -> bool
     true
 }
 
-/// Returns whether all conditions of the pool's bound and of its blocked vector hold.
+/// Returns whether all conditions of the pool's bound and of its blocked vector hold. The
+/// certificate must fit the plan.
 pub(crate) fn pool_holds(plan: &Plan, cert: &Cert, pool: usize) -> bool
     requires fits { IsTrue (cert_fits plan.now cert.now) }
     requires pool { pool < length plan.now.pools }

@@ -8,7 +8,8 @@ use std::marker::Model;
 /// queue, and the other is the blocked vector.
 #[derive(Clone, Copy, Debug, PartialEq, Eq)]
 pub struct PoolLine {
-    /// Whether the vector that bounds the queue is a lifetime vector.
+    /// Whether the vector that bounds the queue is a lifetime vector, which bounds the number of
+    /// all jobs that are ever submitted to the pool.
     pub lifetime: bool,
     /// The total of the vector that bounds the pool's queue.
     pub standing: u64,

@@ -44,7 +44,8 @@ fn pool_lines(alloc: Global, plan: &Plan, cert: &Cert) -> Result<Vec<PoolLine>, 
     Ok(lines)
 }
 
-/// Returns the totals of the pool's bound and of its blocked vector, with their limits.
+/// Returns the totals of the pool's bound and of its blocked vector, with their limits. The
+/// certificate must fit the plan.
 pub(crate) fn pool_line(plan: &Plan, cert: &Cert, pool: usize) -> PoolLine
     requires fits { IsTrue (cert_fits plan.now cert.now) }
     requires pool { pool < length plan.now.pools }

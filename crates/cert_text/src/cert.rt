@@ -49,7 +49,7 @@ impl Model for Cert {
 }
 
 impl Cert {
-    /// Returns the part for the pool.
+    /// Returns the part for the pool with this index, which must exist.
     pub fn pool_at(&self, pool: usize) -> &PoolCert
         requires { pool < length self.now.pools }
         ensures { result.now ≡ spec.pool_cert_at self.now pool }

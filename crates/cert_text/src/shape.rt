@@ -125,8 +125,9 @@ fn ranks_of(alloc: Global, plan: &Plan, value: &Value) -> Result<Ranks, CertErro
     })
 }
 
-/// Reads a certificate for the plan from a JSON value. Does not check that its numbers are at most
-/// [`MAX_WEIGHT`](job_bodies::MAX_WEIGHT).
+/// Reads a certificate for the plan from a JSON value. It is a fault if a key is missing or
+/// unknown, if a list does not have the plan's shape, or if a number is not an unsigned 64-bit
+/// integer. Does not check that the numbers are at most [`MAX_WEIGHT`](job_bodies::MAX_WEIGHT).
 #[tactic(auto, unfolding(crate::specs::Shape::shape_of))]
 pub fn shape_of(
     alloc: Global,

@@ -15,7 +15,7 @@ use serde_json::Value;
 use std::alloc::Global;
 use weights::Vector;
 
-/// Reads each of the values as a number.
+/// Reads each of the values as an unsigned 64-bit integer. Any other value is a fault.
 fn numbers_in(alloc: Global, values: &[Value]) -> Result<Vec<u64>, CertError>
     ensures { Gives (λ numbers. numbers.items) result
         (read_each (λ _. value_spec.number_of) 0 (map view values.now)) }
@@ -28,7 +28,7 @@ fn numbers_in(alloc: Global, values: &[Value]) -> Result<Vec<u64>, CertError>
     Ok(numbers)
 }
 
-/// Reads the value as a list of `count` numbers.
+/// Reads the value as a list of `count` unsigned 64-bit integers. Any other value is a fault.
 #[tactic(auto, unfolding(crate::specs::Vectors::numbers_of))]
 pub fn numbers_of(alloc: Global, value: &Value, count: usize) -> Result<Vec<u64>, CertError>
     ensures { Gives (λ numbers. numbers.items) result (spec.numbers_of count (view value.now)) }
@@ -38,7 +38,8 @@ pub fn numbers_of(alloc: Global, value: &Value, count: usize) -> Result<Vec<u64>
 }
 
 /// Returns the number of weights in the row of a class: one for a queued job, one for each position
-/// of the body from 0 to its length, and one for a done job.
+/// of the body from 0 to its length, and one for a done job. Returns 3 if the plan has no class
+/// with this index.
 pub fn class_points(plan: &Plan, class: usize) -> usize
     ensures { result ≡ spec.class_points plan.now class }
 {
@@ -49,7 +50,7 @@ pub fn class_points(plan: &Plan, class: usize) -> usize
 }
 
 /// Returns the number of weights in the row of a client kind: one for each position of the body
-/// from 0 to its length.
+/// from 0 to its length. Returns 1 if the plan has no client kind with this index.
 pub fn client_points(plan: &Plan, client: usize) -> usize
     ensures { result ≡ spec.client_points plan.now client }
 {
@@ -83,7 +84,7 @@ fn client_rows_in(alloc: Global, plan: &Plan, values: &[Value]) -> Result<Vec<Ve
     Ok(rows)
 }
 
-/// Reads the value as a list that has a row of numbers for each class.
+/// Reads the value as a list that has a row of numbers for each class. Any other value is a fault.
 #[tactic(auto, unfolding(crate::specs::Vectors::class_rows))]
 fn class_rows(alloc: Global, plan: &Plan, value: &Value) -> Result<Vec<Vec<u64>>, CertError>
     ensures { Gives (λ rows. map (λ row. row.items) rows.items) result
@@ -93,7 +94,8 @@ fn class_rows(alloc: Global, plan: &Plan, value: &Value) -> Result<Vec<Vec<u64>>
     class_rows_in(alloc, plan, values)
 }
 
-/// Reads the value as a list that has a row of numbers for each client kind.
+/// Reads the value as a list that has a row of numbers for each client kind. Any other value is a
+/// fault.
 #[tactic(auto, unfolding(crate::specs::Vectors::client_rows))]
 fn client_rows(alloc: Global, plan: &Plan, value: &Value) -> Result<Vec<Vec<u64>>, CertError>
     ensures { Gives (λ rows. map (λ row. row.items) rows.items) result
@@ -103,7 +105,8 @@ fn client_rows(alloc: Global, plan: &Plan, value: &Value) -> Result<Vec<Vec<u64>
     client_rows_in(alloc, plan, values)
 }
 
-/// Reads the value as a vector.
+/// Reads the value as a vector with the shape of the plan. Any other value is a fault. Does not
+/// check that the numbers are at most [`MAX_WEIGHT`](job_bodies::MAX_WEIGHT).
 #[tactic(auto, unfolding(crate::specs::Vectors::vector_of))]
 pub fn vector_of(alloc: Global, plan: &Plan, value: &Value) -> Result<Vector, CertError>
     ensures { Gives (λ vector. vector) result (spec.vector_of plan.now (view value.now)) }

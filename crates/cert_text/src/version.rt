@@ -34,7 +34,8 @@ fn version_numbered(number: u64) -> Result<Version, CertError>
     }
 }
 
-/// Reads the version of the JSON value of a certificate.
+/// Reads the version of the JSON value of a certificate. It is a fault if the value has no unsigned
+/// integer at the key `version`, or if that integer is neither 1 nor 2.
 #[tactic(auto, unfolding(crate::specs::Version::version_of))]
 pub fn version_of(value: &Value) -> Result<Version, CertError>
     ensures { Gives (λ version. version) result (spec.version_of (view value.now)) }

@@ -18,9 +18,10 @@ use support::push_number;
 /// Writes a certificate as compact JSON. The keys of each object are in ascending order, and the
 /// text has no newline. The version is 2 if a pool has a lifetime vector, and otherwise 1.
 ///
-/// If the certificate fits a plan and the text is not too long, [`read_cert`](crate::read_cert)
-/// reads the text as the certificate for that plan, even if a newline follows it. The text never
-/// contains a `%`, so it cannot be taken for a separator line `%%`.
+/// If the certificate fits a plan, [`read_cert`](crate::read_cert) parses the text as the
+/// certificate for that plan, also with a newline after it. The text, with this newline, must have
+/// at most [`MAX_CERT_BYTES`](job_bodies::MAX_CERT_BYTES) bytes. The text never contains a `%`, so
+/// it cannot be taken for a separator line `%%`.
 ///
 /// # Errors
 ///

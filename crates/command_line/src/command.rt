@@ -54,15 +54,16 @@ pub enum RecordingCommand {
 pub enum Task {
     /// Searches for a certificate.
     Certify {
-        /// The number of threads that search, 1 to 64.
+        /// The number of threads that search, 1 to 64. The default is 4.
         workers: usize,
     },
-    /// Searches for sizes that a certificate accepts.
+    /// Searches for sizes with which a certificate accepts the plan.
     Fit {
         /// The output format for the sizes.
         sizes_form: SizesForm,
     },
-    /// Runs a certified plan on threads, and counts its jobs and their units of work.
+    /// Runs a plan on threads if a certificate accepts it, and counts the jobs and the units of
+    /// work.
     Run {
         /// The number of times that each repeating client goes through its body, 1 to 1,000,000.
         rounds: u64,
@@ -101,7 +102,7 @@ pub struct Cli<'a> {
 /// An output format of `fit`.
 #[derive(Clone, Copy, Debug, PartialEq, Eq)]
 pub enum SizesForm {
-    /// A line for each pool, which marks the sizes that change.
+    /// A line for each pool, which marks the sizes that change, and then the number of changes.
     Sizes,
     /// The plan with the new sizes, and its certificate.
     Bundle,
@@ -119,9 +120,9 @@ pub enum RefuteFormat {
 /// The texts that `ask` reads.
 #[derive(Clone, Copy, Debug, PartialEq, Eq)]
 pub enum AskInput {
-    /// A plan alone.
+    /// A plan alone, because no second file is named.
     PlanAlone,
-    /// A plan, and a certificate for it.
+    /// A plan, and a certificate for it in the second file.
     WithCertificate,
 }
 
@@ -158,9 +159,9 @@ pub enum Form {
 /// # Errors
 ///
 /// Fails if `clap` rejects the arguments, if a number is out of its range, if `--format` names no
-/// format, if two of `--format`, `--json` and `--dot` are given, if `--certificate` names no file,
-/// and on a request for help. The `Display` of the error is a text for the user. If memory runs
-/// out, the error's `kind` is `ErrorKind::OutOfMemory`.
+/// format, if two of `--format`, `--json` and `--dot` are given, if the value of `--certificate` is
+/// empty or `-`, and on a request for help. The `Display` of the error is a text for the user. If
+/// memory runs out, the error's `kind` is `ErrorKind::OutOfMemory`.
 pub fn read_words<'a>(alloc: Global, words: &'a [&'a str]) -> Result<Option<Cli<'a>>, Error>
     ensures command { IfOk result (λ found.
         option_map (λ cli. cli.command) found

@@ -10,7 +10,8 @@ use clap::error::ErrorKind;
 use clap::{ArgMatches, Command, Error};
 use std::alloc::{AllocError, Global};
 
-/// Creates the error whose message says what is wrong with the arguments `matches`.
+/// Creates the error for `matches`, the arguments that `ask` rejects. Its message says what is
+/// wrong with them.
 pub(crate) fn refusal(
     alloc: Global,
     sizing: &mut Command<'_>,

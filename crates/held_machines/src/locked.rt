@@ -3,8 +3,8 @@
 use crate::{Held, Machine};
 use std::sync::{Condvar, Mutex, MutexGuard, Wait};
 
-/// A machine with its history, shared by threads. One thread at a time holds its lock. Other
-/// threads can wait for a change of the machine.
+/// A machine with its history, shared by threads. One thread at a time holds its lock. The thread
+/// that holds it can release it and wait until another thread reports a change of the machine.
 #[derive(Drop)]
 pub struct Locked<M: Machine + Drop> {
     held: Mutex<Held<M>>,

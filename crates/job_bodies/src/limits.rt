@@ -53,11 +53,11 @@ pub const MAX_STATES: u64 = 10_000_000;
 /// The default number of states that a search for a witness may visit.
 pub const DEFAULT_STATES: u64 = 100_000;
 
-/// The maximum number of rounds of a run. The minimum is 1.
+/// The maximum number of rounds of each repeating client in a run. The minimum is 1.
 pub const MAX_ROUNDS: u64 = 1_000_000;
 /// The maximum number of clients of a run.
 pub const MAX_RUN_CLIENTS: u64 = 64;
-/// The maximum number of threads of a run, counted over all its pools.
+/// The maximum number of threads that the pools of a run have in total.
 pub const MAX_RUN_CARRIERS: u64 = 64;
 /// The maximum number of events of a run. The number of events is computed from the plan before the
 /// run.

@@ -167,8 +167,8 @@ impl Plan {
         }
     }
 
-    /// Returns the plan with its pools replaced by these. Allocates no memory, and drops the old
-    /// pools.
+    /// Returns the plan with its pools replaced by these. The result must be well-formed. Allocates
+    /// no memory, and drops the old pools.
     pub fn with_pools(self, pools: Vec<Pool>) -> Plan
         requires { IsWellFormed (plan_of_lists pools.items self.classes self.clients) }
         ensures { result ≡ record self { pools = pools.items } }

@@ -17,8 +17,7 @@ use job_bodies::Plan;
 use std::alloc::{AllocError, Global};
 use weights::Vector;
 
-/// The maximum number of loans for one vector. Each loan makes the total smaller, so few are
-/// enough.
+/// The maximum number of loans for one vector. It bounds the time of a search.
 const MAX_LOANS: usize = 256;
 
 /// A loan: the pool, the new weight of each of its workers, and the index of the resulting sketch
@@ -40,17 +39,18 @@ pub(crate) struct Loans {
     pub(crate) sketch: Sketch,
 }
 
-/// Makes loans until the total is at most the limit of the target, or no further loan helps.
-/// Returns the resulting worker weights and their sketch.
+/// Makes loans until the total is at most the limit of the target, no further loan helps, or
+/// [`MAX_LOANS`] loans were made. Returns the resulting worker weights and their sketch. The total
+/// may still be above the limit.
 ///
 /// Each loan gives each worker of one pool the largest weight that a job of the pool has in its
-/// body, so that the queued jobs of the pool weigh less. It chooses the pool for which the total
-/// becomes smallest.
+/// body, so that the queued jobs of the pool weigh less. The chosen pool is the one for which the
+/// total becomes smallest.
 ///
 /// Classes that are never submitted are ignored, because a loan for their jobs does not change the
 /// total. But there is no vector if one of these classes has a weight above `MAX_WEIGHT`. In this
-/// case a loan gives the workers of one pool the least weight with which fewer of these classes
-/// have weights above `MAX_WEIGHT`.
+/// case a loan reduces the number of these classes as far as the workers of one pool can. It gives
+/// these workers the least weight that suffices.
 ///
 /// A cache has the sketches of all combinations of worker weights that were tried, so none is
 /// computed twice. The largest weight of a lender's jobs comes from the sketch in which the
@@ -133,8 +133,8 @@ fn next_loan(
 /// `place` is the index of the sketch for `workers`. `workers` is modified during the call and
 /// restored before it returns.
 ///
-/// A loan is not tried if the workers alone would weigh at least as much as the smallest total
-/// found so far.
+/// Only pools that may lend are tried. A loan is not tried if the workers of all pools alone would
+/// then weigh at least as much as the smallest total found so far.
 fn best_loan(
     sketch_cache: &mut SketchCache,
     workers: &mut [u64],
@@ -177,10 +177,10 @@ fn best_loan(
     Ok(best)
 }
 
-/// Returns the largest weight that a job of the pool has in its body if the workers and the done
-/// jobs of the pool weigh 0. Uses the sketch at `place` if the workers already weigh 0 in it.
-/// `place` is the index of the sketch for `workers`. `workers` is modified during the call and
-/// restored before it returns.
+/// Returns the largest weight that a job of the pool has in its body if the workers of the pool
+/// weigh 0, and the job itself weighs 0 when it is done. Classes that are never submitted are
+/// ignored. `place` is the index of the sketch for `workers`. This sketch is used if the workers
+/// already weigh 0 in it. `workers` is modified during the call and restored before it returns.
 fn peak(
     sketch_cache: &mut SketchCache,
     workers: &mut [u64],

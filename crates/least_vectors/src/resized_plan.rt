@@ -1,4 +1,7 @@
-//! The lightest vectors of a pool, for searches that change the sizes of a plan.
+//! The lightest vectors of a pool, for searches that change the sizes of a plan. A *standing
+//! vector* bounds the number of queued jobs of the pool, a *lifetime vector* the number of all jobs
+//! that are ever submitted to it, and a *blocked vector* the number of its jobs that wait at
+//! certain gets.
 
 ghost use Rattle.std.specs.Prelude.{◌≡◌, ◌<◌, length, IfOk, IfSome, IsTrue, vec_len};
 ghost use Rattle.weights.specs.Vector.{vector_fits};
@@ -22,7 +25,8 @@ pub struct VectorSummary {
     /// search gives the same result if the maximums of these pools are the same and no other pool
     /// has a smaller maximum.
     pub lenders: Vec<usize>,
-    /// The total of the vector.
+    /// The total: the weight of all clients at the start of their bodies, and of all workers if
+    /// each pool has its maximum of them.
     pub total: u64,
 }
 
@@ -90,8 +94,9 @@ impl ResizedPlan<'_> {
         }))
     }
 
-    /// Returns the pool's vector with these worker weights, or `None` if one of its numbers is
-    /// above `MAX_WEIGHT`.
+    /// Returns the pool's vector with these worker weights, one for each pool. Returns `None` if a
+    /// number of the vector is above `MAX_WEIGHT`, or if the number of worker weights is wrong. The
+    /// conditions of a returned vector need not hold, so the caller must check them.
     ///
     /// # Errors
     ///

@@ -13,7 +13,7 @@ use std::alloc::{AllocError, Global};
 use weights::Vector;
 
 /// Builds the complete vector of a sketch with these worker weights. Returns `None` if one of its
-/// numbers is above `MAX_WEIGHT`.
+/// numbers is above `MAX_WEIGHT`, or if there is not one worker weight for each pool.
 pub(crate) fn vector_of(
     alloc: Global,
     plan: &Plan,
@@ -75,7 +75,8 @@ fn class_row(
 }
 
 /// Returns the weights of a client of this kind at each position of its body. They are computed
-/// from the end of the body to its start.
+/// from the end of the body to its start. The client weighs `start` at the end if it repeats, and
+/// otherwise 0.
 fn client_row(
     alloc: Global,
     target: &Target,

@@ -9,8 +9,9 @@ use job_bodies::{Action, Class, Client, MAX_WEIGHT, Plan};
 use std::alloc::{AllocError, Global};
 use weights::submitted_class;
 
-/// The total of a sketch for which no vector exists: a weight is above `MAX_WEIGHT`, or a client
-/// that repeats would need ever more weight. A total that overflows also has this value.
+/// The total of a sketch if no vector has its worker weights: another weight is above `MAX_WEIGHT`,
+/// or a client that repeats would need ever more weight. A total that overflows also has this
+/// value.
 pub(crate) const TOO_HEAVY: u64 = u64::MAX;
 
 /// The parts of a vector that determine its total, without the weights at the positions of bodies.
@@ -22,8 +23,9 @@ pub(crate) struct Sketch {
     pub(crate) done: Vec<u64>,
     /// The weight of a client of each kind at the start of its body.
     pub(crate) starts: Vec<u64>,
-    /// For each pool, the largest weight at any position of the bodies of its classes, computed for
-    /// the least possible weight of a done job. Classes that are never submitted are ignored.
+    /// For each pool, the largest weight that one of its jobs has at any position of its body, if
+    /// the job itself weighs as little as possible when it is done. Classes that are never
+    /// submitted are ignored.
     pub(crate) peaks: Vec<u64>,
     /// The total weight of all workers, if each pool has its maximum of them.
     pub(crate) on_loan: u64,
@@ -64,9 +66,12 @@ impl Sketch {
         Ok(sketch)
     }
 
-    /// Computes the weights of a queued and of a done job of the class. A done job gets the
-    /// greatest weight that its body allows, because a get then returns more to its actor. A done
-    /// job never weighs more than a queued job.
+    /// Computes the weights of a queued and of a done job of the class, and raises the peak of its
+    /// pool if the class is submitted. If a weight is above `MAX_WEIGHT`, sets the total to
+    /// [`TOO_HEAVY`], and counts the class as overweight if it is never submitted.
+    ///
+    /// A done job gets the greatest weight that its body allows, because a get then returns more to
+    /// its actor. A done job never weighs more than a queued job.
     fn weigh_class(
         &mut self,
         target: &Target,
@@ -101,9 +106,12 @@ impl Sketch {
         }
     }
 
-    /// Computes the weight of a client of this kind at the start of its body. A client that repeats
-    /// must weigh at the end as much as at the start. If raising the end to the weight of the start
-    /// also raises the start, no vector exists.
+    /// Computes the weight of a client of this kind at the start of its body, and adds the weights
+    /// of all clients of the kind to the total. Sets the total to [`TOO_HEAVY`] if a weight is
+    /// above `MAX_WEIGHT`, or if a client that repeats would need ever more weight.
+    ///
+    /// A client that repeats must weigh at the end as much as at the start. If raising the end to
+    /// the weight of the start also raises the start, no vector exists.
     fn weigh_client(&mut self, target: &Target, client: &Client) -> Result<(), AllocError> {
         let mut weight = Weight::at_end(0);
         let mut peak = 0;

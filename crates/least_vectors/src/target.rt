@@ -1,4 +1,6 @@
-//! The target of a search for a vector of a pool.
+//! The target of a search for a vector of a pool. A *standing vector* bounds the number of queued
+//! jobs of the pool, a *lifetime vector* the number of all jobs that are ever submitted to it, and
+//! a *blocked vector* the number of its jobs that wait at certain gets.
 
 use crate::numbers::number_at;
 use job_bodies::{Action, Class, Plan, Pool};

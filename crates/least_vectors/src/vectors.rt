@@ -1,6 +1,9 @@
 //! The two vectors that a certificate has for each pool: the bound of the queue, and the blocked
-//! vector. The *reach* of a class is the maximum of the rank of its pool and of the reaches of the
-//! classes whose jobs it gets.
+//! vector. A *standing vector* bounds the number of queued jobs of a pool, and a *lifetime vector*
+//! the number of all jobs that are ever submitted to it. A *blocked vector* bounds the number of
+//! its jobs that wait at gets of classes whose reach is at least the rank of the pool. The *reach*
+//! of a class is the maximum of the rank of its pool and of the reaches of the classes whose jobs
+//! it gets.
 
 ghost use Rattle.std.specs.Prelude.{◌<◌, IfOk, IfSome, IsTrue, length};
 ghost use Rattle.weights.specs.Vector.{vector_fits};
@@ -14,7 +17,8 @@ use std::alloc::{AllocError, Global};
 use weights::{Bound, Vector};
 
 /// Returns the bound of the pool's queue: a standing vector or, if the search finds none, a
-/// lifetime vector. Returns `None` if the search finds neither.
+/// lifetime vector. Returns `None` if the search finds neither. The plan must have a pool with the
+/// index `pool`.
 ///
 /// # Errors
 ///
@@ -43,7 +47,7 @@ pub fn pool_bound(
 }
 
 /// Returns the pool's blocked vector for this rank of the pool and these reaches of the classes, or
-/// `None` if the search finds none.
+/// `None` if the search finds none. The plan must have a pool with the index `pool`.
 ///
 /// # Errors
 ///

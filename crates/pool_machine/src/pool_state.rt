@@ -132,7 +132,8 @@ impl PoolState {
         Some(job)
     }
 
-    /// Makes a busy worker idle because its job is done. Allocates no memory.
+    /// Makes a busy worker idle because its job is done. At least one worker must be busy.
+    /// Allocates no memory.
     pub fn finish(&mut self)
         requires { self.old.idle < self.old.threads }
         ensures { self.new ≡ finished self.old }

@@ -104,9 +104,9 @@ pub(crate) fn push_pool_notes(
     push_blocked_notes(alloc, notes, plan, ranks, number, &pool.blocked)
 }
 
-/// Returns the failing conditions of a certificate, each with its left and right side. The
-/// conditions of the ranks come first. For each pool, the conditions of its bound follow, and then
-/// the conditions of its blocked vector.
+/// Returns the failing conditions of a certificate that fits the plan, each with its left and right
+/// side. The conditions of the ranks come first. For each pool, the conditions of its bound follow,
+/// and then the conditions of its blocked vector.
 ///
 /// # Errors
 ///

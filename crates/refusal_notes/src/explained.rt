@@ -15,8 +15,8 @@ use job_bodies::Plan;
 use std::alloc::{AllocError, Global};
 
 /// Appends a line for each failing condition, and then a line with the number of these conditions,
-/// such as `failing 1`. Returns that number. Stores the failing conditions of only one pool at a
-/// time, to save memory.
+/// such as `failing 1`. Returns that number. The certificate must fit the plan. Stores the failing
+/// conditions of only one pool at a time, to save memory.
 ///
 /// # Errors
 ///

@@ -12,15 +12,15 @@ use std::alloc::{AllocError, Global};
 ///
 /// # Errors
 ///
-/// [`AllocError`] if memory runs out.
+/// Returns [`AllocError`] if memory runs out.
 pub fn page_of(alloc: Global, json: &str) -> Result<String, AllocError>
     ensures { IfOk result (λ page. string_bytes page ≡ spec.page_of json.now) }
 {
     page_between(alloc, BEFORE, json, AFTER)
 }
 
-/// Returns the text `before`, then the JSON text, escaped for a script element, and then the text
-/// `after`.
+/// Returns a page of three parts: the text `before`, the JSON text, escaped for a script element,
+/// and the text `after`.
 fn page_between(alloc: Global, before: &str, json: &str, after: &str) -> Result<String, AllocError>
     ensures { IfOk result (λ page.
         string_bytes page ≡ (before.now ++ spec.script_text json.now) ++ after.now) }

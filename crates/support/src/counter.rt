@@ -40,7 +40,7 @@ impl Counter {
         }
     }
 
-    /// Increments the counter.
+    /// Increments the counter, which must be below `u64::MAX`.
     ///
     /// # Errors
     ///
@@ -75,8 +75,8 @@ impl Counter {
     ///
     /// # Errors
     ///
-    /// Returns [`AllocError`] if memory runs out. The text may then end with all digits except the
-    /// last.
+    /// Returns [`AllocError`] if memory runs out. All digits except the last may then have been
+    /// appended.
     #[inline(always)]
     #[tactic(auto, using(crate::proofs::Counting::tens_text_digit))]
     pub fn push_to(&self, text: &mut String) -> Result<(), AllocError>

@@ -55,7 +55,7 @@ impl<V> IdMap<V> {
         }
     }
 
-    /// Returns the value stored for key `number`, or `None`.
+    /// Returns the value stored for key `number`, or `None` if there is none.
     #[inline(always)]
     #[tactic(auto, unfolding(crate::specs::Numbered::value_at))]
     pub fn get(&self, number: usize) -> Option<&V>
@@ -82,7 +82,8 @@ impl<V> IdMap<V> {
         self.get(number).is_some()
     }
 
-    /// Returns a mutable reference to the value stored for key `number`, or `None`.
+    /// Returns a mutable reference to the value stored for key `number`, or `None` if there is
+    /// none.
     #[inline(always)]
     pub fn get_mut(&mut self, number: usize) -> Option<&mut V>
         ensures* writes_back { sem 𝓛 (returns_mut_value V.row self.entry number result) }

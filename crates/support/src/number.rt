@@ -59,11 +59,11 @@ pub const RUN_TOO_LARGE: u8 = 40;
 /// the history does not contain. The history lists the events of a run in order. A receipt is a
 /// thread's record of an event that the thread performed.
 pub const STRANGE: u8 = 41;
-/// The results of several threads contradict each other: the history and the receipts of a run are
-/// not those of a complete run, or the parts of a search do not fit together.
+/// The results of several threads contradict each other. Either the history and the receipts of a
+/// run are not those of a complete run, or the parts of a search do not fit together.
 pub const MIXED: u8 = 42;
-/// A gate failed: the code that does the declared work of a run, or the hook that a search or a
-/// check calls before each pool.
+/// A gate failed. In a run, a gate is the code that does the declared work. In a search or a check,
+/// it is the hook that is called before each pool.
 pub const GATE: u8 = 43;
 
 // ---- faults of an input

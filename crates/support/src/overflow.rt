@@ -51,7 +51,7 @@ impl<V> OverflowMap<V> {
         self.map.is_empty()
     }
 
-    /// Returns the value stored for key `number`, or `None`.
+    /// Returns the value stored for key `number`, or `None` if there is none.
     #[inline(never)]
     pub(crate) fn get(&self, number: usize) -> Option<&V>
         ensures { option_copied result ≡ lookup (nat_eq number) self.now }
@@ -59,7 +59,8 @@ impl<V> OverflowMap<V> {
         self.map.get(&number)
     }
 
-    /// Returns a mutable reference to the value stored for key `number`, or `None`.
+    /// Returns a mutable reference to the value stored for key `number`, or `None` if there is
+    /// none.
     #[inline(never)]
     pub(crate) fn get_mut(&mut self, number: usize) -> Option<&mut V>
         ensures* writes_back { sem 𝓛 (returns_mut_overflow V.row self.entry number result) }

@@ -11,7 +11,8 @@ pub enum Event {
     Job(usize),
     /// An idle worker of the pool with this index takes the head of the pool's queue.
     Take(usize),
-    /// An idle worker of the pool with this index ends.
+    /// An idle worker of the pool with this index ends. This is possible only while the pool has
+    /// more than core threads.
     Retire(usize),
 }
 
