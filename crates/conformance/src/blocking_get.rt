@@ -15,7 +15,7 @@ enum Way {
     /// The body may pass every get between the two indices.
     Free,
     /// The body may not pass a get between the two indices. The field is the get with the smallest
-    /// limit among the first such get and the later gets of the same class.
+    /// limit among the first such get and the later gets of the same class between the indices.
     Blocked(BodyGet),
 }
 
@@ -23,9 +23,10 @@ enum Way {
 /// no such get. `row` says for each index whether the body can be there, and `passes` says for each
 /// action whether the body may pass it.
 ///
-/// A blocking get comes after the last index where the body can be, and the body may not pass it.
-/// The next submit is the first submit of the class after a blocking get. The result is the get
-/// with the smallest limit among the first blocking get and the later gets of its class.
+/// A get blocks a submit if the body may not pass the get, and the get comes after the last index,
+/// up to the submit, where the body can be. The next submit is the first submit of the class that a
+/// get blocks. Of the first get that blocks it, and the later gets of the same class before the
+/// submit, the result is the get with the smallest limit.
 pub(crate) fn blocking_get(
     row: &[bool],
     passes: &[bool],

@@ -18,7 +18,8 @@ pub(crate) enum Pick {
     /// The last of the job's classes that the body submits.
     Last,
     /// The class of the next submit in the body that has a class of the job. The search begins
-    /// after the submit that was found for the job before, or at the start of the body.
+    /// after the submit that was last found for an earlier job of the path. For the first job, it
+    /// begins at the start of the body.
     InOrder,
 }
 

@@ -22,7 +22,7 @@ use std::alloc::{AllocError, Global};
 pub(crate) struct Verdicts {
     pub(crate) mismatches: FirstActors,
     pub(crate) undecided: FirstActors,
-    /// The jobs whose path matches no class of the plan.
+    /// The jobs whose path matches no class of their label, whether or not the plan has the label.
     pub(crate) classless: JobSet,
 }
 
@@ -38,7 +38,8 @@ impl Verdicts {
         }
     }
 
-    /// Records the actor if its path matches no body, or if this is undecided. Ignores any other
+    /// Records the actor if its path matches no body, or if this is undecided. If the plan lacks
+    /// the label, adds only a job whose path matches no body, to `classless`. Ignores any other
     /// actor.
     ///
     /// # Errors
