@@ -23,10 +23,11 @@ enum Way {
 /// no such get. `row` says for each index whether the body can be there, and `passes` says for each
 /// action whether the body may pass it.
 ///
-/// A get blocks a submit if the body may not pass the get, and the get comes after the last index,
-/// up to the submit, where the body can be. The next submit is the first submit of the class that a
-/// get blocks. Of the first get that blocks it, and the later gets of the same class before the
-/// submit, the result is the get with the smallest limit.
+/// Consider a submit and the last index, at or before it, where the body can be. A get blocks the
+/// submit if it is at or after that index and before the submit, and the body may not pass it. The
+/// next submit is the first submit of the class that a get blocks. The result is the get with the
+/// smallest limit among the first get that blocks this submit and the later gets of the same class
+/// before the submit.
 pub(crate) fn blocking_get(
     row: &[bool],
     passes: &[bool],

@@ -79,9 +79,9 @@ fn one_class(alloc: Global, picked: Option<usize>) -> Result<Vec<usize>, AllocEr
     Ok(fewer)
 }
 
-/// Returns the class of a job that the rule `pick` picks from its `classes`, or `None` if the body
-/// submits none of them. [`Pick::InOrder`] searches the body only from index `from`, and moves
-/// `from` past the submit that it finds.
+/// Returns the class that the rule `pick` picks from the `classes` of a job, or `None` if it picks
+/// none of them. [`Pick::InOrder`] searches the body only from index `from`, and moves `from` past
+/// the submit that it finds. The other rules do not use `from`.
 fn picked_class(body: &[Action], from: &mut usize, classes: &[usize], pick: Pick) -> Option<usize>
     ensures { IfSome result (λ class. Contains classes.now class) }
 {

@@ -38,9 +38,9 @@ impl Verdicts {
         }
     }
 
-    /// Records the actor if its path matches no body, or if this is undecided. If the plan lacks
-    /// the label, adds only a job whose path matches no body, to `classless`. Ignores any other
-    /// actor.
+    /// Records an actor whose path matches no body, or for which this is undecided, if the plan has
+    /// its label. Adds each job whose path matches no body to `classless`, even if the plan lacks
+    /// its label. Ignores any other actor.
     ///
     /// # Errors
     ///
