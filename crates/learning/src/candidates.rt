@@ -13,8 +13,8 @@ pub(crate) const CANDIDATES: usize = 8;
 /// The options for making a candidate.
 #[derive(Clone, Copy)]
 pub(crate) struct Choices {
-    /// True if no submit of the candidate is matched both with a job that its path gets and with a
-    /// job that its path does not get.
+    /// True if each submit of the candidate is matched only with jobs that their paths get, or only
+    /// with jobs that their paths do not get.
     pub(crate) marks_gets: bool,
     /// True if the submits of the paths are merged from the last path to the first.
     pub(crate) is_reversed: bool,

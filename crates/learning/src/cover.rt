@@ -32,8 +32,7 @@ use std::alloc::{AllocError, Global};
 ///
 /// Returns `None` if no body with at most [`MAX_ACTIONS`] actions is found. No body is found if the
 /// job of a submit cannot belong to any class, if a get names no earlier submit, or if two gets
-/// name the same submit. Nor is one found if `body` has `work`, and is invalid or does not match a
-/// path.
+/// name the same submit. If `body` has `work`, the result is `body` or `None`.
 ///
 /// # Errors
 ///
