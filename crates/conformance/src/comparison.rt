@@ -49,7 +49,7 @@ pub enum Conformance {
 ///   round counts as the first kind that it can belong to. A round whose kind is undecided counts
 ///   in no kind;
 /// - the first get of a job by an actor other than its submitter, before the submitter got the job;
-/// - for each event type that invalidates a SAFE answer, its first line.
+/// - for each event type that invalidates a SAFE answer, whatever the paths are, its first line.
 ///
 /// If no finding concerns a label, a path or a number of rounds, all jobs and rounds behave as
 /// planned, whatever the pools are.
