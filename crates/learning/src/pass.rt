@@ -19,8 +19,8 @@ use std::alloc::{AllocError, Global};
 /// The state of a pass over a part of a recording.
 #[derive(Drop)]
 pub(crate) struct Pass {
-    /// The first client kind of the plan that each round can belong to, by round number, or `None`
-    /// if the round matches none.
+    /// The first client kind of the plan that each round can belong to, by round number. It is
+    /// `None` if the round matches none, and until the round is classified.
     pub(crate) kinds: Vec<Option<usize>>,
     /// True if the pass changed a body.
     pub(crate) is_changed: bool,
