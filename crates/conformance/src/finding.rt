@@ -37,8 +37,8 @@ pub enum Finding {
         actor: RecordedActor,
         label: ActorLabel,
     },
-    /// The first line at which a kind has more rounds than the plan allows. Each round counts as the
-    /// first kind that it can belong to. A round whose kind is undecided counts in no kind.
+    /// The first line at which a kind has more rounds than the plan allows. Each round counts as
+    /// the first kind that it can belong to. A round whose kind is undecided counts in no kind.
     TooMany(RoundExcess),
     /// The first get of a job by an actor other than its submitter, before the submitter got the
     /// job. The fields have the labels of the actor and of the job.
