@@ -27,8 +27,9 @@ use std::alloc::{AllocError, Global};
 /// A classifier for the actors of a recording.
 ///
 /// It classifies an actor once the actor has ended and the jobs of its path are classified. The
-/// actor is then settled. The classifier stores the paths of the other actors, and the classes of
-/// each settled job whose submitter is not settled. A job that was refused, cancelled or removed
+/// actor is then settled. [`finish`](ActorClassifier::finish) classifies the other actors at the
+/// end of the recording. The classifier stores the paths of the unsettled actors, and the classes
+/// of each settled job whose submitter is not settled. A job that was refused, cancelled or removed
 /// and never ran stays open until the recording ends.
 ///
 /// The path of an ended actor is scanned only once in total: each scan continues at the unsettled
@@ -60,7 +61,7 @@ impl ActorClassifier {
     }
 
     /// Reads the next line of a valid recording. Appends each actor that becomes settled with this
-    /// line to `reported`.
+    /// line to `reported`. `plan` must be the same for all lines.
     ///
     /// # Errors
     ///

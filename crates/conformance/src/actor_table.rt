@@ -46,7 +46,7 @@ impl UnsettledActor {
     }
 }
 
-/// The unsettled actors, by number.
+/// A map from the numbers of jobs and rounds to the unsettled actors.
 #[derive(Drop)]
 pub(crate) struct ActorTable {
     pub(crate) jobs: IdMap<UnsettledActor>,
@@ -64,7 +64,11 @@ impl ActorTable {
         }
     }
 
-    /// Inserts an unsettled actor, or replaces it.
+    /// Inserts an unsettled actor. Replaces the actor if the table already has it.
+    ///
+    /// # Errors
+    ///
+    /// Returns `AllocError` if memory runs out.
     pub(crate) fn insert(
         &mut self,
         actor: RecordedActor,
@@ -81,8 +85,9 @@ impl ActorTable {
         }
     }
 
-    /// Inserts an open actor with this label, or replaces the actor. `label` is the class of a job
-    /// or the kind of a round. A round has an empty `pool` and no `submitter`.
+    /// Inserts an open actor with this label. Replaces the actor if the table already has it.
+    /// `label` is the class of a job or the kind of a round. A round has an empty `pool` and no
+    /// `submitter`.
     ///
     /// # Errors
     ///
@@ -106,7 +111,8 @@ impl ActorTable {
         self.insert(actor, kept)
     }
 
-    /// Removes the submitter of a refused job, because this job is no part of the submitter's path.
+    /// Clears the `submitter` field of a refused job, because the job is not part of the
+    /// submitter's path. Does nothing if the job is not in the table.
     pub(crate) fn clear_submitter(&mut self, job: usize)
         ensures { (one : RecordedActor)
             → in_table self.new one
@@ -118,7 +124,7 @@ impl ActorTable {
         }
     }
 
-    /// Marks the actor as ended, if it is in the table.
+    /// Stores the path of an actor that has ended. Does nothing if the actor is not in the table.
     pub(crate) fn set_ended(&mut self, actor: RecordedActor, ended_path: EndedPath)
         ensures { (one : RecordedActor)
             → in_table self.new one

@@ -15,7 +15,7 @@ enum Way {
     /// The body may pass every get between the two indices.
     Free,
     /// The body may not pass a get between the two indices. The field is the get with the smallest
-    /// limit among the first such get and the later gets of the same class.
+    /// limit among the first such get and the later gets of the same class between the indices.
     Blocked(BodyGet),
 }
 
@@ -23,9 +23,11 @@ enum Way {
 /// no such get. `row` says for each index whether the body can be there, and `passes` says for each
 /// action whether the body may pass it.
 ///
-/// A blocking get comes after the last index where the body can be, and the body may not pass it.
-/// The next submit is the first submit of the class after a blocking get. The result is the get
-/// with the smallest limit among the first blocking get and the later gets of its class.
+/// Consider a submit and the last index, at or before it, where the body can be. A get blocks the
+/// submit if it is at or after that index and before the submit, and the body may not pass it. The
+/// next submit is the first submit of the class that a get blocks. The result is the get with the
+/// smallest limit among the first get that blocks this submit and the later gets of the same class
+/// before the submit.
 pub(crate) fn blocking_get(
     row: &[bool],
     passes: &[bool],

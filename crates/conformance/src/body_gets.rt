@@ -15,7 +15,8 @@ use std::alloc::{AllocError, Global};
 pub(crate) struct BodyGet {
     /// The class of the job that it gets.
     pub(crate) class: usize,
-    /// The number of jobs of the class that are open in the body after the get.
+    /// The number of jobs of the class that are open in the body after the get. The body may pass
+    /// the get while at most this number of them is open in the path.
     pub(crate) limit: usize,
 }
 
@@ -88,8 +89,9 @@ fn submitted_class(body: &[Action], submit: usize) -> usize
     }
 }
 
-/// Returns a bound for the indices of the body. An actor of this kind may get a job of the class
-/// exactly at the indices below the bound.
+/// Returns a bound for the index of the body at which an actor of this kind may get a job of the
+/// class: the index must be less than the bound. For a job, the bound is the index after the last
+/// get of the class in the body, or 0 if there is none. For a round, every index is less than it.
 pub(crate) fn end_of_gets(kind: ActorKind, gets: &[Option<BodyGet>], class: usize) -> usize
     ensures { (body : List Action)
         → spec.AreGets body gets.now

@@ -18,7 +18,7 @@ pub(crate) enum Candidate {
     Several,
 }
 
-/// Returns which of these classes of a job the body submits.
+/// Returns which of `classes`, the classes of a job, the body submits: none, one or several.
 pub(crate) fn candidate_of(body: &[Action], classes: &Vec<usize>) -> Candidate
     ensures { IsCandidate body.now (Submits classes.now) result }
 {

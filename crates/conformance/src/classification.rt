@@ -19,7 +19,8 @@ use std::alloc::{AllocError, Global};
 
 impl ActorClassifier {
     /// Classifies the actor by its path, and appends the result to `reported`. Removes the classes
-    /// of the jobs in the path from the classifier.
+    /// of the jobs in the path from the classifier. If the actor is a job with a `submitter`,
+    /// stores the classes of this job.
     ///
     /// # Errors
     ///

@@ -13,8 +13,7 @@ pub struct ClassifiedActor {
     pub pool: String,
     /// The submits and gets of the actor, in order.
     pub path: Vec<RecordedStep>,
-    /// The classes that the job can belong to, or the kinds of the round. The match is undecided if
-    /// it is undecided for a job that the actor submitted, or for a job that such a job submitted,
-    /// and so on.
+    /// The classes that the job can belong to, or the kinds of the round. The match is decided only
+    /// if the match of each job in the path is also decided.
     pub family: FamilyMatch,
 }

@@ -23,7 +23,7 @@ use job_bodies::Plan;
 use recordings::{InvalidatingEvent, Invalidation, RecordedActor, RecordedNotes};
 use std::alloc::{AllocError, Global};
 
-/// Returns all findings, unsorted.
+/// Returns the findings of the survey and those for `excesses`, unsorted.
 ///
 /// # Errors
 ///

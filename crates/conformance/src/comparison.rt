@@ -28,18 +28,18 @@ use std::alloc::{AllocError, Global};
 pub enum Conformance {
     /// The first invalid line of the recording. No comparison was made.
     Invalid(RecordingFault),
-    /// Every difference from the plan and every event that invalidates a SAFE answer, each listed
-    /// once. Findings are ordered by line, then by type. Findings without a line come last. The
-    /// recording conforms if the list is empty.
+    /// The findings that [`conform`] lists. They are ordered by line, then by type. Findings
+    /// without a line come last. The recording conforms if the list is empty.
     Compared(Vec<Finding>),
 }
 
-/// Compares the recording of a service with a plan.
+/// Compares the recording of a service with a plan. If a line of the recording is invalid, returns
+/// the first such line and compares nothing.
 ///
 /// The findings are exactly these, each listed once:
 ///
-/// - every difference between a recorded pool and the plan, with the first line that shows it, and
-///   every pool of the plan that the recording lacks;
+/// - every difference between a recorded pool and the plan, with the first line that shows it;
+/// - if the recording ends with `end`, every pool of the plan that the recording lacks;
 /// - every label that is not in the plan, with the first line that has it;
 /// - for each label of the plan, the actor with the smallest number whose path matches no body,
 ///   with its first step that no body explains and the line of that step;
@@ -49,13 +49,13 @@ pub enum Conformance {
 ///   round counts as the first kind that it can belong to. A round whose kind is undecided counts
 ///   in no kind;
 /// - the first get of a job by an actor other than its submitter, before the submitter got the job;
-/// - for each event type that invalidates a SAFE answer, its first line.
+/// - for each event type that invalidates a SAFE answer, whatever the paths are, its first line.
 ///
 /// If no finding concerns a label, a path or a number of rounds, all jobs and rounds behave as
 /// planned, whatever the pools are.
 ///
 /// A get that timed out or was interrupted is not a finding. If the actor's path without that get
-/// matches a body, the get invalidates nothing. Otherwise the path is reported as a mismatch.
+/// matches a body, the get invalidates nothing. Otherwise the path is a mismatch like any other.
 ///
 /// # Errors
 ///

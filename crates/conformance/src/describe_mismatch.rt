@@ -21,9 +21,9 @@ use recordings::{RecordedActor, RecordedStep};
 use std::alloc::{AllocError, Global};
 
 /// Describes the first deviating step of the actor. This is the step after the longest prefix of
-/// the path that a body explains. Returns the line number of this step, or `None` if no line
-/// records it, and the description. `classless` has the jobs whose paths match no class of the
-/// plan.
+/// the path that a body explains, or the actor's end if that prefix is the whole path. Returns the
+/// line number of this step, or `None` if no line records it, and the description. `classless` has
+/// the jobs whose paths match no class of their labels.
 ///
 /// # Errors
 ///
@@ -120,7 +120,8 @@ enum JobStep {
     Gets(usize),
 }
 
-/// Returns the step at an index of a path, or `None` past the end.
+/// Returns the step at an index of a path. Returns `None` past the end, and for a get that names no
+/// submit of the path.
 fn step_at(path: &[RecordedStep], place: usize) -> Option<JobStep>
     ensures { result ≡ spec.step_at path.now place }
 {

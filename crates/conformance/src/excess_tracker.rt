@@ -17,8 +17,8 @@ use job_bodies::Plan;
 use recordings::Line;
 use std::alloc::{AllocError, Global};
 
-/// For each client kind, the first line read so far at which it has more rounds than the plan
-/// allows.
+/// A tracker that reads a recording line by line. For each client kind, it finds the first line at
+/// which the kind has more rounds than the plan allows.
 #[derive(Drop)]
 pub(crate) struct ExcessTracker {
     rounds: OpenRounds,
@@ -43,12 +43,14 @@ impl ExcessTracker {
         })
     }
 
-    /// Counts the rounds in line `number` of a valid recording. A round counts as its kind in
-    /// `others`. If `others` does not have the round, it counts as the first kind of its label.
+    /// Reads line `number` of a valid recording, and counts the round that it begins or ends. A
+    /// round counts as its kind in `others`. If `others` does not have the round, it counts as the
+    /// first kind of its label.
     ///
     /// # Errors
     ///
-    /// Returns `AllocError` if memory runs out.
+    /// Returns `AllocError` if memory runs out, or if more than `MAX_RECORDED_ROUNDS` rounds of a
+    /// kind begin.
     pub(crate) fn take(
         &mut self,
         plan: &Plan,
@@ -71,13 +73,14 @@ impl ExcessTracker {
     }
 }
 
-/// Returns, for each kind, the first line at which it has more rounds than the plan allows. The
-/// recording must be valid. A round counts as its kind in `others`. If `others` does not have the
-/// round, it counts as the first kind of its label.
+/// Returns, for each kind, the first line at which it has more rounds than the plan allows, if
+/// there is one. The recording must be valid. A round counts as its kind in `others`. If `others`
+/// does not have the round, it counts as the first kind of its label.
 ///
 /// # Errors
 ///
-/// Returns `AllocError` if memory runs out.
+/// Returns `AllocError` if memory runs out, or if more than `MAX_RECORDED_ROUNDS` rounds of a kind
+/// begin.
 pub(crate) fn excesses(
     alloc: Global,
     plan: &Plan,

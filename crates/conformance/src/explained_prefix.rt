@@ -17,7 +17,8 @@ pub struct ExplainedPrefix {
     pub excess: Option<OpenExcess>,
 }
 
-/// Returns the longer of two prefixes, or `other` if they have the same length.
+/// Returns the longer of two prefixes. If they have the same length, returns `one` if it has an
+/// `excess`, and `other` otherwise.
 pub(crate) fn longer(one: ExplainedPrefix, other: ExplainedPrefix) -> ExplainedPrefix
     ensures { result ≡ spec.longer one other }
 {

@@ -43,6 +43,10 @@ impl FamilyMatch {
     }
 
     /// Matches the path against the body of class or client kind `number`, and adds the result.
+    ///
+    /// # Errors
+    ///
+    /// Returns `AllocError` if memory runs out.
     pub(crate) fn match_body(
         &mut self,
         alloc: Global,

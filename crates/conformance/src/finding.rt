@@ -37,8 +37,8 @@ pub enum Finding {
         actor: RecordedActor,
         label: ActorLabel,
     },
-    /// More rounds of a kind than the plan allows. Each round counts as the first kind that it can
-    /// belong to. A round whose kind is undecided counts in no kind.
+    /// The first line at which a kind has more rounds than the plan allows. Each round counts as
+    /// the first kind that it can belong to. A round whose kind is undecided counts in no kind.
     TooMany(RoundExcess),
     /// The first get of a job by an actor other than its submitter, before the submitter got the
     /// job. The fields have the labels of the actor and of the job.
@@ -58,7 +58,8 @@ pub enum Finding {
 }
 
 impl Finding {
-    /// Returns the line number of the finding, if it has a line.
+    /// Returns the line number of the finding. Returns `None` for a pool that is not recorded, for
+    /// an actor that is not decided, and for a path mismatch without a line.
     pub fn line(&self) -> Option<usize>
         ensures { result ≡ spec.line_of self.now }
     {
@@ -88,8 +89,8 @@ impl Finding {
         self.line().unwrap_or(usize::MAX)
     }
 
-    /// Returns the rank of the finding's type: pools come first, then labels, paths, numbers of
-    /// rounds, foreign gets and events.
+    /// Returns the rank of the finding's type: pools come first, then labels, path mismatches,
+    /// undecided jobs, undecided rounds, numbers of rounds, foreign gets and events.
     fn rank(&self) -> usize
         ensures value { result ≡ spec.rank_of self.now }
         ensures few { result < 8 }
@@ -112,8 +113,9 @@ impl Finding {
         }
     }
 
-    /// Returns the number that orders findings of the same line and type: the position of a
-    /// difference among the variants of [`Difference`], or the number of a pool, an actor or a
+    /// Returns the number that orders findings of the same line and type. For a difference, it is
+    /// the position among the variants of [`Difference`]. For a pool that is not recorded, an
+    /// undecided actor or an excess of rounds, it is the number of the pool, the actor or the
     /// client kind. It is 0 for all other findings.
     fn number(&self) -> usize
         ensures { result ≡ spec.number_of self.now }

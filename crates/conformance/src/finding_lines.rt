@@ -158,7 +158,7 @@ fn push_invalidation(
     push_event(text, invalidation.event, &label.name, &label.pool)
 }
 
-/// Appends an event with the class and the pool of its job.
+/// Appends an event. `name` and `pool` are the names in the label of [`Finding::Invalidation`].
 fn push_event(
     text: &mut String,
     event: InvalidatingEvent,

@@ -24,8 +24,8 @@ impl FirstActors {
         }
     }
 
-    /// Adds an actor, unless the set has an actor of the same label whose number is the same or
-    /// smaller.
+    /// Adds an actor if the set has none of the same label. If it has one with a larger number,
+    /// replaces that one. Otherwise does nothing.
     ///
     /// # Errors
     ///

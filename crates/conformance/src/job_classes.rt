@@ -14,7 +14,7 @@ use recordings::{RecordedActor, RecordedStep};
 use std::alloc::{AllocError, Global};
 use support::IdMap;
 
-/// The classes that a job can belong to.
+/// The classes that a job can belong to. If they are undecided, there may be more.
 #[derive(Drop)]
 pub(crate) struct JobClasses {
     pub(crate) classes: Vec<usize>,
@@ -41,6 +41,10 @@ impl ClassTable {
     }
 
     /// Stores the classes of a settled job.
+    ///
+    /// # Errors
+    ///
+    /// Returns `AllocError` if memory runs out.
     pub(crate) fn insert(&mut self, job: usize, classes: JobClasses) -> Result<(), AllocError>
         ensures { OnOk result
             ((one : ℕ)
@@ -102,8 +106,9 @@ impl ClassTable {
     }
 
     /// Replaces the contents of `steps` with the steps of the path. Each submit has the classes of
-    /// its job, and the job is removed from the table. Returns true if the classes of all these
-    /// jobs are decided.
+    /// its job, and the job is removed from the table. A job that is not in the table has no
+    /// classes, and they are undecided. Returns true if the classes of all jobs of the path are
+    /// decided.
     ///
     /// # Errors
     ///

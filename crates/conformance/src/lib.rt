@@ -1,4 +1,4 @@
-//! The comparison of a recording with a plan. [`conform`] returns every difference, in the order of
+//! The comparison of a recording with a plan. [`conform`] returns the differences, in the order of
 //! the lines.
 //!
 //! An actor is a recorded job or round. Its label is the class and the pool in its `submit` line,

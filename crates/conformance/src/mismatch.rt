@@ -16,14 +16,15 @@ use support::push_number;
 pub struct PathMismatch {
     pub actor: RecordedActor,
     pub label: ActorLabel,
-    /// The step after the longest prefix of the path that a body explains.
+    /// The step after the longest prefix of the path that a body explains, or the actor's end if
+    /// that prefix is the whole path.
     pub step: DeviatingStep,
-    /// The step before it, or `None` if it is the first step of the path.
+    /// The last step of that prefix, or `None` if the prefix is empty.
     pub after: Option<NamedStep>,
 }
 
-/// The first deviating step of an actor: the first one that no body of its label explains, or its
-/// end if that came too early.
+/// The first step of an actor that no body of its label explains, or the actor's end if it came too
+/// early.
 #[derive(Drop)]
 pub enum DeviatingStep {
     /// The actor submitted a job of this class to this pool. Its body has no such submit left.
@@ -68,6 +69,10 @@ pub enum NamedStep {
 
 /// Appends a description of the mismatch, such as `job 44 of class order in pool web submitted
 /// price to pool database; its body has no such submit after get stock`.
+///
+/// # Errors
+///
+/// Returns `AllocError` if memory runs out.
 pub(crate) fn push_mismatch(
     text: &mut String,
     plan: &Plan,
@@ -118,6 +123,10 @@ fn push_deviation(
 
 /// Appends the name of an actor with its label, such as `job 44 of class order in pool web` or
 /// `round 3 of kind visitor`.
+///
+/// # Errors
+///
+/// Returns `AllocError` if memory runs out.
 pub(crate) fn push_actor(
     text: &mut String,
     actor: RecordedActor,
@@ -133,6 +142,10 @@ pub(crate) fn push_actor(
 }
 
 /// Appends a job with its class and pool, such as `job 44 of class order in pool web`.
+///
+/// # Errors
+///
+/// Returns `AllocError` if memory runs out.
 pub(crate) fn push_job(
     text: &mut String,
     job: usize,

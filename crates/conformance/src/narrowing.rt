@@ -18,7 +18,8 @@ pub(crate) enum Pick {
     /// The last of the job's classes that the body submits.
     Last,
     /// The class of the next submit in the body that has a class of the job. The search begins
-    /// after the submit that was found for the job before, or at the start of the body.
+    /// after the submit that was last found for an earlier job of the path. For the first job, it
+    /// begins at the start of the body.
     InOrder,
 }
 
@@ -78,9 +79,9 @@ fn one_class(alloc: Global, picked: Option<usize>) -> Result<Vec<usize>, AllocEr
     Ok(fewer)
 }
 
-/// Returns the class of a job that the rule `pick` picks from its `classes`, or `None` if the body
-/// submits none of them. [`Pick::InOrder`] searches the body only from index `from`, and moves
-/// `from` past the submit that it finds.
+/// Returns the class that the rule `pick` picks from the `classes` of a job, or `None` if it picks
+/// none of them. [`Pick::InOrder`] searches the body only from index `from`, and moves `from` past
+/// the submit that it finds. The other rules do not use `from`.
 fn picked_class(body: &[Action], from: &mut usize, classes: &[usize], pick: Pick) -> Option<usize>
     ensures { IfSome result (λ class. Contains classes.now class) }
 {

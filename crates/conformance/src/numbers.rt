@@ -3,7 +3,6 @@
 ghost use Rattle.std.specs.Prelude.{◌≡◌};
 ghost use Rattle.conformance.specs.Verdicts.{is_empty};
 
-/// Returns true if the slice is empty.
 pub(crate) fn is_empty_slice(numbers: &[usize]) -> bool
     ensures { result ≡ is_empty numbers.now }
 {

@@ -8,6 +8,7 @@ pub struct OpenExcess {
     pub class: usize,
     /// The number of jobs of this class that are open in the path.
     pub open_jobs: usize,
-    /// The smallest number of jobs of this class that the body has open before its submit.
+    /// The smallest number of jobs of this class that are open in the body at any moment from the
+    /// end of the get that blocks it to its submit.
     pub limit: usize,
 }

@@ -31,9 +31,10 @@ impl OpenRounds {
         }
     }
 
-    /// Reads the next line of a valid recording. Returns the kind that the round counts as, if the
-    /// line begins or ends one, and `None` for any other line. A round counts as its kind in
-    /// `others`, or as the first kind of its label if `others` does not have the round.
+    /// Reads the next line of a valid recording. If the line begins or ends a round, returns the
+    /// kind that the round counts as, or `None` if it counts as no kind of the plan. Returns `None`
+    /// for any other line. A round counts as its kind in `others` when it begins, or as the first
+    /// kind of its label if `others` does not have the round.
     ///
     /// # Errors
     ///

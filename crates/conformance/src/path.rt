@@ -21,7 +21,8 @@ use std::alloc::{AllocError, Global};
 /// moment, for each class, the path must have at most as many open jobs as the body. Each submit of
 /// the path goes together with a submit of the same class in the body. The body may submit more.
 /// The path may get its jobs in any order, and sooner than the body. A job gets only jobs of
-/// classes that its body still gets.
+/// classes that its body still gets. If `path_state` is [`PathState::Whole`], the body must be able
+/// to reach its end with the path.
 ///
 /// The result is [`PathMatch::Undecided`] only if a job of the path may belong to several classes
 /// that the body submits, and none of the assignments that were tried matches. Three assignments
@@ -70,7 +71,7 @@ pub fn match_path(
 }
 
 /// Matches the path against the body. The result is undecided if the body submits several classes
-/// of a job.
+/// of a job, and the path can be walked together with the body up to the submit of this job.
 ///
 /// # Errors
 ///

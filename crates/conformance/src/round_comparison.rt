@@ -110,7 +110,8 @@ impl RoundComparison {
         Ok(RoundComparison { kinds })
     }
 
-    /// Reads line `number` of a valid recording. Appends the first excess of each client kind.
+    /// Reads line `number` of a valid recording. If this is the first line at which a client kind
+    /// has more rounds than the plan allows, appends the excess to `found`.
     ///
     /// If the line begins or ends a round, `kind` is the number of the round's kind in the plan. It
     /// must be the same in both lines. Rounds whose kind is `None` or out of range are not counted.

@@ -83,7 +83,8 @@ impl RoundCount {
     }
 
     /// Returns how the rounds exceed the plan: more than `count` are open at once or, if the kind
-    /// does not repeat, more than `count` began in all. Returns `None` if they are within the plan.
+    /// does not repeat, more than `count` began in all. If both hold, returns
+    /// [`Excess::Concurrent`]. Returns `None` if the rounds are within the plan.
     pub fn excess(&self) -> Option<Excess>
         ensures exact { result ≡ spec.excess_of self.now }
         ensures none { IsNone result ↔ spec.IsWithinPlan self.now }

@@ -73,8 +73,8 @@ pub(crate) fn close_row(row: &mut [bool], passes: &[bool])
     }
 }
 
-/// Updates which gets of the class the body may pass when `count` jobs of the class are open in the
-/// path.
+/// Updates `passes` for each get of the class. The body may pass the get if `count`, the number of
+/// jobs of the class that are open in the path, is at most the limit of the get.
 pub(crate) fn update_passes(
     passes: &mut [bool],
     gets: &[Option<BodyGet>],

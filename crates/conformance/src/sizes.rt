@@ -11,8 +11,8 @@ use std::alloc::{AllocError, Global};
 /// Returns all differences between a `pool` line and the plan's pool, in the order of the variants
 /// of [`Difference`]. The list is empty exactly when the pool is as planned.
 ///
-/// The number of prestarted threads is compared only in the first line of the pool. The handler is
-/// not compared, because it is never called if the plan is SAFE.
+/// The number of prestarted threads is compared only if this is the first line of the pool
+/// (`is_first`). The handler is not compared, because it is never called if the plan is SAFE.
 ///
 /// # Errors
 ///

@@ -8,11 +8,11 @@ ghost use Rattle.conformance.specs.PathStep as spec;
 pub enum PathStep {
     /// A submit of a job that may belong to any of these classes, by their numbers in the plan.
     Submits(Vec<usize>),
-    /// A get of the job of the submit at this index of the path.
+    /// A get of the job that is submitted at this index of the path.
     Gets(usize),
 }
 
-/// The kind of an actor. It decides which jobs the actor may get sooner than its body does.
+/// The kind of an actor. It decides which of its jobs the actor may get.
 #[derive(Clone, Copy, PartialEq, Eq)]
 pub enum ActorKind {
     /// A job. It may get only jobs of classes that its body still gets.

@@ -278,8 +278,8 @@ impl SurveyBuilder {
     }
 }
 
-// Reads a line and records the actors that it classifies. `reported` is a scratch list, empty before
-// and after the call.
+// Reads a line and records the actors that it classifies. `reported` is a scratch list, empty
+// before and after the call.
 fn take_line(
     plan: &Plan,
     line: &Line<'_>,

@@ -49,7 +49,7 @@ impl UnplannedLabels {
         }
     }
 
-    /// Reads line `number`, and records its label if the plan lacks it.
+    /// Reads line `number`. Records its label if the plan lacks it and no earlier line has it.
     ///
     /// # Errors
     ///

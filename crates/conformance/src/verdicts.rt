@@ -22,7 +22,7 @@ use std::alloc::{AllocError, Global};
 pub(crate) struct Verdicts {
     pub(crate) mismatches: FirstActors,
     pub(crate) undecided: FirstActors,
-    /// The jobs whose path matches no class of the plan.
+    /// The jobs whose path matches no class of their label, whether or not the plan has the label.
     pub(crate) classless: JobSet,
 }
 
@@ -38,8 +38,9 @@ impl Verdicts {
         }
     }
 
-    /// Records the actor if its path matches no body, or if this is undecided. Ignores any other
-    /// actor.
+    /// Records an actor whose path matches no body, or for which this is undecided, if the plan has
+    /// its label. Adds each job whose path matches no body to `classless`, even if the plan lacks
+    /// its label. Ignores any other actor.
     ///
     /// # Errors
     ///

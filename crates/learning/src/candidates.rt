@@ -13,8 +13,8 @@ pub(crate) const CANDIDATES: usize = 8;
 /// The options for making a candidate.
 #[derive(Clone, Copy)]
 pub(crate) struct Choices {
-    /// True if jobs that their path gets and jobs that their path does not get are matched with
-    /// different submits of the candidate.
+    /// True if each submit of the candidate is matched only with jobs that their paths get, or only
+    /// with jobs that their paths do not get.
     pub(crate) marks_gets: bool,
     /// True if the submits of the paths are merged from the last path to the first.
     pub(crate) is_reversed: bool,
@@ -36,7 +36,8 @@ impl Choices {
 
 /// Returns a body that has the submits of all paths and gets each job as soon as the paths allow.
 /// The choices select one of several such bodies. Returns `None` if [`job_steps`] returns `None`
-/// for a path, or if the body would have more submits than a body may have.
+/// for a path, or if the body would have more submits than a body may have actions. The result need
+/// not cover the paths.
 ///
 /// # Errors
 ///

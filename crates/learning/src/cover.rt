@@ -23,16 +23,16 @@ use std::alloc::{AllocError, Global};
 
 /// Returns a body that each of the paths matches. The paths belong to actors of this kind.
 ///
-/// If all paths match `body`, returns `body`. Otherwise, for a single path, returns the body whose
-/// actions are the steps of the path. For several paths, makes several candidates and returns the
-/// best that covers the paths. A candidate has a common supersequence of the submits of the paths,
-/// and gets each job as soon as the paths allow. The best candidate has the smallest sum, over its
-/// classes, of the maximum number of jobs of the class that are open at once. Among equals, it has
-/// the fewest actions.
+/// If `body` is valid in a plan and all paths match it, returns `body`. Otherwise, for a single
+/// path, returns the body whose actions are the steps of the path. For several paths, makes several
+/// candidates and returns the best that covers the paths. A candidate has a common supersequence of
+/// the submits of the paths, and gets each job as soon as the paths allow. The best candidate has
+/// the smallest sum, over its classes, of the maximum number of jobs of the class that are open at
+/// once. Among equals, it has the fewest actions.
 ///
 /// Returns `None` if no body with at most [`MAX_ACTIONS`] actions is found. No body is found if the
 /// job of a submit cannot belong to any class, if a get names no earlier submit, or if two gets
-/// name the same submit. The same holds if `body` has `work` and a path does not match it.
+/// name the same submit. If `body` has `work`, the result is `body` or `None`.
 ///
 /// # Errors
 ///

@@ -25,7 +25,7 @@ const MAX_PASSES: usize = 600;
 ///
 /// - [`LearnError::InferenceLimit`] if an actor matches no body after a pass that changed no body,
 ///   or after [`MAX_PASSES`] passes. Also if the actors need more classes or client kinds than a
-///   plan may have.
+///   plan may have, if a name would be too long, or if the draft does not form a valid plan.
 /// - [`LearnError::Memory`] if memory runs out.
 pub(crate) fn cover_all(
     alloc: Global,

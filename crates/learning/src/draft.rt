@@ -44,7 +44,8 @@ impl PlanDraft {
         }
     }
 
-    /// Adds the class or client kind that the line names, unless the draft already has it.
+    /// Adds the class or client kind that the line names, unless the draft already has it. Ignores
+    /// a class whose pool is not in `pools`.
     ///
     /// # Errors
     ///
@@ -124,7 +125,7 @@ impl PlanDraft {
 
     /// Returns the class of a job with this label, pool and path. If the path matches no body of
     /// the label's classes, replaces one of these bodies or adds a class. Returns `None` if no body
-    /// was found that covers the path.
+    /// was found that covers the path, or if the draft has no class of this label in the pool.
     ///
     /// # Errors
     ///
@@ -153,7 +154,7 @@ impl PlanDraft {
 
     /// Returns the client kind of a round with this label and path. If the path matches no body of
     /// the label's kinds, replaces one of these bodies or adds a kind. Returns `None` if no body
-    /// was found that covers the path.
+    /// was found that covers the path, or if the draft has no kind of this label.
     ///
     /// # Errors
     ///

@@ -4,8 +4,8 @@
 /// learned from the whole recording.
 #[derive(Clone, Copy, PartialEq, Eq)]
 pub enum Extent {
-    /// The complete lines in the first [`START_BYTES`] bytes. No plan is learned if an actor that
-    /// begins in these lines matches no learned body.
+    /// The complete lines in the first [`START_BYTES`] bytes, or the whole recording if it is not
+    /// longer. No plan is learned if an actor that begins in these lines matches no learned body.
     Start,
     /// The whole recording.
     Whole,

@@ -89,7 +89,8 @@ fn mark(made: &mut [bool], index: usize) {
 
 /// Returns the times of [`get_times`] for a single path. `made` says for each submit of the body
 /// whether the path is matched with it. The body may get a job at once if the path does not submit
-/// it, and otherwise when the path gets it.
+/// it, and otherwise when the path gets it. It must not get a job whose `is_got` is false, or which
+/// the path submits and does not get.
 fn times_of_path(
     alloc: Global,
     common: &[PathJob],

@@ -62,9 +62,10 @@ impl Entries {
     /// earlier paths match it. Takes the first entry for which such a body is found. If there is
     /// none, adds an entry for the path alone.
     ///
-    /// Skips each entry that is marked in `reachable`, because a job of that class would submit
-    /// jobs of its own class without end. Returns `None` if no body was found for the path, or if
-    /// no entry has this label and pool.
+    /// `reachable` marks the classes to which the path leads, as [`reachable_classes`] returns
+    /// them. Entries of these classes are skipped: with the path as its body, a job of the class
+    /// would lead to jobs of its own class without end. Returns `None` if no body was found for the
+    /// path, or if no entry has this label and pool. In the first case the added entry remains.
     ///
     /// # Errors
     ///
@@ -243,7 +244,8 @@ fn is_marked(reachable: &[bool], number: usize) -> bool {
     reachable.get(number).copied().unwrap_or(false)
 }
 
-/// Marks the class. Returns true if it was not marked before.
+/// Marks the class. Returns true if it was not marked before, and false if it was marked or there
+/// is no such class.
 fn mark(reachable: &mut [bool], class: usize) -> bool {
     match reachable.get_mut(class) {
         Some(slot) => {

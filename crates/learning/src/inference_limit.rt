@@ -19,7 +19,9 @@ pub enum InferenceLimit {
     Names,
     /// More rounds of a kind at once than a plan may have clients.
     Rounds,
-    /// Paths of jobs or rounds for which no body was found.
+    /// Paths of jobs or rounds for which no body was found. It is also the reason if bodies were
+    /// learned from the start of a longer recording and a label has several client kinds, or if the
+    /// pools, classes and client kinds do not form a valid plan.
     Paths,
     /// A text of the plan that would be too long.
     Text,

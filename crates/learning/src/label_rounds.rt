@@ -58,8 +58,8 @@ impl LabelRounds {
     ///
     /// # Errors
     ///
-    /// - [`LearnError::InferenceLimit`] if a round does not have the number that the rules of
-    ///   recordings require.
+    /// - [`LearnError::InferenceLimit`] if a round begins with a number other than the number of
+    ///   earlier rounds, or if a round ends that is not open. A valid recording has no such line.
     /// - [`LearnError::Memory`] if memory runs out.
     pub(crate) fn take(&mut self, line: &Line<'_>) -> Result<(), LearnError>
         ensures ok { (before : List RecordedLine)
@@ -201,8 +201,8 @@ fn is_named(entries: &[Entry], number: usize, name: &str) -> bool
     }
 }
 
-// Returns the number of entries whose names belong to the label's family: LABEL, LABEL_2, LABEL_3 and
-// so on.
+// Returns the number of entries whose names belong to the label's family: LABEL, LABEL_2, LABEL_3
+// and so on.
 fn kinds_of(label: &str, entries: &[Entry]) -> usize {
     entries
         .iter()

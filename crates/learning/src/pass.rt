@@ -19,8 +19,8 @@ use std::alloc::{AllocError, Global};
 /// The state of a pass over a part of a recording.
 #[derive(Drop)]
 pub(crate) struct Pass {
-    /// The first client kind of the plan that each round can belong to, by round number, or `None`
-    /// if the round matches none.
+    /// The first client kind of the plan that each round can belong to, by round number. It is
+    /// `None` if the round matches none, and until the round is classified.
     pub(crate) kinds: Vec<Option<usize>>,
     /// True if the pass changed a body.
     pub(crate) is_changed: bool,
@@ -36,14 +36,15 @@ pub(crate) struct Pass {
 /// Runs one pass over the part of the recording.
 ///
 /// If an actor matches no class or client kind of the plan, and each job that it submitted has a
-/// class, the pass changes a body so that the actor's path matches it. The path of an actor that
-/// has not ended may be incomplete. For such an actor, the pass changes a body only if no path of
-/// an ended actor changed a body in this pass, and the recording does not continue after the part.
+/// class, the pass tries to change a body so that the actor's path matches it. It does not do so if
+/// the match of the actor is undecided. The path of an actor that has not ended may be incomplete.
+/// For such an actor, the pass changes a body only if no path of an ended actor changed a body in
+/// this pass, and the recording does not continue after the part.
 ///
 /// # Errors
 ///
 /// - [`LearnError::InferenceLimit`] if the actors need more classes or client kinds than a plan may
-///   have.
+///   have, or if the name of a new one would be too long.
 /// - [`LearnError::Memory`] if memory runs out.
 pub(crate) fn run_pass(
     alloc: Global,

@@ -13,7 +13,8 @@ use job_bodies::{MAX_POOLS, MAX_SIZE, Pool};
 use recordings::{Line, PoolSizes};
 use std::alloc::{AllocError, Global};
 
-/// Returns the pool of a `pool` line, with each size clamped to its range in a plan.
+/// Returns the pool of a `pool` line, with each size clamped to its range in a plan. `prestart` is
+/// true if all core threads were prestarted and there is at least one.
 ///
 /// # Errors
 ///

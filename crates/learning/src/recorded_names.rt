@@ -33,8 +33,8 @@ pub(crate) struct RecordedNames {
     alloc: Global,
 }
 
-/// Collects the names in all lines, with an empty body for each class and client kind. If a line is
-/// invalid, returns the fault of the first invalid line instead.
+/// Collects the names in all lines and counts the rounds and jobs. Each class and client kind has
+/// an empty body. If a line is invalid, returns the fault of the first invalid line instead.
 ///
 /// # Errors
 ///
@@ -62,8 +62,8 @@ pub(crate) fn recorded_names(
     Ok(Ok(names))
 }
 
-// Returns the first invalid line or, if all lines are valid, `learn_error` as an error. A line after the
-// one that exceeded a limit may still be invalid.
+// Returns the first invalid line or, if all lines are valid, `learn_error` as an error. A line
+// after the one that exceeded a limit may still be invalid.
 fn fault_or_error(
     alloc: Global,
     recording: &[u8],

@@ -109,7 +109,8 @@ fn length_at(lengths: &[Vec<usize>], left: usize, other_left: usize) -> usize {
 }
 
 /// Returns the length of the longest common subsequence for each suffix of the first list and each
-/// suffix of the second list. The outer index is the length of the first list's suffix.
+/// suffix of the second list. The outer index is the length of the first list's suffix, and the
+/// inner index that of the second list's.
 fn common_lengths(
     alloc: Global,
     first: &[PathJob],
