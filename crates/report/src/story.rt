@@ -38,8 +38,8 @@ pub(crate) fn push_story(
     push_parts(text, alloc, plan, &world, &steps, members)
 }
 
-/// Appends the parts of a story: what the steps did, the pools of the world after them, and what each
-/// member waits for.
+/// Appends the parts of a story: what the steps did, the pools of the world after them, and what
+/// each of the jobs `members` waits for.
 fn push_parts(
     text: &mut String,
     alloc: Global,

@@ -58,8 +58,8 @@ fn push_turns(
     push_turns_from(turns, alloc, plan, turn, rest, steps.len())
 }
 
-/// Extends the turn `turn` by the first of these steps that continue it, and appends it. Then
-/// appends the turns of the remaining steps. `all` is the number of all steps of the story.
+/// Appends the turn `turn`, extended by the steps at the start of `steps` that continue it, and
+/// then the turns of the remaining steps. `all` is the number of all steps of the story.
 fn push_turns_from(
     turns: &mut Vec<Turn>,
     alloc: Global,
