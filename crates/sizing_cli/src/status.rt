@@ -52,8 +52,8 @@ impl Status {
 }
 
 /// The fault of a command that gave no complete answer. The numbers are 20 (`Memory`), 41
-/// (`Strange`, a run), 42 (`Mixed`, a run or a search), 43 (`Gate`, a run, a search or a check on
-/// threads), 60 (`ReadFailed`) and 61 (`WriteFailed`).
+/// (`Strange`, a run), 42 (`Mixed`, a run, a search, or a check that contradicts a search), 43
+/// (`Gate`, a run, a search or a check on threads), 60 (`ReadFailed`) and 61 (`WriteFailed`).
 ///
 /// After 61 a prefix of the answer was written; after any other fault nothing was.
 #[derive(Clone, Copy, Debug, PartialEq, Eq)]
