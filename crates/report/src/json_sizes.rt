@@ -81,8 +81,8 @@ fn size_value(alloc: Global, changes: Vec<Value>, fit: &Pool) -> Result<Value, A
     })
 }
 
-/// Converts each size that differs in `declared`, the pool of the plan, and in `fit`, the pool with
-/// the sizes that were found. The list is empty if `declared` is `None`.
+/// Returns a JSON value for each size that changes from `declared`, the pool in the plan, to `fit`,
+/// the pool with the sizes that were found. The list is empty if `declared` is `None`.
 fn changes_of(
     alloc: Global,
     places: PoolPlaces,

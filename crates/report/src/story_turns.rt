@@ -132,8 +132,8 @@ fn new_turn(
     })
 }
 
-/// Returns whether a step with this outcome is the last one of its turn: with this step, the client
-/// starts its body again.
+/// Returns whether a step with this outcome ends its turn, because the client starts its body
+/// again.
 fn ends_turn(outcome: Outcome) -> bool
     ensures { result ≡ spec.ends_turn outcome }
 {
