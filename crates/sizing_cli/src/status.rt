@@ -19,13 +19,14 @@ use support::number::{GATE, MEMORY, MIXED, READ_FAILED, WRITE_FAILED};
 pub enum Status {
     /// Yes, or the command did what it was asked to do.
     Done,
-    /// No: for example an event was refused or impossible, jobs are stuck, a condition of the
-    /// certificate fails, no certificate or sizes were found, sizes would change, or the plan is
-    /// not run.
+    /// No: for example the plan is not safe, an event was refused or impossible, jobs are stuck, a
+    /// condition of the certificate fails, no certificate or sizes were found, sizes would change,
+    /// or a recording differs from the plan.
     Refused,
     /// The input has a fault, which the answer reports.
     BadText,
-    /// Undecided: neither a certificate nor a witness was found.
+    /// Undecided: neither a certificate nor a witness was found, or the comparison of a recording
+    /// with a plan has no complete result.
     Undecided,
 }
 
