@@ -119,8 +119,9 @@ fn text_of(rt: &impl Files, alloc: Global, command: Command, name: &str) -> Opti
         .ok()
 }
 
-/// Returns a hint about the first file, whose content is `text`, or `None` if the file shows no
-/// known mistake. `is_alone` says that the arguments name no second file.
+/// Returns a hint about the first file, whose content is `text`. Returns `None` if the file shows
+/// no known mistake, and for `ask`, whose answer explains the mistake. `is_alone` says that the
+/// arguments name no second file.
 fn hint_of_first(command: Command, text: &[u8], is_alone: bool) -> Option<Hint> {
     if let Command::OnRecording(RecordingCommand::Learn { .. }) = command {
         return hint_of_recording(text);
@@ -160,8 +161,8 @@ fn hint_of_recording(text: &[u8]) -> Option<Hint> {
     }
 }
 
-/// Returns a hint about the second file, whose content is `text`, or `None` if the file shows no
-/// known mistake.
+/// Returns a hint about the second file, whose content is `text`. Returns `None` if the file shows
+/// no known mistake, and for `ask`, whose answer explains the mistake.
 fn hint_of_second(command: Command, text: &[u8]) -> Option<Hint> {
     match command {
         Command::OnRecording(RecordingCommand::Conform) => hint_of_recording(text),
@@ -229,7 +230,8 @@ fn ends_with_return(text: &[u8]) -> bool {
     }
 }
 
-/// Returns the name of the command's second text, or `None` if the command needs only one text.
+/// Returns the name of the command's second text. Returns `None` if the command needs only one
+/// text, and for `ask`.
 fn second_text(command: Command) -> Option<&'static str> {
     match command {
         Command::Sequential(ReviewCommand::Replay) => Some("the events"),
