@@ -15,10 +15,9 @@ use std::sync::Wait;
 use std::thread::Threads;
 use support::number::{GATE, MEMORY};
 
-/// Joins the two texts to a bundle, and checks it in `workers` threads. Returns the bundle if it
-/// splits into the same two texts again and `check` accepts it, and otherwise `None`. Fails with
-/// fault 20 if memory runs out or a thread cannot be started, and with fault 43 if the check ends
-/// with that fault.
+/// Joins the two texts to a bundle, and checks it in at most `workers` threads. Returns the bundle
+/// if it splits into the same two texts again and `check` accepts it, and otherwise `None`. Fails
+/// with fault 20 if memory runs out, and with fault 43 if the check ends with that fault.
 pub fn certified_bundle<R: Threads + Wait + Sync>(
     rt: &R,
     alloc: Global,

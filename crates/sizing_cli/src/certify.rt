@@ -123,9 +123,8 @@ fn found_text<R: Threads + Wait + Sync>(
 ///
 /// # Errors
 ///
-/// Fails with fault 20 if memory runs out or a thread cannot be started, with fault 43 if the check
-/// ends with that fault, and with fault 42 if `check` does not accept the bundle, which contradicts
-/// the search.
+/// Fails with fault 20 if memory runs out, with fault 43 if the check ends with that fault, and
+/// with fault 42 if `check` does not accept the bundle, which contradicts the search.
 fn bundle<R: Threads + Wait + Sync>(
     rt: &R,
     alloc: Global,

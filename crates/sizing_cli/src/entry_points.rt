@@ -33,12 +33,12 @@ use std::thread::Threads;
 /// # Errors
 ///
 /// Any command fails with fault 20 if memory runs out, with 60 if the source fails during this
-/// call, and with 61 if the sink fails. A [`Task`] also fails with 20 if a thread cannot be
-/// started, with 42 or 43 if [`search`](cert_search::search) ends with that fault, and with 43 if
-/// [`check_on`](cert_check::check_on) does. [`Task::Certify`] and [`Task::Fit`] also fail with 42
-/// if `check` does not accept the bundle that was found. [`Task::Run`] also fails with 41, 42 or 43
-/// if [`run`](locked_runner::run) ends with that fault. After 61 a prefix of the answer was
-/// written; after any other fault nothing was.
+/// call, and with 61 if the sink fails. A [`Task`] also fails with 20 if a thread for a search or a
+/// run cannot be started, with 42 or 43 if [`search`](cert_search::search) ends with that fault,
+/// and with 43 if [`check_on`](cert_check::check_on) does. [`Task::Certify`] and [`Task::Fit`] also
+/// fail with 42 if `check` does not accept the bundle that was found. [`Task::Run`] also fails with
+/// 41, 42 or 43 if [`run`](locked_runner::run) ends with that fault. After 61 a prefix of the
+/// answer was written; after any other fault nothing was.
 pub fn serve<R: Threads + Wait + Sync, S: Source, K: Sink>(
     rt: &R,
     alloc: Global,

@@ -72,9 +72,8 @@ fn fit_plan<R: Threads + Wait + Sync>(
 ///
 /// # Errors
 ///
-/// Fails with fault 20 if memory runs out or a thread cannot be started, with fault 43 if the check
-/// of the bundle ends with that fault, and with 42 if `check` does not accept the bundle. Without a
-/// bundle only fault 20 is possible, if memory runs out.
+/// Fails with fault 20 if memory runs out. For a bundle, also fails with fault 43 if the check ends
+/// with that fault, and with fault 42 if `check` does not accept the bundle.
 pub fn answer_of_sizes<R: Threads + Wait + Sync>(
     rt: &R,
     alloc: Global,
