@@ -1,4 +1,4 @@
-//! An annotation: a remark about a place in a plan's file.
+//! An annotation: a remark about a plan's file, or about a place in it.
 
 ghost use Rattle.std.specs.Prelude.{◌≡◌, IfOk, string_bytes};
 ghost use Rattle.support.specs.Pushed.{Pushes};
@@ -25,7 +25,7 @@ pub(crate) enum Rule {
     NotDecided,
 }
 
-/// A remark about a place in a plan's file.
+/// A remark about a plan's file, or about a place in it.
 #[derive(Drop)]
 pub(crate) struct Annotation {
     pub(crate) rule: Rule,

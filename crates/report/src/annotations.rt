@@ -1,5 +1,5 @@
 //! The annotations of an answer: its faults, or its warnings and the finding. An annotation is a
-//! remark about a place in the plan's file.
+//! remark about the plan's file, or about a place in it.
 
 ghost use Rattle.std.specs.Prelude.{◌≡◌, ◌∷◌, ◌++◌, [], IfOk, string_bytes};
 ghost use Rattle.report.specs.Annotations.{Adds, remarks_in};
@@ -100,7 +100,7 @@ pub(crate) fn single_fault(
     Ok(found)
 }
 
-/// Appends an annotation with this message.
+/// Appends an annotation with a copy of the message.
 pub(crate) fn push(
     alloc: Global,
     found: &mut Vec<Annotation>,
@@ -121,8 +121,8 @@ pub(crate) fn push(
 
 // ---- findings
 
-/// Returns the annotations of a finding about a plan: one for each warning, and then those of the
-/// answer.
+/// Returns the annotations of a finding about a plan: one for each warning, one for the finding
+/// and, unless the plan is safe, those for the result of the search for sizes.
 pub(crate) fn annotations_of(
     alloc: Global,
     places: &PlanPlaces,
@@ -226,8 +226,9 @@ fn push_warning(
     push(alloc, found, rule, &warning.what, Some(warning.place))
 }
 
-/// Appends the annotations of the answer NOT SAFE: one with the first line of the witness's
-/// description, and then those of the sizes.
+/// Appends the annotations of the answer NOT SAFE: one with the first line of `description`, and
+/// then those for the result of the search for sizes. `description` is the description of the
+/// witness.
 fn push_not_safe(
     alloc: Global,
     found: &mut Vec<Annotation>,
@@ -245,7 +246,7 @@ fn push_not_safe(
     push_sizes_found(alloc, found, Rule::NotSafe, places, plan, sizes)
 }
 
-/// Returns the first line of a text.
+/// Returns the first line of a text, or an empty text if there is none.
 fn first_line(text: &str) -> &str
     ensures { result.now ≡ spec.first_line text.now }
 {

@@ -16,8 +16,9 @@ use std::alloc::{AllocError, Global};
 /// Returns the description of a witness.
 ///
 /// The first line has the form `refused by db, after 7 events of 2 clients`. The lines after it
-/// show the events, the pools, and what each waiting job waits for. If jobs wait only for each
-/// other, a last line says why they do so permanently, or what may end the wait.
+/// show the events and the pools. If jobs wait only for each other, further lines show what each of
+/// these jobs waits for, and a last line says why the wait is permanent or what may end it. Long
+/// lists of events or of jobs are shortened.
 ///
 /// # Errors
 ///

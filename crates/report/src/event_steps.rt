@@ -198,8 +198,8 @@ fn changed_pool(plan: &Plan, world: &World, actor: Actor, outcome: Outcome) -> O
     }
 }
 
-/// Returns the index of the class of the job that a thread took from a queue, or `None` if the
-/// outcome is another one. `world` is the world after the event.
+/// Returns the index of the class of the job that a thread took from a queue, or `None` for any
+/// other outcome. `world` is the world after the event.
 fn taken_class(world: &World, outcome: Outcome) -> Option<usize>
     ensures { result ≡ performed.taken_seen world.now.view outcome }
 {

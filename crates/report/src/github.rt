@@ -1,4 +1,4 @@
-//! The answer of `ask` as workflow commands of GitHub Actions, which show it at the lines of the plan.
+//! The answer of `ask` as workflow commands. GitHub Actions shows them at the lines of the plan.
 
 ghost use Rattle.std.specs.Prelude.{◌≡◌, IfOk, string_bytes};
 ghost use Rattle.support.specs.Pushed.{Pushes};
@@ -14,8 +14,8 @@ use job_bodies::Plan;
 use plan_text::TextPlace;
 use std::alloc::{AllocError, Global};
 
-/// Returns the commands for the finding about a plan and for its warnings. `file` is the name of the
-/// plan's file.
+/// Returns the commands for the finding about a plan and for its warnings. `file` is the name of
+/// the plan's file.
 ///
 /// # Errors
 ///
@@ -48,8 +48,8 @@ pub fn faults_github(alloc: Global, file: &str, faults: &Faults) -> Result<Strin
     commands(alloc, file, &annotations)
 }
 
-/// Returns the command for a single fault that has no place in the plan's text. `words` is its
-/// message.
+/// Returns the command for the fault `number`, which has no place in the plan's text. `words` is
+/// its message, and `file` is the name of the plan's file.
 ///
 /// # Errors
 ///
@@ -67,7 +67,7 @@ pub fn fault_github(
     commands(alloc, file, &annotations)
 }
 
-/// Returns a line for each annotation.
+/// Returns a command for each annotation, on a line of its own.
 fn commands(alloc: Global, file: &str, annotations: &[Annotation]) -> Result<String, AllocError>
     ensures { IfOk result (λ text.
         string_bytes text ≡ spec.github_text file.now (remarks_in annotations.now)) }
@@ -77,7 +77,7 @@ fn commands(alloc: Global, file: &str, annotations: &[Annotation]) -> Result<Str
     Ok(text)
 }
 
-/// Appends a line for each annotation.
+/// Appends a command for each annotation, on a line of its own.
 fn push_commands(
     text: &mut String,
     file: &str,

@@ -20,7 +20,8 @@ use std::alloc::{AllocError, Global};
 /// The version of the JSON format, which each answer states as its member `format`.
 const FORMAT: u8 = 1;
 
-/// The members of an answer about a plan, without those that every answer has.
+/// Values in the JSON object of an answer about a plan. Each field is named after its member of the
+/// object.
 #[derive(Drop)]
 pub(crate) struct AnswerParts {
     pub(crate) assumptions: Value,
@@ -75,8 +76,8 @@ pub fn faults_json(
     line_of(alloc, &value)
 }
 
-/// Returns the JSON text of a single fault that has no place in the plan's text. `words` is its
-/// message. `file` is the name of the plan's file, and `text` its content.
+/// Returns the JSON text of the fault `number`, which has no place in the plan's text. `words` is
+/// its message. `file` is the name of the plan's file, and `text` its content.
 ///
 /// # Errors
 ///
@@ -143,8 +144,9 @@ fn answer_value(
     })
 }
 
-/// Creates the object of an answer that has only these faults. `omitted` is the number of faults that
-/// are left out.
+/// Creates the object of the answer `FAULTS`. `faults` lists the faults that are reported, and
+/// `omitted` is the number of those that are left out. `file` is the name of the plan's file, and
+/// `text` its content.
 #[tactic(auto, unfolding(crate::specs::Json::answer_data))]
 fn faulty_value(
     alloc: Global,

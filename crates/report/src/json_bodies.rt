@@ -11,7 +11,8 @@ use plan_text::TextPlace;
 use serde_json::{Value, json};
 use std::alloc::{AllocError, Global};
 
-/// Converts the body of the class or client kind at this index to a JSON list.
+/// Converts `body`, the body of the class or client kind at this index, to a JSON list. `places`
+/// has the places of all classes, or those of all client kinds.
 pub(crate) fn body_value(
     alloc: Global,
     plan: &Plan,

@@ -1,6 +1,6 @@
-//! The bound of a queue as JSON, with the shares in it, and the number of threads that wait. A
-//! share is the part of a bound that the clients of one kind, or the threads of one pool, account
-//! for.
+//! The bound of a queue as JSON, with the shares in it, and the maximum number of core threads that
+//! wait. A share is the part of a bound that the clients of one kind, or the threads of one pool,
+//! account for.
 
 ghost use Rattle.std.specs.Prelude.{◌≡◌, ◌++◌, IfOk, IsTrue, OnOk, map};
 ghost use Rattle.serde_json.specs.View.{view};
@@ -13,9 +13,10 @@ use serde_json::{Value, json};
 use std::alloc::{AllocError, Global};
 use weights::{Bound, Vector};
 
-/// Converts a pool's bound to JSON: a maximum and the shares in it. The maximum is the number of
-/// jobs in the queue at one time, or of jobs that are ever submitted to the pool. The value is null
-/// if the vector of `bound` does not fit the plan.
+/// Converts a pool's bound to JSON: its kind, its total and the shares in the total. The total is
+/// the maximum number of jobs in the queue at one time (`standing`), or of jobs that are ever
+/// submitted to the pool (`lifetime`). The value is null if the vector of `bound` does not fit the
+/// plan.
 pub(crate) fn bound_value(alloc: Global, plan: &Plan, bound: &Bound) -> Result<Value, AllocError>
     ensures { IfOk result (λ value. view value ≡ spec.bound_data plan.now bound.now) }
 {

@@ -15,8 +15,9 @@ use serde_json::{Value, json};
 use size_search::{Cause, NoSizes};
 use std::alloc::{AllocError, Global};
 
-/// Converts the reason to JSON: its kind, the entry that it names, the place of that entry, and a
-/// message that explains the reason.
+/// Converts the reason to JSON: its kind, the class, client kind or pool that it names, the index
+/// of the action if it names one, the place in the plan's text, and a message that explains the
+/// reason.
 pub(crate) fn cause_value(
     alloc: Global,
     places: &PlanPlaces,

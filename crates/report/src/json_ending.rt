@@ -1,6 +1,6 @@
-//! The ending of a witness as JSON: the jobs that wait only for each other, and what each of them
-//! waits for. A witness is a list of events after which a submit is refused or jobs wait only for
-//! each other.
+//! The ending of a witness as JSON: the pool that refuses a submit, or the jobs that wait only for
+//! each other and what each of them waits for. A witness is a list of events after which a submit
+//! is refused or jobs wait only for each other.
 
 ghost use Rattle.std.specs.Prelude.{◌≡◌, ◌++◌, ◌∷◌, [], map, flat_map, IfOk, OnOk, slice_get};
 ghost use Rattle.serde_json.specs.View.{view};
@@ -72,7 +72,8 @@ fn refusing_pool(alloc: Global, plan: &Plan, ending: &Ending) -> Result<Value, A
     }
 }
 
-/// Returns a JSON value for each of the waiting jobs `members`, which says what the job waits for.
+/// Returns a JSON value for each of the jobs `members`, except those that are done or not live. The
+/// value says what the job waits for.
 fn wait_values(
     alloc: Global,
     plan: &Plan,

@@ -1,4 +1,4 @@
-//! The members of an event, for JSON.
+//! Members of the JSON object of an event.
 
 ghost use Rattle.std.specs.Prelude.{◌≡◌, IfOk};
 ghost use Rattle.serde_json.specs.View.{view};
@@ -30,7 +30,8 @@ pub(crate) fn actor_place(
     }
 }
 
-/// Converts the actor of an event to JSON.
+/// Creates a JSON object that names the actor: a client by its kind and number, a job by its class
+/// and number, or a pool by its name.
 pub(crate) fn actor_value(alloc: Global, plan: &Plan, actor: Actor) -> Result<Value, AllocError>
     ensures { IfOk result (λ value. view value ≡ spec.actor_data plan.now actor) }
 {

@@ -1,6 +1,8 @@
-//! The events of a witness as JSON, in runs. Consecutive equal steps of clients of one kind, whose
-//! numbers are consecutive, form a run; any other step is a run of its own. A run is one JSON
-//! object.
+//! The events of a witness as JSON, in runs. A witness is a list of events after which a submit is
+//! refused or jobs wait only for each other. A run is one JSON object. Consecutive steps of clients
+//! of one kind form a run if the clients have consecutive numbers and each does the same: it works,
+//! starts its body again, or submits a job that is queued or started. Submitted jobs must have
+//! consecutive numbers, too. Any other step is a run of its own.
 
 ghost use Rattle.std.specs.Prelude.{◌≡◌, ◌+◌, ◌==◌, ◌++◌, ◌∷◌, [], map, IfOk, OnOk};
 ghost use Rattle.serde_json.specs.View.{view};
@@ -132,8 +134,8 @@ fn is_sum(total: usize, number: usize, times: usize) -> bool
     number <= total && total - number == times
 }
 
-/// Appends the JSON object of a run. `steps` has the witness's steps from the first one to the last
-/// one of the run.
+/// Appends the JSON object of a run. `steps` has all steps of the witness up to and including the
+/// last step of the run.
 fn push_run(
     values: &mut Vec<Value>,
     alloc: Global,
@@ -190,8 +192,8 @@ fn pool_value(
     }
 }
 
-/// Returns a JSON object with the name of a pool, the jobs in its queue after these steps, and its
-/// numbers of threads, which `counts` has.
+/// Returns a JSON object with the name of a pool, the jobs in its queue after these steps, and the
+/// numbers of its threads and of its idle threads, which are in `counts`.
 #[tactic(auto, unfolding(crate::specs::JsonEvents::pool_state_data))]
 fn pool_state_value(
     alloc: Global,

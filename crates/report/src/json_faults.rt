@@ -1,4 +1,5 @@
-//! Faults as JSON: the number, the place, the range and the message of each.
+//! Faults as JSON: the number, the place and the message of each, and the range of the allowed
+//! numbers if the fault has one.
 
 ghost use Rattle.std.specs.Prelude.{◌≡◌, ◌∷◌, ◌++◌, IfOk, OnOk, map};
 ghost use Rattle.serde_json.specs.Data.{array};
@@ -11,7 +12,7 @@ use plan_text::TextPlace;
 use serde_json::{Value, json};
 use std::alloc::{AllocError, Global};
 
-/// Converts the faults of a plan's text to JSON.
+/// Converts the faults of a plan's text to a JSON list, without those that are left out.
 pub(crate) fn faults_value(alloc: Global, faults: &Faults) -> Result<Value, AllocError>
     ensures { IfOk result (λ value. view value ≡ spec.faults_data faults.now) }
 {
@@ -19,7 +20,7 @@ pub(crate) fn faults_value(alloc: Global, faults: &Faults) -> Result<Value, Allo
     faults_from(alloc, first, &faults.others)
 }
 
-/// Creates a JSON list with a single fault that has no place.
+/// Creates a JSON list with only the fault `number`, which has no place. `words` is its message.
 pub(crate) fn single_fault(alloc: Global, number: u8, words: &str) -> Result<Value, AllocError>
     ensures { IfOk result (λ value. view value ≡ spec.single_fault_data number words.now) }
 {

@@ -29,7 +29,7 @@ pub(crate) fn column_value(place: Option<TextPlace>) -> Value
     }
 }
 
-/// Returns the places of the pool with this number. No place is known if there is no such pool.
+/// Returns the places of the pool with this index. If there is no such pool, each place is `None`.
 pub(crate) fn pool_places_at(pools: &[PoolPlaces], pool: usize) -> PoolPlaces
     ensures { result ≡ spec.pool_places_at pools.now pool }
 {

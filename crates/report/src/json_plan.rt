@@ -30,8 +30,8 @@ pub(crate) fn plan_value(
     })
 }
 
-/// Converts a text with a fault to JSON, in the form of a plan whose lists of pools, classes and
-/// client kinds are empty.
+/// Converts the plan's text to JSON for an answer with faults: in the form of a plan whose lists of
+/// pools, classes and client kinds are empty.
 #[tactic(auto, unfolding(crate::specs::JsonPlan::plan_object))]
 pub(crate) fn text_only_value(alloc: Global, text: &[u8]) -> Result<Value, AllocError>
     ensures { IfOk result (λ value. view value ≡ spec.text_only_data text.now) }

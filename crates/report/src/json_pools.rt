@@ -1,5 +1,5 @@
-//! Pools as JSON: their sizes, and, if a certificate accepts the plan, the bound of each queue and
-//! the shares in it.
+//! Pools as JSON: their sizes and the pools for which their jobs wait. If a certificate accepts the
+//! plan, also the bound of each queue and the maximum number of core threads that wait.
 
 ghost use Rattle.std.specs.Prelude.{◌≡◌, IfOk, option_map, map, string_bytes};
 ghost use Rattle.serde_json.specs.Data.{array, string};

@@ -13,7 +13,7 @@ use serde_json::{Value, json};
 use size_search::SizesFound;
 use std::alloc::{AllocError, Global};
 
-/// Converts the sizes that were found, or the cause why there are none.
+/// Converts the sizes that were found to JSON, or the reason why none were found.
 #[tactic(auto, unfolding(crate::specs::JsonSizes::sizes_object))]
 pub(crate) fn sizes_value(
     alloc: Global,
@@ -81,8 +81,8 @@ fn size_value(alloc: Global, changes: Vec<Value>, fit: &Pool) -> Result<Value, A
     })
 }
 
-/// Converts the changes of a pool's sizes to JSON. There are none if the plan does not declare the
-/// pool.
+/// Returns a JSON value for each size that changes from `declared`, the pool in the plan, to `fit`,
+/// the pool with the sizes that were found. The list is empty if `declared` is `None`.
 fn changes_of(
     alloc: Global,
     places: PoolPlaces,
@@ -121,7 +121,8 @@ fn push_changes(
     )
 }
 
-/// Appends the change of one size, unless it keeps its value.
+/// Appends the change of the size `key` from `now` to `value`. Appends nothing if the two are
+/// equal.
 #[tactic(auto, using(std::proofs::lemmas::List::map_push))]
 fn push_change(
     alloc: Global,

@@ -40,7 +40,7 @@ pub(crate) fn witness_value(
     parts_value(alloc, plan, places, &world, &steps, witness)
 }
 
-/// Converts a witness to JSON. `steps` are what its events did, and `world` is the world after
+/// Converts a witness to JSON. `steps` has what its events did, and `world` is the world after
 /// them.
 #[tactic(auto, unfolding(crate::specs::JsonWitness::witness_parts))]
 fn parts_value(

@@ -1,4 +1,5 @@
-//! The HTML page for a browser, which shows the JSON answer of `ask`.
+//! The answer of `ask` as an HTML page. The page contains the JSON answer and shows it in a
+//! browser.
 
 ghost use Rattle.std.specs.Prelude.{IfOk, string_bytes};
 ghost use Rattle.report.specs.Page as spec;
@@ -9,8 +10,9 @@ use job_bodies::Plan;
 use report_page::page_of;
 use std::alloc::{AllocError, Global};
 
-/// Returns the page of the finding about a plan and of its warnings. `file` is the name of the plan's
-/// file, `text` is its content, and `places` has the place of each entry of the plan in the text.
+/// Returns the page of the finding about a plan and of its warnings. `file` is the name of the
+/// plan's file, `text` is its content, and `places` has the place of each entry of the plan in the
+/// text.
 ///
 /// # Errors
 ///
@@ -50,8 +52,8 @@ pub fn faults_html(
     page_of(alloc, &line)
 }
 
-/// Returns the page of a single fault that has no place in the plan's text. `words` is its message.
-/// `file` is the name of the plan's file, and `text` its content.
+/// Returns the page of the fault `number`, which has no place in the plan's text. `words` is its
+/// message. `file` is the name of the plan's file, and `text` its content.
 ///
 /// # Errors
 ///

@@ -1,6 +1,7 @@
 //! The picture of a plan, as a Graphviz graph. A pool is a box with its sizes and classes. The
-//! clients are outside of the boxes. An arrow is a submit, a dashed line is a get, and a bold
-//! dashed line is a counted get, which can block a thread that other jobs need.
+//! clients are outside of the boxes. An arrow stands for the submits of a class, a dashed line for
+//! the gets, and a bold dashed line for gets of which at least one is counted. A counted get can
+//! block a thread that other jobs need.
 
 ghost use Rattle.std.specs.Prelude.{◌≡◌, IfOk, option_map, string_bytes};
 ghost use Rattle.support.specs.Pushed.{Pushes};
@@ -177,7 +178,8 @@ fn push_label(
     push_bound(text, plan, part)
 }
 
-/// Appends the bound of the pool's queue, if the pool has a part of a certificate.
+/// Appends the bound of the pool's queue. Appends nothing if the pool has no part of a certificate,
+/// or if the vector of the bound does not fit the plan.
 fn push_bound(text: &mut String, plan: &Plan, part: Option<&PoolCert>) -> Result<(), AllocError>
     ensures { Pushes result text.old text.new
         (spec.bound_part plan.now (option_map (λ part. part.now) part.entry)) }

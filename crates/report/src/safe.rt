@@ -132,7 +132,8 @@ fn push_bound(
     text.push('\n')
 }
 
-/// Appends the bound of a pool's queue, and the shares in it.
+/// Appends the capacity of the pool's queue, its bound and the shares in the bound. Appends nothing
+/// if the vector of the bound does not fit the plan.
 fn push_queue(
     alloc: Global,
     text: &mut String,
@@ -171,7 +172,8 @@ pub(crate) fn push_most(text: &mut String, bound: &Bound, total: u64) -> Result<
     }
 }
 
-/// Appends the number of the pool's threads.
+/// Appends the number of the pool's threads, such as `4 threads`, or `2 to 4 threads` if the core
+/// size and the maximum differ.
 pub(crate) fn push_threads(text: &mut String, pool: &Pool) -> Result<(), AllocError>
     ensures { Pushes result text.old text.new (spec.threads_text pool.now) }
 {
@@ -186,7 +188,8 @@ pub(crate) fn push_threads(text: &mut String, pool: &Pool) -> Result<(), AllocEr
     }
 }
 
-/// Appends the shares in the total of a vector, such as `200 browser, 8 from threads of web`.
+/// Appends the shares in the total of a vector that are not 0, such as `200 browser, 8 from threads
+/// of web`.
 fn push_shares(
     alloc: Global,
     text: &mut String,
@@ -262,7 +265,7 @@ fn push_share(
     Ok(())
 }
 
-/// Joins the parts with commas.
+/// Appends the parts, with a comma and a space between them.
 #[tactic(auto, using(crate::proofs::Rows::row_seen))]
 fn push_separated(alloc: Global, text: &mut String, parts: &[String]) -> Result<(), AllocError>
     ensures { Pushes result text.old text.new (spec.separated (map string_bytes parts.now)) }
@@ -272,7 +275,7 @@ fn push_separated(alloc: Global, text: &mut String, parts: &[String]) -> Result<
 }
 
 /// Appends the line with the pools for which the pool's jobs wait, and the maximum number of its
-/// core threads that wait at counted gets at once.
+/// core threads that wait at counted gets at once if it is known and not 0.
 fn push_waits(
     alloc: Global,
     text: &mut String,
@@ -291,8 +294,9 @@ fn push_waits(
     text.push('\n')
 }
 
-/// Appends the maximum number of core threads that wait at counted gets at once, which is the total
-/// of the vector `blocked`. Appends nothing if the total is 0 or this vector does not fit the plan.
+/// Appends the maximum number of core threads that wait at counted gets at once, and the number of
+/// the other core threads. The maximum is the total of the vector `blocked`. Appends nothing if the
+/// total is 0 or this vector does not fit the plan.
 fn push_left(
     text: &mut String,
     plan: &Plan,
@@ -322,7 +326,7 @@ fn push_waiting(text: &mut String, pool: &Pool, most: u64) -> Result<(), AllocEr
     )
 }
 
-/// Appends the names of the pools for which jobs of this pool wait.
+/// Appends the names of the pools for which jobs of this pool wait, or `nobody` if there are none.
 fn push_waited(
     alloc: Global,
     text: &mut String,

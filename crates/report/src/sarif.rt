@@ -19,8 +19,8 @@ use plan_text::TextPlace;
 use serde_json::{Value, json};
 use std::alloc::{AllocError, Global};
 
-/// Returns the log with the finding about a plan and its warnings, on one line. `file` is the name of
-/// the plan's file.
+/// Returns the log with the finding about a plan and its warnings, on one line. `file` is the name
+/// of the plan's file.
 ///
 /// # Errors
 ///
@@ -54,8 +54,8 @@ pub fn faults_sarif(alloc: Global, file: &str, faults: &Faults) -> Result<String
     log_of(alloc, file, &annotations)
 }
 
-/// Returns the log with a single fault that has no place in the plan's text, on one line. `words`
-/// is its message.
+/// Returns the log with the fault `number`, which has no place in the plan's text, on one line.
+/// `words` is its message, and `file` is the name of the plan's file.
 ///
 /// # Errors
 ///
@@ -226,7 +226,7 @@ fn rule_value(alloc: Global, name: &str) -> Result<Value, AllocError>
     json!(in alloc; {"id": name})
 }
 
-/// Returns the names of the rules, each once, in the order in which they occur.
+/// Returns the names of the annotations' rules, each once, in the order of their first annotations.
 fn rule_names(alloc: Global, mut annotations: &[Annotation]) -> Result<Vec<String>, AllocError>
     ensures { IfOk result
         (λ names. map string_bytes names.items ≡ spec.rule_names (remarks_in annotations.now)) }

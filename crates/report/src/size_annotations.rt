@@ -107,7 +107,8 @@ fn push_pool(
     push_change(alloc, found, rule, places.queue, pool, "queue", queue)
 }
 
-/// Appends an annotation if the size changes. `size` has the declared value and the fitted one.
+/// Appends an annotation if the size `key` changes. `size` has the declared value and the value
+/// that was found.
 fn push_change(
     alloc: Global,
     found: &mut Vec<Annotation>,

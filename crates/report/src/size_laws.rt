@@ -1,4 +1,4 @@
-//! A law about the number of changes.
+//! A law about fitted plans. A fitted plan is the plan with the sizes that a search found.
 
 ghost use Rattle.report.specs.Sizes.{UnchangedSizesAreTheDeclaredPlan};
 

@@ -18,8 +18,8 @@ use job_bodies::Plan;
 use std::alloc::{AllocError, Global};
 
 /// Appends the story of the events from the plan's initial state. It shows the events, the state of
-/// the pools after them, and what each of the jobs `members` waits for. It ends before the first
-/// event that is not possible.
+/// the pools after them, and what each of the jobs `members` waits for. It ignores the first event
+/// that is not possible and all events after it.
 ///
 /// # Errors
 ///
@@ -38,8 +38,8 @@ pub(crate) fn push_story(
     push_parts(text, alloc, plan, &world, &steps, members)
 }
 
-/// Appends the parts of a story: what the steps did, the pools of the world after them, and what each
-/// member waits for.
+/// Appends the parts of a story: what the steps did, the pools of the world after them, and what
+/// each of the jobs `members` waits for.
 fn push_parts(
     text: &mut String,
     alloc: Global,

@@ -29,7 +29,8 @@ pub(crate) struct Line<'a> {
     pub(crate) end: usize,
 }
 
-/// Appends the lines of the turns.
+/// Appends the lines of the turns. If there are more than 20, one line replaces those in the
+/// middle.
 ///
 /// # Errors
 ///

@@ -10,8 +10,8 @@ use job_bodies::{Action, Plan};
 use std::alloc::AllocError;
 use weights::submitted_class;
 
-/// Appends the name of an actor, such as `client web`, `job page` or `pool db`. A client is named by
-/// its client kind, and a job by its class.
+/// Appends the name of an actor, such as `client web`, `job page` or `pool db`. A client is named
+/// by its client kind, and a job by its class.
 pub(crate) fn push_actor(text: &mut String, plan: &Plan, actor: Actor) -> Result<(), AllocError>
     ensures { Pushes result text.old text.new (spec.actor_text plan.now actor) }
 {
@@ -39,8 +39,8 @@ pub(crate) fn push_step(text: &mut String, plan: &Plan, step: EventStep) -> Resu
     push_act(text, plan, submitted, taken, step.outcome)
 }
 
-/// Returns the name of the class that the actor's action submits. The name is used only if the
-/// action is a submit.
+/// Returns the name of the class whose job the actor's action submits, or an empty name if `action`
+/// is `None`. If the action is not a submit, the caller does not use the name.
 fn submitted_name(plan: &Plan, actor: Actor, action: Option<usize>) -> &str
     ensures { result.now ≡ spec.submitted_name plan.now actor action }
 {

@@ -58,8 +58,8 @@ fn push_turns(
     push_turns_from(turns, alloc, plan, turn, rest, steps.len())
 }
 
-/// Extends the turn `turn` by the first of these steps that continue it, and appends it. Then
-/// appends the turns of the remaining steps. `all` is the number of all steps of the story.
+/// Appends the turn `turn`, extended by the steps at the start of `steps` that continue it, and
+/// then the turns of the remaining steps. `all` is the number of all steps of the story.
 fn push_turns_from(
     turns: &mut Vec<Turn>,
     alloc: Global,
@@ -132,8 +132,8 @@ fn new_turn(
     })
 }
 
-/// Returns whether a step with this outcome is the last one of its turn: with this step, the client
-/// starts its body again.
+/// Returns whether a step with this outcome ends its turn, because the client starts its body
+/// again.
 fn ends_turn(outcome: Outcome) -> bool
     ensures { result ≡ spec.ends_turn outcome }
 {

@@ -59,8 +59,8 @@ fn push_each(
     Ok(())
 }
 
-/// Appends a line that says what the job with this number waits for. Appends nothing if the job
-/// does not wait.
+/// Appends a line that says what the job with this number waits for. Appends nothing if the job is
+/// neither in a queue nor at a get of a live job.
 fn push_wait(text: &mut String, plan: &Plan, world: &World, number: usize) -> Result<(), AllocError>
     ensures { Pushes result text.old text.new (seen.wait_seen plan.now world.now.view number) }
 {

@@ -15,9 +15,9 @@ use job_bodies::Plan;
 use size_search::SizesFound;
 use std::alloc::{AllocError, Global};
 
-/// Returns the text of the finding: `SAFE`, with the bound of each queue and the shares in it;
-/// `NOT SAFE`, with the story of the witness and the result of the search for sizes; or
-/// `NOT DECIDED`, with that result.
+/// Returns the text of the finding: `SAFE`, with the bound of each queue and the shares in it; `NOT
+/// SAFE`, with the description of the witness, the result of the search for sizes and advice; or
+/// `NOT DECIDED`, with that result, advice and a line that says what was not found.
 ///
 /// # Errors
 ///

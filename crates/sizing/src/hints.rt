@@ -30,11 +30,12 @@ pub(crate) enum Hint {
     },
     /// The command reads the file as a recording, but the file does not begin as one.
     NotRecording,
-    /// The command reads the file as events, but its lines end with carriage returns.
+    /// The command reads the file as events, but its first line ends with a carriage return.
     ReturnsInEvents,
 }
 
 /// Returns the reason why the file could not be read, or an empty text if the reason is not known.
+/// Opens the file again to find the reason.
 pub(crate) fn reason_of(rt: &impl Files, name: &str) -> &'static str {
     match File::open(rt, name) {
         Ok(_) if is_directory(rt, name) => ": it is a directory",
@@ -90,8 +91,9 @@ fn is_directory(rt: &impl Files, name: &str) -> bool {
     }
 }
 
-/// Returns a hint about a file that the arguments `words` name, and the file's name. The command
-/// found a fault in a text before this call. Returns `None` if no file shows a known mistake.
+/// Returns the name of a file that the arguments `words` name, and a hint about a likely mistake in
+/// it. Is called after the command found a fault in a text. Returns `None` if no file shows a known
+/// mistake.
 pub(crate) fn hint_of<'a>(
     rt: &impl Files,
     alloc: Global,
@@ -109,15 +111,17 @@ pub(crate) fn hint_of<'a>(
     Some((name, hint_of_second(cli.command, &text)?))
 }
 
-/// Returns the content of the file, or `None` if it cannot be read.
+/// Returns the content of the file, up to one byte more than the command's input may have. Returns
+/// `None` if the file cannot be read.
 fn text_of(rt: &impl Files, alloc: Global, command: Command, name: &str) -> Option<Vec<u8>> {
     StdFiles::new(rt)
         .read(alloc, name, most_bytes(command) + 1)
         .ok()
 }
 
-/// Returns a hint about the first file, whose content is `text`, or `None` if the file shows no
-/// known mistake. `is_alone` says that the arguments name no second file.
+/// Returns a hint about the first file, whose content is `text`. Returns `None` if the file shows
+/// no known mistake, and for `ask`, whose answer explains the mistake. `is_alone` says that the
+/// arguments name no second file.
 fn hint_of_first(command: Command, text: &[u8], is_alone: bool) -> Option<Hint> {
     if let Command::OnRecording(RecordingCommand::Learn { .. }) = command {
         return hint_of_recording(text);
@@ -157,8 +161,8 @@ fn hint_of_recording(text: &[u8]) -> Option<Hint> {
     }
 }
 
-/// Returns a hint about the second file, whose content is `text`, or `None` if the file shows no
-/// known mistake.
+/// Returns a hint about the second file, whose content is `text`. Returns `None` if the file shows
+/// no known mistake, and for `ask`, whose answer explains the mistake.
 fn hint_of_second(command: Command, text: &[u8]) -> Option<Hint> {
     match command {
         Command::OnRecording(RecordingCommand::Conform) => hint_of_recording(text),
@@ -181,7 +185,8 @@ fn hint_of_events(text: &[u8]) -> Option<Hint> {
     }
 }
 
-/// Returns a hint if the text looks like a text of a known kind other than `wanted`.
+/// Returns a hint if the text looks like a text of a known kind other than `wanted`, and otherwise
+/// `None`.
 fn hint_of_misplaced(text: &[u8], wanted: &'static str) -> Option<Hint> {
     let found = kind_of(text)?;
     if found == wanted {
@@ -225,7 +230,8 @@ fn ends_with_return(text: &[u8]) -> bool {
     }
 }
 
-/// Returns the name of the command's second text, or `None` if the command needs only one text.
+/// Returns the name of the command's second text. Returns `None` if the command needs only one
+/// text, and for `ask`.
 fn second_text(command: Command) -> Option<&'static str> {
     match command {
         Command::Sequential(ReviewCommand::Replay) => Some("the events"),

@@ -99,7 +99,7 @@ fn print_version(rt: &(impl Print + Eprint + Files)) -> ExitCode {
     }
 }
 
-/// Returns the arguments of the command line.
+/// Returns the arguments of the command line. Fails if one is not UTF-8, or if memory runs out.
 fn words_of(rt: &HostRuntime) -> io::Result<Vec<String>> {
     let mut words: Vec<String> = Vec::new(rt.alloc());
     for word in env::args(rt)? {

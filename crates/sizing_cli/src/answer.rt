@@ -56,8 +56,8 @@ impl Answer {
     }
 
     /// Appends the line with the reply to the event line `number`, counted from 1. Sets the status
-    /// to [`Status::Refused`] if the event was refused or was not possible, or if the jobs of a
-    /// question are stuck.
+    /// to [`Status::Refused`] if the event was refused or was not possible, or if the jobs that a
+    /// `stuck` line names are stuck.
     pub fn push_reply(
         &mut self,
         plan: &Plan,
@@ -124,7 +124,8 @@ pub fn bad_event(alloc: Global, line: u64) -> Result<Answer, AllocError>
     fault(format!(in alloc; "{} at line {line}", FaultHead(number::BAD_EVENT))?)
 }
 
-/// Returns the answer to a recording with this malformed line.
+/// Returns the answer to a recording with the malformed line that `found` names. If that line ends
+/// with a carriage return, the answer says so.
 pub fn bad_recording(
     alloc: Global,
     recording: &[u8],

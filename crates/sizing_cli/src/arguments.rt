@@ -27,12 +27,14 @@ use std::thread::Threads;
 /// program's name.
 ///
 /// A text is read from standard input, `input`, if no file is named or its name is `-`, and
-/// otherwise from `files`. A single file holds all that standard input would hold. Of two files,
-/// the first holds the plan and the second the text after the line `%%`.
+/// otherwise from `files`. A file that is named alone holds the whole input of the command. Of two
+/// files, the first holds the plan, and the second the text that otherwise follows the line `%%`.
 ///
-/// If the arguments name a file for the certificate that the answer rests on, that file is written
-/// last. An existing file is overwritten only if it is empty, or a JSON object with the keys of a
-/// certificate. The name `-`, or that of a directory, is an error before anything is read.
+/// If the arguments name a file for a certificate and the answer rests on one, the certificate is
+/// written to that file after the answer. It is not written if its text is too long to be read
+/// back. An existing regular file is overwritten only if it is empty, or a JSON object with the
+/// keys of a certificate. If it holds another text or cannot be read, or if the name is `-` or that
+/// of a directory, the call fails before it reads the input.
 ///
 /// # Errors
 ///
@@ -152,7 +154,8 @@ pub fn serve_words<'a, R: Threads + Wait + Sync, F: TextFiles, S: Source, K: Sin
     Ok(status)
 }
 
-/// Runs the command of the parsed arguments, and writes its answer.
+/// Runs the command of the parsed arguments, and writes its answer. Sets `found` as
+/// [`serve_named`](crate::serve_named) sets `certificate`.
 fn serve_parsed<'a, R: Threads + Wait + Sync, F: TextFiles, S: Source, K: Sink>(
     rt: &R,
     alloc: Global,

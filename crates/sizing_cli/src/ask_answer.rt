@@ -26,8 +26,8 @@ use std::thread::Threads;
 #[derive(Drop)]
 pub struct AskOutput {
     pub output: Output,
-    /// The certificate's text, with a newline at its end. `None` if the answer needs no certificate
-    /// or if the text would be too long to be read back.
+    /// The certificate's text, with a newline at its end. `None` if the answer rests on no
+    /// certificate, or if the text would be too long to be read back.
     pub certificate: Option<Vec<u8>>,
 }
 
@@ -44,7 +44,7 @@ impl AskOutput {
 }
 
 /// Answers whether the plan in `input` is safe. The input is a plan's text, or a bundle of a plan
-/// and a certificate. Messages use `file` as the name of the plan's file.
+/// and a certificate, as `given` says. Messages use `file` as the name of the plan's file.
 ///
 /// # Errors
 ///

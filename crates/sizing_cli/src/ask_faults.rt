@@ -35,7 +35,8 @@ pub(crate) fn faults_answer(
     Ok(bad_text(text))
 }
 
-/// Writes the faults in the output format `form`.
+/// Returns the text of the faults in the output format `form`. For [`Form::Dot`], which has no
+/// picture of faults, the text is that of [`Form::Words`].
 fn faults_text(
     alloc: Global,
     form: Form,
@@ -63,7 +64,7 @@ fn faults_lines(alloc: Global, file: &str, faults: &Faults) -> Result<String, Al
     Ok(text)
 }
 
-/// Returns an answer with this text and the status of a malformed input.
+/// Returns an answer with this text and the status [`Status::BadText`].
 fn bad_text(text: String) -> Output
     ensures { result ≡ record { text = string_bytes text; status = Status.BadText } }
 {
@@ -89,7 +90,8 @@ pub(crate) fn cert_fault_answer(
     Ok(bad_text(text))
 }
 
-/// Writes the fault of a certificate in the output format `form`, with the message `words`.
+/// Returns the text of a certificate's fault in the output format `form`, with the message `words`.
+/// For [`Form::Dot`], the text is that of [`Form::Words`].
 fn cert_fault_text(
     alloc: Global,
     form: Form,

@@ -16,7 +16,8 @@ pub struct Bundle<'a> {
 /// Splits an input at its last line `%%`, which needs no newline if it ends the input. Returns
 /// `None` if no line is `%%`.
 ///
-/// The function looks at each line that contains a `%` once, from the last one to the first.
+/// The function examines lines that contain a `%`, each once, from the last one backwards, until
+/// one is `%%`.
 pub fn bundle_of(input: &[u8]) -> Option<Bundle<'_>>
     ensures { option_map (λ bundle. record { plan = bundle.plan.now; second = bundle.second.now })
         result

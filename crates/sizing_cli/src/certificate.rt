@@ -20,7 +20,8 @@ use std::alloc::{AllocError, Global};
 use std::sync::Wait;
 use std::thread::Threads;
 
-/// The number of threads that search and check for a command that has no option for this number.
+/// The maximum number of threads in which a command searches or checks if it has no option for this
+/// number.
 pub(crate) const WORKERS: usize = DEFAULT_WORKERS as usize;
 
 /// The number of pools per search thread. A further thread for fewer pools would save too little
@@ -28,8 +29,8 @@ pub(crate) const WORKERS: usize = DEFAULT_WORKERS as usize;
 const POOLS_OF_A_WORKER: usize = 16;
 
 /// Searches for a certificate in at most `workers` threads. If that search finds none, searches for
-/// sizes, and returns the certificate of these sizes if it also accepts the declared ones. So
-/// `certify` finds a certificate whenever `fit` changes nothing.
+/// sizes, and returns the certificate of these sizes if it also accepts the declared ones, and
+/// otherwise `None`. So `certify` finds a certificate whenever `fit` changes nothing.
 ///
 /// # Errors
 ///
@@ -83,8 +84,8 @@ fn certificate_of_sizes(alloc: Global, plan: &Plan) -> Result<Option<Cert>, Allo
 pub(crate) enum SizesComparison {
     /// A certificate that accepts the plan with its declared sizes.
     Accepted(Cert),
-    /// The sizes that were found, which differ from the declared ones, or the reason why none were
-    /// found.
+    /// The sizes that were found, whose certificate does not accept the declared ones, or the
+    /// reason why none were found.
     Other(SizesFound),
 }
 

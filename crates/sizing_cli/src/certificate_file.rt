@@ -18,10 +18,10 @@ use job_bodies::MAX_CERT_BYTES;
 use serde_json::Value;
 use std::alloc::{AllocError, Global};
 
-/// Returns an error if the certificate may not be written to the file `name`: the name is `-` or
-/// that of a directory, or the file holds a text that is not a certificate or cannot be read. So a
-/// misplaced argument overwrites no other text. If `name` is `None`, no certificate is to be
-/// written, and there is no error.
+/// Returns an error if a certificate may not be written to the file `name`: the name is `-` or that
+/// of a directory, or a regular file of this name cannot be read or holds a text that is neither
+/// empty nor a certificate. So a misplaced argument overwrites no other text. If `name` is `None`,
+/// no certificate is to be written, and there is no error. Also fails if memory runs out.
 pub(crate) fn ensure_replaceable<'a, F: TextFiles>(
     alloc: Global,
     files: &F,
@@ -158,7 +158,7 @@ fn member_count(value: &Value) -> Option<usize>
 }
 
 /// Writes the certificate's text `found` to the file `name`. Does nothing if one of the two is
-/// `None`.
+/// `None`. Returns [`CliError::Unwritten`] if the file cannot be written.
 #[tactic(auto, using(crate::proofs::SavedTexts::no_writes))]
 pub(crate) fn write_certificate<'a, F: TextFiles>(
     files: &mut F,

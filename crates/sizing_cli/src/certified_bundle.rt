@@ -15,8 +15,9 @@ use std::sync::Wait;
 use std::thread::Threads;
 use support::number::{GATE, MEMORY};
 
-/// Joins the two texts to a bundle. Returns the bundle if it splits into the same two texts again
-/// and `check` accepts it, and otherwise `None`.
+/// Joins the two texts to a bundle, and checks it in at most `workers` threads. Returns the bundle
+/// if it splits into the same two texts again and `check` accepts it, and otherwise `None`. Fails
+/// with fault 20 if memory runs out, and with fault 43 if the check ends with that fault.
 pub fn certified_bundle<R: Threads + Wait + Sync>(
     rt: &R,
     alloc: Global,
@@ -39,7 +40,7 @@ pub fn certified_bundle<R: Threads + Wait + Sync>(
     }
 }
 
-/// Joins the two texts with a line `%%` between them, and frees the second one.
+/// Joins the two texts with `%%` and a newline between them, and frees the second one.
 fn join_texts(plan: Vec<u8>, cert: Vec<u8>) -> Result<Vec<u8>, AllocError>
     ensures { IfOk result (λ text. text.items ≡ plan.items ++ (codes "%%" ++ 10 ∷ cert.items)) }
 {

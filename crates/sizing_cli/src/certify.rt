@@ -29,13 +29,15 @@ enum CertificateSearch {
     TooLong,
 }
 
-/// Returns the plan with a certificate that `check` accepts, or the reason why there is none. The
-/// input is a plan's text. Searches and checks in `workers` threads, 1 to 64.
+/// Returns the bundle of the plan and a certificate that `check` accepts, or the reason why there
+/// is none. The input is a plan's text. `workers`, from 1 to 64, is the maximum number of threads
+/// of the search and of the check.
 ///
 /// # Errors
 ///
-/// Fails with fault 20 if memory runs out or a thread cannot be started, and with fault 42 or 43 if
-/// the search or the check ends with that fault.
+/// Fails with fault 20 if memory runs out or a thread cannot be started, with fault 42 or 43 if the
+/// search ends with that fault, with 43 if the check does, and with 42 if `check` does not accept
+/// the bundle.
 pub fn certify<R: Threads + Wait + Sync>(
     rt: &R,
     alloc: Global,

@@ -14,7 +14,8 @@ use job_bodies::Plan;
 use std::alloc::{AllocError, Global};
 
 /// Returns the answer of `check`: whether the certificate accepts the plan, and for each pool the
-/// totals of its vectors and the limits of these totals.
+/// totals of its vectors and the limits of these totals. If the certificate's text has a fault, the
+/// answer is that fault.
 pub fn check(alloc: Global, plan: &Plan, cert: &[u8]) -> Result<Answer, AllocError>
     ensures { IfOk result (λ answer. answer ≡ spec.check plan.now cert.now) }
 {

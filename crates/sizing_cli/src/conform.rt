@@ -13,7 +13,7 @@ use job_bodies::{MAX_RECORDED_BYTES, Plan};
 use std::alloc::{AllocError, Global};
 
 /// Returns how the recording differs from the plan. The input is a bundle of a plan and a
-/// recording.
+/// recording. If it has a fault, the answer is that fault.
 ///
 /// # Errors
 ///

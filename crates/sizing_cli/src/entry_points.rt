@@ -33,11 +33,12 @@ use std::thread::Threads;
 /// # Errors
 ///
 /// Any command fails with fault 20 if memory runs out, with 60 if the source fails during this
-/// call, and with 61 if the sink fails. A [`Task`] also fails with 20 if a thread cannot be
-/// started, with 42 or 43 if [`search`](cert_search::search) ends with that fault, and with 43 if
-/// [`check_on`](cert_check::check_on) does. [`Task::Run`] also fails with 41, 42 or 43 if
-/// [`run`](locked_runner::run) ends with that fault. After 61 a prefix of the answer was written;
-/// after any other fault nothing was.
+/// call, and with 61 if the sink fails. A [`Task`] also fails with 20 if a thread for a search or a
+/// run cannot be started, with 42 or 43 if [`search`](cert_search::search) ends with that fault,
+/// and with 43 if [`check_on`](cert_check::check_on) does. [`Task::Certify`] and [`Task::Fit`] also
+/// fail with 42 if `check` does not accept the bundle that was found. [`Task::Run`] also fails with
+/// 41, 42 or 43 if [`run`](locked_runner::run) ends with that fault. After 61 a prefix of the
+/// answer was written; after any other fault nothing was.
 pub fn serve<R: Threads + Wait + Sync, S: Source, K: Sink>(
     rt: &R,
     alloc: Global,
@@ -54,9 +55,9 @@ pub fn serve<R: Threads + Wait + Sync, S: Source, K: Sink>(
 }
 
 /// Runs the command as [`serve`] does, with `file` as the name of the plan's file in messages of
-/// [`Task::Ask`]. If the answer of `ask` rests on a certificate, sets `certificate` to the
-/// certificate's text with a newline at its end. A text that is too long to be read back is not
-/// stored.
+/// [`Task::Ask`]. An answer of `ask` sets `certificate` to the text of the certificate that it
+/// rests on, with a newline at its end, or to `None` if it rests on none or if the text is too long
+/// to be read back. Otherwise `certificate` is unchanged.
 ///
 /// # Errors
 ///
@@ -161,8 +162,7 @@ fn answer_on_threads<R: Threads + Wait + Sync>(
     }
 }
 
-/// Runs `ask`, and sets `certificate` to the text of the certificate that the answer rests on, if
-/// it rests on one.
+/// Runs `ask`, and sets `certificate` as [`serve_named`] does.
 fn answer_question<R: Threads + Wait + Sync>(
     rt: &R,
     alloc: Global,

@@ -13,7 +13,8 @@ use refusal_notes::push_explanation;
 use std::alloc::{AllocError, Global};
 
 /// Returns the answer of `explain`: each condition of the certificate that fails, with the two
-/// numbers that the condition compares.
+/// numbers that the condition compares, and then the number of these conditions. If the
+/// certificate's text has a fault, the answer is that fault.
 pub fn explain(alloc: Global, plan: &Plan, cert: &[u8]) -> Result<Answer, AllocError>
     ensures { IfOk result (λ answer. answer ≡ spec.explain plan.now cert.now) }
 {

@@ -13,7 +13,7 @@ use std::alloc::AllocError;
 
 /// The exit status for bad arguments.
 const USAGE: u8 = 2;
-/// The exit status if there is no answer.
+/// The exit status for any error other than bad arguments.
 const NO_ANSWER: u8 = 3;
 
 /// The reason why the arguments of a command line got no complete answer. Nothing was written,
@@ -46,8 +46,7 @@ pub enum CliError<'a> {
 }
 
 impl CliError<'_> {
-    /// Returns the program's exit status: 2 for bad arguments and for help, 3 if there is no
-    /// answer.
+    /// Returns the program's exit status: 2 for bad arguments and for help, 3 for any other error.
     pub fn code(&self) -> u8
         ensures { spec.IsCode self.now result }
     {

@@ -25,9 +25,10 @@ use std::thread::Threads;
 /// The maximum number of states in which a witness is searched for.
 const STATES: usize = DEFAULT_STATES as usize;
 
-/// Finds out whether a plan is safe. Returns the finding, and whether a given certificate is stale,
-/// which means that it does not accept the plan. Tries the given certificate first, if there is
-/// one. Then searches for a certificate, and if it finds none, for a witness and for other sizes.
+/// Finds out whether a plan is safe. Returns the finding, and whether a certificate was given that
+/// is stale, which means that it does not accept the plan. Tries the given certificate first, if
+/// there is one. Then searches for a certificate, and if it finds none, for a witness and for other
+/// sizes.
 ///
 /// # Errors
 ///

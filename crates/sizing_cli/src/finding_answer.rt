@@ -178,7 +178,8 @@ fn with_stale(
     Ok(warnings)
 }
 
-/// Writes the answer: the finding and these warnings, and the status that follows from them.
+/// Writes the answer: the finding and these warnings, and the status that follows from them and
+/// from `options.strict`.
 fn answer_with(
     alloc: Global,
     options: AskOptions,
@@ -199,7 +200,8 @@ fn answer_with(
     Ok(Answer { text, status })
 }
 
-/// Writes the finding and these warnings in the output format `form`.
+/// Returns the text of the finding and these warnings in the output format `form`. The picture,
+/// [`Form::Dot`], shows no warnings.
 fn text_of(
     alloc: Global,
     form: Form,

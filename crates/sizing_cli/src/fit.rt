@@ -28,13 +28,14 @@ use std::thread::Threads;
 use support::number::MIXED;
 
 /// Searches for sizes that a certificate accepts. Returns them as lines, or as the bundle of the
-/// plan with those sizes and the certificate, or returns the reason why none were found. The input
-/// is a plan's text.
+/// plan with those sizes and the certificate, or returns the reason why there are none or why the
+/// bundle would be too long. The input is a plan's text.
 ///
 /// # Errors
 ///
-/// Fails with fault 20 if memory runs out or a thread cannot be started, and with fault 42 or 43 if
-/// the search or the check ends with that fault.
+/// Fails with fault 20 if memory runs out or a thread cannot be started, with fault 42 or 43 if the
+/// search ends with that fault, with 43 if the check of the bundle does, and with 42 if `check`
+/// does not accept the bundle.
 pub fn fit<R: Threads + Wait + Sync>(
     rt: &R,
     alloc: Global,
@@ -71,8 +72,8 @@ fn fit_plan<R: Threads + Wait + Sync>(
 ///
 /// # Errors
 ///
-/// Fails with fault 20 if memory runs out or a thread cannot be started, and with fault 42 or 43 if
-/// the check of the bundle ends with that fault.
+/// Fails with fault 20 if memory runs out. For a bundle, also fails with fault 43 if the check ends
+/// with that fault, and with fault 42 if `check` does not accept the bundle.
 pub fn answer_of_sizes<R: Threads + Wait + Sync>(
     rt: &R,
     alloc: Global,
@@ -158,7 +159,7 @@ fn bundle<R: Threads + Wait + Sync>(
 }
 
 /// Writes the bundle of the plan `fit`, which has the sizes that were found, and of its
-/// certificate.
+/// certificate. If one of the two texts would be too long to be read back, writes that instead.
 fn bundle_of_sizes<R: Threads + Wait + Sync>(
     rt: &R,
     alloc: Global,

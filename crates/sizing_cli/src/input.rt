@@ -20,9 +20,9 @@ pub struct Input<'a> {
     pub second: &'a [u8],
 }
 
-/// Splits a bundle and parses its plan. It is a fault if the input is too long, is not a bundle, or
-/// has a plan's text with a fault. The fault is the answer that each command gives to such an
-/// input.
+/// Splits a bundle and parses its plan. Returns [`ReadError::Fault`] if the input is too long or is
+/// not a bundle, or if the plan's text has a fault. The fault contains the command's answer.
+/// Returns [`ReadError::Memory`] if memory runs out.
 pub fn read_input(alloc: Global, input: &[u8]) -> Result<Input<'_>, ReadError<Answer>>
     ensures input { IfOk result (λ read.
         (answers : PlanValue → List ℕ → answer_spec.Answer)

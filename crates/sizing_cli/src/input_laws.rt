@@ -16,8 +16,8 @@ pub fn no_bundle_without_a_separator()
 
 /// States that a yes of `check` means that the plan is safe. If `check` answers yes, the input
 /// holds a plan and a certificate for it, and every state that a list of events can reach is safe:
-/// no submit was refused, each pool keeps its sizes, and no unfinished jobs wait only for each
-/// other.
+/// no submit was refused, no pool exceeds its maximum of threads or its queue capacity, and no
+/// unfinished jobs wait only for each other.
 pub fn a_yes_means_safe()
     ensures { YesMeansSafe }
 {}

@@ -20,8 +20,9 @@ use learning::{Extent, InferenceLimit, InferenceResult, InferredPlan, START_BYTE
 use plan_text::write_plan;
 use std::alloc::{AllocError, Global};
 
-/// Returns a plan that is derived from the recording `input`. If `strict`, the answer has the plan
-/// only if the recording conforms to it.
+/// Returns a plan that is derived from the recording `input`. If there is none, the answer is the
+/// reason. If `strict`, the answer has the plan only if the recording conforms to it, and otherwise
+/// the differences.
 ///
 /// # Errors
 ///
@@ -73,8 +74,10 @@ fn learn_from_all(alloc: Global, strict: bool, recording: &[u8]) -> Result<Answe
 }
 
 /// Writes the inferred plan, after comments that list what the recording shows beyond the plan.
-/// Returns `None` if a job or a round did not follow its body, or if there are more rounds of a
-/// kind than the plan allows. A round is one pass of a client through its body.
+/// Returns `None` if the plan does not explain the recording: a job or a round follows no body of
+/// the plan, it is undecided whether it follows one, or there are more rounds of a kind than the
+/// plan allows. If the text would be too long, the answer says so. A round is one pass of a client
+/// through its body.
 fn plan_answer(
     alloc: Global,
     strict: bool,
@@ -184,7 +187,8 @@ fn push_unfinished(text: &mut String, rounds: usize, jobs: usize) -> Result<(), 
     )
 }
 
-/// Appends the comment with the number of gets that timed out or were interrupted, if there are any.
+/// Appends the comment with the number of gets that timed out or were interrupted, if there are
+/// any.
 fn push_failed_gets(text: &mut String, gets: usize) -> Result<(), AllocError>
     ensures { Pushes result text.old text.new (spec.failed_gets_comment gets) }
 {
@@ -262,8 +266,8 @@ fn are_of_actors(findings: &[Finding]) -> bool
     findings.iter().any(|finding| is_of_actors(finding))
 }
 
-/// Returns whether the finding is about the steps of one job or round, or about the number of
-/// rounds.
+/// Returns whether the finding is about the label or the path of a job or round, or about the
+/// number of rounds of a kind.
 fn is_of_actors(finding: &Finding) -> bool
     ensures { result ≡ is_of_actors finding.now }
 {

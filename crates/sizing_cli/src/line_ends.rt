@@ -28,7 +28,7 @@ fn ends_with_return(recording: &[u8], line: usize) -> bool
 }
 
 /// Returns the line with this number, counted from 1, without its newline. Returns `None` if the
-/// recording has fewer lines.
+/// recording has fewer lines, or if this line has no newline.
 fn line_at(recording: &[u8], line: usize) -> Option<&[u8]>
     ensures { option_map (λ text. text.now) result
         ≡ slice_get (whole_lines recording.now) (line - 1) }

@@ -20,7 +20,7 @@ use std::alloc::{AllocError, Global};
 /// The file name that means standard input.
 pub(crate) const STANDARD_INPUT: &str = "-";
 
-/// The name that messages use for a plan that is not read from a file.
+/// The name that messages use for a text that is not read from a file.
 pub(crate) const NO_FILE: &str = "<stdin>";
 
 /// Reads the input of the command: one text, or two that are joined.
@@ -52,8 +52,8 @@ pub(crate) fn read_texts<'a, F: TextFiles, S: Source>(
     }
 }
 
-/// Reads the two texts of the command and joins them. Neither may be a bundle itself, so the joined
-/// text splits into the same two again.
+/// Reads the two texts of the command and joins them. It is an error if one of them is itself a
+/// bundle, so the joined text splits into the same two again.
 fn read_both<'a, F: TextFiles, S: Source>(
     alloc: Global,
     command: Command,
@@ -179,8 +179,8 @@ fn file_named(name: Option<&str>) -> Option<&str>
     name.filter(|name| *name != STANDARD_INPUT)
 }
 
-/// Returns the name that messages use for the plan: the name of its file, or `<stdin>` if it is
-/// read from standard input.
+/// Returns the name that messages use for a text: the name of its file, or `<stdin>` if it is read
+/// from standard input.
 pub(crate) fn display_name<'a>(name: Option<&'a str>) -> &'a str
     ensures { result.now ≡ spec.name_or_none (spec.file_named (option_map (λ name. name.now) name.entry)) }
 {

@@ -22,9 +22,9 @@ use std::sync::Wait;
 use std::thread::Threads;
 
 /// Searches for a certificate and then for a witness, and returns the answer. If a certificate is
-/// found, the plan is safe. If a witness is found, the answer is its story, or a bundle with its
-/// events. Otherwise the plan is undecided, and the answer has the number of states that were
-/// searched, at most `states`. The input is a plan's text.
+/// found, the plan is safe. If a witness is found, the answer is its story, or the bundle of the
+/// plan and the witness's events. Otherwise the plan is undecided, and the answer has the number of
+/// states that were searched, at most `states`. The input is a plan's text.
 ///
 /// # Errors
 ///
@@ -68,7 +68,8 @@ fn refute_plan<R: Threads + Wait + Sync>(
     }
 }
 
-/// Searches for a witness against a plan for which no certificate was found.
+/// Searches for a witness against a plan for which no certificate was found, and returns the
+/// answer.
 fn without_certificate(
     alloc: Global,
     states: usize,
@@ -130,7 +131,8 @@ fn story(alloc: Global, plan: &Plan, witness: &Witness) -> Result<Answer, AllocE
     })
 }
 
-/// Writes the plan's text followed by the events of the witness.
+/// Writes the bundle of the plan's text and the event lines of the witness. If these lines are too
+/// long, writes that instead.
 fn bundle(
     alloc: Global,
     plan: &Plan,

@@ -19,13 +19,14 @@ use support::number::{GATE, MEMORY, MIXED, READ_FAILED, WRITE_FAILED};
 pub enum Status {
     /// Yes, or the command did what it was asked to do.
     Done,
-    /// No: for example an event was refused or impossible, jobs are stuck, a condition of the
-    /// certificate fails, no certificate or sizes were found, sizes would change, or the plan is
-    /// not run.
+    /// No: for example the plan is not safe, an event was refused or impossible, jobs are stuck, a
+    /// condition of the certificate fails, no certificate or sizes were found, sizes would change,
+    /// or a recording differs from the plan.
     Refused,
     /// The input has a fault, which the answer reports.
     BadText,
-    /// Undecided: neither a certificate nor a witness was found.
+    /// Undecided: neither a certificate nor a witness was found, or the comparison of a recording
+    /// with a plan has no complete result.
     Undecided,
 }
 
@@ -52,8 +53,8 @@ impl Status {
 }
 
 /// The fault of a command that gave no complete answer. The numbers are 20 (`Memory`), 41
-/// (`Strange`, a run), 42 (`Mixed`, a run or a search), 43 (`Gate`, a run, a search or a check on
-/// threads), 60 (`ReadFailed`) and 61 (`WriteFailed`).
+/// (`Strange`, a run), 42 (`Mixed`, a run, a search, or a check that contradicts a search), 43
+/// (`Gate`, a run, a search or a check on threads), 60 (`ReadFailed`) and 61 (`WriteFailed`).
 ///
 /// After 61 a prefix of the answer was written; after any other fault nothing was.
 #[derive(Clone, Copy, Debug, PartialEq, Eq)]

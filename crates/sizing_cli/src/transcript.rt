@@ -98,7 +98,7 @@ fn is_last(reply: Reply) -> bool
     matches!(reply, Reply::NotPossible)
 }
 
-/// Appends the line with the numbers of refusals and unfinished jobs.
+/// Appends the line with the numbers of refusals and unfinished jobs, and returns the answer.
 fn finish(mut answer: Answer, world: &World) -> Result<Answer, AllocError>
     ensures { IfOk result (λ whole. IsWithEnding world.now.view answer whole) }
 {

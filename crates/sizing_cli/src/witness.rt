@@ -18,8 +18,8 @@ pub(crate) struct WitnessSearch {
     pub(crate) states: usize,
 }
 
-/// Searches at most `states` states for a witness against the plan. A witness that is found is
-/// confirmed by a replay.
+/// Searches at most `states` states for a witness against the plan. Returns a witness only if a
+/// replay confirms it.
 pub(crate) fn witness_of(
     alloc: Global,
     plan: &Plan,

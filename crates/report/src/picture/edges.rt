@@ -1,5 +1,5 @@
 //! The edges of a picture: an arrow for submits, a dashed line for gets, and a bold dashed line for
-//! counted gets. A counted get can block a thread that other jobs need.
+//! gets of which at least one is counted. A counted get can block a thread that other jobs need.
 
 ghost use Rattle.std.specs.Prelude.{◌≡◌, ◌++◌, IsTrue, codes, option_map};
 ghost use Rattle.std.specs.List.{enumerate_from, list_any};
@@ -13,7 +13,7 @@ use weights::Ranks;
 
 // ---- from clients
 
-/// Appends the edges from each client kind to the classes that it submits and gets.
+/// Appends the edges from each client kind to the classes whose jobs it submits or gets.
 pub(crate) fn push_client_edges(text: &mut String, plan: &Plan) -> Result<(), AllocError>
     ensures { Pushes result text.old text.new (spec.client_edges plan.now) }
 {
@@ -52,8 +52,8 @@ fn push_client_edges_to(
 
 // ---- from classes
 
-/// Appends the edges from each class to the classes that it submits and gets. `ranks` determine
-/// which gets are counted; if it is `None`, none are.
+/// Appends the edges from each class to the classes whose jobs it submits or gets. `ranks`
+/// determine which gets are counted; if it is `None`, none are.
 pub(crate) fn push_class_edges(
     text: &mut String,
     plan: &Plan,
@@ -111,7 +111,7 @@ fn submits_class(class: usize, action: Option<Action>) -> bool
     }
 }
 
-/// Returns the number of actions in the body that submit the class.
+/// Returns the number of actions in the body that submit a job of the class.
 fn submit_count(body: &[Action], class: usize) -> usize
     ensures { result ≡ spec.submit_count body.now class }
 {
@@ -137,6 +137,7 @@ fn has_get(body: &[Action], class: usize) -> bool
 }
 
 /// Returns whether the body of the class `number` has a counted get of a job of the class `class`.
+/// Returns `false` if there are no ranks, or if they do not fit the plan.
 fn has_counted_get(
     plan: &Plan,
     ranks: Option<&Ranks>,
@@ -181,7 +182,8 @@ fn is_counted(plan: &Plan, ranks: &Ranks, class: usize, position: usize) -> bool
 
 // ---- lines
 
-/// Appends one edge for `times` submits of a class. Appends nothing if `times` is 0.
+/// Appends one edge for `times` submits of the class `class`. The edge starts at the node that is
+/// named `kind` followed by `number`. Appends nothing if `times` is 0.
 fn push_submit_edge(
     text: &mut String,
     kind: &str,
@@ -208,8 +210,9 @@ fn push_times(text: &mut String, times: usize) -> Result<(), AllocError>
     write!(text, " [label=\"{times}\"]")
 }
 
-/// Appends one edge for the gets of a class. Appends nothing if `gets` is false. The edge is bold
-/// if `counted` is true.
+/// Appends one edge for the gets of jobs of the class `class`. The edge starts at the node that is
+/// named `kind` followed by `number`. Appends nothing if `gets` is false. The edge is bold if
+/// `counted` is true.
 fn push_get_edge(
     text: &mut String,
     kind: &str,
