@@ -49,7 +49,7 @@ impl Draft {
             .collect(alloc)
     }
 
-    /// Returns the rank of each pool. A pool that has none yet gets the value `rank`.
+    /// Returns the rank of each pool, and `rank` for a pool that has none yet.
     pub(crate) fn ranks_or(&self, alloc: Global, rank: u64) -> Result<Vec<u64>, AllocError> {
         self.pools
             .iter()
@@ -85,7 +85,7 @@ impl Draft {
     }
 
     /// Returns the certificate, or `None` if the bound or the blocked vector of a pool is not
-    /// known. A pool without a rank gets rank 0.
+    /// known.
     pub(crate) fn into_cert(
         self,
         alloc: Global,
