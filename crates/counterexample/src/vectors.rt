@@ -15,8 +15,8 @@ pub(crate) struct Potential {
 }
 
 /// Computes the lightest vectors of each pool, and returns those that are heavier than the plan's
-/// sizes allow. These vectors show where the plan may fail. The list is empty if a class of the plan
-/// submits itself, directly or through other classes.
+/// sizes allow. These vectors show where the plan may fail. The list is empty if a class of the
+/// plan submits itself, directly or through other classes.
 pub(crate) fn missed_vectors(alloc: Global, plan: &Plan) -> Result<Vec<Potential>, AllocError> {
     let mut vectors = MissedVectors {
         alloc,
