@@ -11,6 +11,7 @@ use weights::Bound;
 /// Returns the vector that bounds the pool's queue. This is the standing vector, or the lifetime
 /// vector if the lifetime vector requires a smaller increase of the queue. `pool_threads` has the
 /// current core and maximum of this pool, and `maxes` has the current maximums of all pools.
+/// Returns this pool as the obstacle if the search finds no such vector.
 pub(crate) fn bound_of(
     alloc: Global,
     cache: &mut VectorCache,
