@@ -1,6 +1,7 @@
-//! One round of the search, in which the workers search for the vectors of the pools. In a round, a
-//! get by a job of a pool without a rank is *counted* if the reach of the class of its job is at
-//! least the rank of this round.
+//! One round of the search, in which the workers search for the vectors of the pools: the bound of
+//! a pool's queue, and the blocked vector, which bounds the number of the pool's jobs that wait for
+//! other jobs. In a round, a get by a job of a pool without a rank is *counted* if the reach of the
+//! class of its job is at least the rank of this round.
 
 ghost use Rattle.std.specs.Prelude.{◌≡◌, ◌≢◌, ◌<◌, ◌≤◌, IfErr, IfOk, length};
 ghost use Rattle.cert_search.specs.declared.finding.SearchFault.TheVariants.{Memory, Mixed};
