@@ -1,4 +1,5 @@
-//! The vector that bounds a pool's queue.
+//! The vector that bounds a pool's queue: a standing vector, which bounds the number of queued
+//! jobs, or a lifetime vector, which bounds the number of jobs that the pool ever accepts.
 
 use crate::found::{AttemptError, Obstacle};
 use crate::pool_threads::PoolThreads;

@@ -32,7 +32,7 @@ pub enum NoSizes {
 pub(crate) enum Obstacle {
     /// The pool with this number, for which no vector or no size was found.
     Pool(usize),
-    /// Any other point.
+    /// A point for which no pool is named.
     Unknown,
 }
 

@@ -1,4 +1,5 @@
-//! The rounds in which pools get ranks. In each round, the pools whose cores are large enough for
+//! The rounds in which pools get ranks. The blocked vector of a pool bounds the number of the
+//! pool's jobs that wait for other jobs. In each round, the pools whose cores are large enough for
 //! their blocked vectors get the number of the round as their rank. If there is no such pool, the
 //! round raises the core of one pool.
 
