@@ -189,9 +189,9 @@ impl<'a> BestFirst<'a> {
         None
     }
 
-    /// Visits the successors of the state with this number, and returns the first permanent
-    /// violation, if any. Stores the events of the first violation that is not permanent in
-    /// `stuck_now`.
+    /// Visits the successors of the state with this number, within the limit of states. Returns the
+    /// first permanent violation, if any, with the events that lead to it. Stores the events of the
+    /// first violation that is not permanent in `stuck_now`.
     fn expand(&mut self, number: usize) -> Result<Option<(Script, Violation)>, AllocError> {
         let replayed = self.replayed(number)?;
         for branch in &replayed.walk.branches(self.alloc)? {

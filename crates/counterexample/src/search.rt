@@ -40,7 +40,8 @@ pub struct SearchResult {
     /// A probable witness, if one was found.
     pub found: Option<CandidateWitness>,
     /// The number of visited states. A state counts each time that it is visited: the initial state
-    /// at the start of each walk and of the best-first search, and each state after a choice.
+    /// at the start of each walk and of the best-first search, and each state after a choice. In
+    /// the best-first search, a refused submit counts too.
     pub states: usize,
 }
 

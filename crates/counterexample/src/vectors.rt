@@ -1,4 +1,6 @@
-//! The vectors whose totals exceed the bounds that the plan's sizes set.
+//! The vectors whose totals exceed the bounds that the plan's sizes set. The standing vector of a
+//! pool bounds the number of its queued jobs, and its blocked vector bounds the number of its jobs
+//! that wait for other jobs.
 
 use job_bodies::Plan;
 use least_vectors::{Kind, Levels, ResizedPlan, reach};

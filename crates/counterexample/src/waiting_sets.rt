@@ -34,9 +34,10 @@ impl JobSet {
         Ok(members)
     }
 
-    /// Returns a subset whose members still wait only for each other, and from which no member can
-    /// be removed. If `permanent` is `true`, each pool that has a member in its queue must have
-    /// `max` threads. If [`MAX_LOOKS`] is reached first, the subset may have removable members.
+    /// Returns a minimal subset: its members still wait only for each other, and no smaller subset
+    /// except the empty one has this property. If `permanent` is `true`, each pool that has a
+    /// member in its queue must have `max` threads. If [`MAX_LOOKS`] is reached first, the subset
+    /// may not be minimal.
     pub(crate) fn made_least(
         self,
         alloc: Global,

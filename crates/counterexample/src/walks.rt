@@ -183,7 +183,8 @@ impl<'a> Walk<'a> {
     /// Makes the choice with this index. If an actor that is ready for the choice makes it, `newer`
     /// selects the actor: 0 for the actor that became ready last, 1 for the one before it, and so
     /// on. If a new client starts or a thread takes a job, `newer` has no effect. The choice of a
-    /// new client must be possible. If any other choice is not possible, nothing changes.
+    /// new client must be possible. If any other choice is not possible, changes nothing and
+    /// returns [`WalkStep::Nothing`].
     pub(crate) fn choose(&mut self, place: usize, newer: usize) -> Result<WalkStep, AllocError> {
         match self.choices.all.get(place).copied() {
             Some(Choice::Begin(kind)) => {
