@@ -155,8 +155,7 @@ impl RankAssignment {
     }
 }
 
-/// Returns the core that a pool with this blocked vector needs: one thread more than the number of
-/// jobs that can be blocked.
+/// Returns the core that a pool with this blocked vector needs: 1 more than the vector's total.
 fn core_for(hit: &CacheHit) -> u64 {
     hit.total.saturating_add(1)
 }
