@@ -19,7 +19,7 @@ pub(crate) enum PoolStatus {
     Free,
     /// A pool that a worker has claimed and not given back.
     Claimed,
-    /// A pool that was searched in this round, or that has a rank from an earlier round.
+    /// A pool that a worker has given back in this round, or that has a rank from an earlier round.
     Done,
 }
 
@@ -111,7 +111,7 @@ impl PoolStatuses {
         }
     }
 
-    /// Gives the pool back to the board if it was claimed, and returns whether it was claimed.
+    /// Makes the pool done if it was claimed, and returns whether it was claimed.
     fn give_back(&mut self, pool: usize) -> bool
         ensures given { IsTrue result
             → spec.returned self.old pool (slice_get self.old pool) ≡ Some self.new }
@@ -190,8 +190,8 @@ pub(crate) fn claim(board: &mut Held<Board>) -> Result<Option<usize>, AllocError
     }
 }
 
-/// Gives a pool back to the board, and returns whether the pool was claimed. If it was not claimed,
-/// the board is unchanged.
+/// Gives a pool back to the board, and returns whether the pool was claimed. If it was claimed, it
+/// is done afterwards. If it was not, the board is unchanged.
 ///
 /// # Errors
 ///

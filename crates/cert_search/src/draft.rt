@@ -1,5 +1,6 @@
 //! A draft: a certificate whose parts become known round by round. A round gives a rank to each
-//! pool whose blocked vector it finds.
+//! pool whose blocked vector it finds. The blocked vector of a pool bounds the number of its jobs
+//! that wait for other jobs.
 
 use crate::round::PoolVectors;
 use cert_text::{Cert, PoolCert};
@@ -49,7 +50,7 @@ impl Draft {
             .collect(alloc)
     }
 
-    /// Returns the rank of each pool. A pool that has none yet gets the value `rank`.
+    /// Returns the rank of each pool, and `rank` for a pool that has none yet.
     pub(crate) fn ranks_or(&self, alloc: Global, rank: u64) -> Result<Vec<u64>, AllocError> {
         self.pools
             .iter()
@@ -85,7 +86,7 @@ impl Draft {
     }
 
     /// Returns the certificate, or `None` if the bound or the blocked vector of a pool is not
-    /// known. A pool without a rank gets rank 0.
+    /// known.
     pub(crate) fn into_cert(
         self,
         alloc: Global,

@@ -14,8 +14,8 @@ use size_search::{cause_of, steady};
 use std::alloc::{AllocError, Global};
 
 /// Returns the plan's steady certificate, or `None` if this certificate does not accept the plan
-/// with its declared sizes. Also returns `None` if the plan has a cause (a reason why no sizes are
-/// enough), because then no certificate accepts the plan.
+/// with its declared sizes, or has a weight above `MAX_WEIGHT`. Also returns `None` if the plan has
+/// a cause (a reason why no sizes are enough), because then no certificate accepts the plan.
 pub(crate) fn steady_if_accepted(alloc: Global, plan: &Plan) -> Result<Option<Cert>, AllocError>
     ensures accepted { IfOk result
         (λ found. IfSome found (λ cert. IsTrue (accepted plan.now cert))) }
@@ -28,8 +28,8 @@ pub(crate) fn steady_if_accepted(alloc: Global, plan: &Plan) -> Result<Option<Ce
     }
 }
 
-/// Returns the plan's steady certificate, or `None` if it does not accept the plan. No class of the
-/// plan may submit itself, directly or through other classes.
+/// Returns the plan's steady certificate, or `None` if it does not accept the plan or has a weight
+/// above `MAX_WEIGHT`. No class of the plan may submit itself, directly or through other classes.
 fn without_circle(alloc: Global, plan: &Plan) -> Result<Option<Cert>, AllocError>
     requires free { NoCircle plan.now }
     requires well_formed { IsWellFormed plan.now }

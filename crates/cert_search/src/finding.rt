@@ -40,10 +40,10 @@ impl From<AllocError> for SearchFault {
     }
 }
 
-/// Searches for a certificate of the plan in rounds. Each round has up to `workers` workers, and
-/// `workers` is from 1 to 64. If the rounds find no certificate that accepts the plan, tries the
-/// plan's steady certificate, which depends only on the bodies. Returns `None` if that certificate
-/// does not accept the plan with its declared sizes either. The plan can still be safe.
+/// Searches for a certificate of the plan in rounds. Each round has at most `workers` workers, a
+/// number from 1 to 64. If the rounds find no certificate that accepts the plan, tries the plan's
+/// steady certificate, which depends only on the bodies. Returns `None` if that certificate does
+/// not accept the plan with its declared sizes either. The plan can still be safe.
 ///
 /// If the sizes of a plan are large enough for its steady certificate, the result is a certificate
 /// exactly when [`cause_of`](size_search::cause_of) finds no cause. The result does not depend on
@@ -51,9 +51,10 @@ impl From<AllocError> for SearchFault {
 ///
 /// In each round the workers search for the vectors of the pools without a rank. A pool whose
 /// blocked vector is found gets the round's number as its rank. In the next round, a get is not
-/// counted if its job depends only on pools that have a rank by then. If the jobs of a pool without
-/// a rank have the same counted gets as in the previous round, the round does not search for a
-/// blocked vector of the pool, because the previous round found none.
+/// counted if its job, and all jobs for which that job waits directly or through others, are in
+/// pools that have a rank by then. If the jobs of a pool without a rank have the same counted gets
+/// as in the previous round, the round does not search for a blocked vector of the pool, because
+/// the previous round found none.
 ///
 /// # Errors
 ///

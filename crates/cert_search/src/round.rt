@@ -1,6 +1,7 @@
-//! One round of the search, in which the workers search for the vectors of the pools. In a round, a
-//! get by a job of a pool without a rank is *counted* if the reach of the class of its job is at
-//! least the rank of this round.
+//! One round of the search, in which the workers search for the vectors of the pools: the bound of
+//! a pool's queue, and the blocked vector, which bounds the number of the pool's jobs that wait for
+//! other jobs. In a round, a get by a job of a pool without a rank is *counted* if the reach of the
+//! class of its job is at least the rank of this round.
 
 ghost use Rattle.std.specs.Prelude.{◌≡◌, ◌≢◌, ◌<◌, ◌≤◌, IfErr, IfOk, length};
 ghost use Rattle.cert_search.specs.declared.finding.SearchFault.TheVariants.{Memory, Mixed};
@@ -35,7 +36,8 @@ pub(crate) struct Round<'a> {
 #[derive(Drop)]
 pub(crate) struct PoolVectors {
     pub(crate) pool: usize,
-    /// The bound of the pool's queue. Only the first round searches for it.
+    /// The bound of the pool's queue, or `None` if the search found none. Only the first round
+    /// searches for it.
     pub(crate) bound: Option<Bound>,
     pub(crate) blocked: Option<Vector>,
 }
@@ -43,7 +45,8 @@ pub(crate) struct PoolVectors {
 impl Round<'_> {
     /// Searches for the vectors of a pool. Does not search for a blocked vector if the jobs of the
     /// pool have the same counted gets as in the previous round, because the previous round found
-    /// none. Returns [`SearchFault::Mixed`] if the plan does not have the pool.
+    /// none. Returns [`SearchFault::Mixed`] as the error if the plan does not have the pool, and
+    /// [`SearchFault::Memory`] if memory runs out.
     fn search_pool(&self, alloc: Global, pool: usize) -> Result<PoolVectors, SearchFault>
         ensures named { IfOk result (λ found. found.pool ≡ pool) }
         ensures exists { IfOk result (λ _. pool < length self.now.plan.now.pools) }
@@ -103,7 +106,7 @@ impl Round<'_> {
 
     /// Claims pools and searches for their vectors, until no pool is free or `stop` is set. Calls
     /// the gate before each search. The board is locked neither during a call of the gate nor
-    /// during a search.
+    /// during a search. Returns [`SearchFault::Gate`] as the error if the gate returns `false`.
     fn search_free_pools<R: Wait, G: PoolGate>(
         &self,
         rt: &R,
@@ -152,7 +155,8 @@ impl Round<'_> {
     }
 }
 
-/// Returns whether the reach of the class is at least the rank.
+/// Returns whether the reach of the class is at least the rank. A class without an entry in `reach`
+/// has reach 0.
 fn reaches(reach: &[u64], class: usize, rank: u64) -> bool {
     reach.get(class).copied().unwrap_or(0) >= rank
 }

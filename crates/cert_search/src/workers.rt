@@ -73,8 +73,9 @@ pub(crate) fn search_pools<R: Threads + Wait + Sync, G: PoolGate>(
     }
 }
 
-/// Joins the other workers and returns all results together, or the fault of the first worker that
-/// failed.
+/// Joins the other workers and returns all results together. If workers failed, returns the fault
+/// of one of them: the worker on the calling thread comes first, and then the others in the order
+/// in which they were started.
 fn join_all<R: Threads>(
     rt: &R,
     own: Result<Vec<PoolVectors>, SearchFault>,

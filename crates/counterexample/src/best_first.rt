@@ -1,6 +1,8 @@
 //! A best-first search for a violation. To expand a state is to visit its successors. Several
 //! measures take turns in selecting the next state to expand: the weight that was lost under a
-//! vector, the number of threads that do not wait, and the room of the pool with the least room.
+//! vector, the number of threads that do not wait, and the room of the pool with the least room. A
+//! violation is permanent if it is a refused submit, or if jobs wait only for each other and no
+//! later event ends the wait.
 
 use crate::branches::Branch;
 use crate::choices::Choices;
@@ -61,7 +63,8 @@ pub(crate) fn best_first(
     Ok(search.into_result(found))
 }
 
-/// The state of a search. It stores each reached state as a node of about 100 bytes.
+/// The state of a search. Each reached state takes about 100 bytes: its node, its fingerprint and
+/// its entries in the heaps.
 #[derive(Drop)]
 struct BestFirst<'a> {
     alloc: Global,
@@ -70,8 +73,8 @@ struct BestFirst<'a> {
     potentials: &'a [Potential],
     nodes: Vec<Node>,
     seen: HashSet<u64, BuildHasherDefault<FoldHasher>, Global>,
-    /// For each measure, a heap of the open states with the most promising one on top. The heap can
-    /// also contain closed states.
+    /// For each measure, a heap of the open states except the initial state, with the most
+    /// promising one on top. The heap can also contain closed states.
     opens: Vec<BinaryHeap<(u64, usize), Global>>,
     /// A lower bound of the numbers of the open states, from which the search for the oldest one
     /// starts.
@@ -186,9 +189,9 @@ impl<'a> BestFirst<'a> {
         None
     }
 
-    /// Visits the successors of the state with this number, and returns the first permanent
-    /// violation, if any. Stores the events of the first violation that is not permanent in
-    /// `stuck_now`.
+    /// Visits the successors of the state with this number, within the limit of states. Returns the
+    /// first permanent violation, if any, with the events that lead to it. Stores the events of the
+    /// first violation that is not permanent in `stuck_now`.
     fn expand(&mut self, number: usize) -> Result<Option<(Script, Violation)>, AllocError> {
         let replayed = self.replayed(number)?;
         for branch in &replayed.walk.branches(self.alloc)? {
@@ -208,8 +211,9 @@ impl<'a> BestFirst<'a> {
     }
 
     /// Visits the state to which the branch leads from state `number`, and returns its violation,
-    /// if any. Returns `None` if the branch is not possible, or if the state was reached before.
-    /// Adds any other state without a refused submit to the open states.
+    /// if any. Returns a violation that is not permanent only if none is stored yet. Returns `None`
+    /// if the branch is not possible, or if the state was reached before. Adds any other state
+    /// without a refused submit to the open states.
     fn visit(
         &mut self,
         replayed: &ReplayedState<'a>,
@@ -234,7 +238,8 @@ impl<'a> BestFirst<'a> {
         Ok(None)
     }
 
-    /// Adds the state with this number to the heap of each measure.
+    /// Adds the state with this number, in which `walk` is, to the heap of each measure. `branch`
+    /// leads to it from the state `replayed`.
     fn add_open(
         &mut self,
         replayed: &ReplayedState<'a>,

@@ -23,7 +23,8 @@ pub(crate) struct Branch {
 }
 
 impl<'a> Walk<'a> {
-    /// Returns a copy of the walk in the same state, with an empty script.
+    /// Returns a copy of the walk in the same state, with an empty script and with `has_blocked`
+    /// cleared.
     pub(crate) fn try_clone(&self, alloc: Global) -> Result<Walk<'a>, AllocError> {
         let mut ready = Vec::with_capacity(alloc, self.ready.len())?;
         for actors in &self.ready {
@@ -40,7 +41,9 @@ impl<'a> Walk<'a> {
     }
 
     /// Returns the branches from this state. A new client of a client kind is tried only if no
-    /// earlier client of the kind is back at its first submit, because both would act alike.
+    /// earlier client of the kind is back at its first submit, because both would act alike. For
+    /// the same reason, only one client of a kind is tried for its first submit. For each other
+    /// submit, at most [`MAX_ACTORS`] actors are tried.
     pub(crate) fn branches(&self, alloc: Global) -> Result<Vec<Branch>, AllocError> {
         let mut branches = Vec::new(alloc);
         for (place, (choice, ready)) in self.choices.all.iter().zip(&self.ready).enumerate() {
@@ -64,7 +67,8 @@ impl<'a> Walk<'a> {
             && !ready.is_empty())
     }
 
-    /// Returns the weight that the state loses under the vector `potential` if the branch is taken.
+    /// Returns the weight that the state loses under the vector `potential` if the branch is taken,
+    /// as [`Losses::of`] computes it. Returns 0 if the branch has no choice.
     pub(crate) fn loss(&self, branch: Branch, potential: &Potential) -> u64 {
         let Some(choice) = self.choices.all.get(branch.place).copied() else {
             return 0;
@@ -97,7 +101,8 @@ impl<'a> Walk<'a> {
     }
 
     /// Returns the least room of a pool. The room is the number of further jobs that the pool
-    /// accepts if no thread takes a job from its queue before that.
+    /// accepts if no thread takes a job from its queue before that. Returns `u64::MAX` if there are
+    /// no pools.
     pub(crate) fn least_room(&self) -> u64 {
         let mut least = u64::MAX;
         for pool in &self.machine.pools {

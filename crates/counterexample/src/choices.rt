@@ -23,7 +23,7 @@ pub(crate) enum Choice {
     Take(usize),
 }
 
-/// All choices of a plan, and the index of the choice for each submit in a body.
+/// All choices of a plan, and the index of the choice for each submit of each body.
 #[derive(Drop)]
 pub(crate) struct Choices {
     pub(crate) all: Vec<Choice>,
@@ -78,7 +78,8 @@ impl Choices {
     }
 
     /// Returns the index of the choice for an actor at this position of its body. Returns
-    /// [`NO_CHOICE`] if the action there is not a submit, and `None` at the end of the body.
+    /// [`NO_CHOICE`] if the action there is not a submit, and `None` at the end of the body or if
+    /// the machine does not have the actor.
     pub(crate) fn place_of(
         &self,
         machine: &Machine,

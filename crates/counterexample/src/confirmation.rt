@@ -29,8 +29,8 @@ use weights::Vector;
 /// The arguments are not trusted. The events are replayed in order. The replay stops at the first
 /// event that is a refused submit or that is not possible. If that event is a refused submit, the
 /// witness ends with it, and later events are removed. If that event is not possible, returns
-/// `None`. If all events are possible and none is a refused submit, returns `None` unless the
-/// members are in ascending order and wait only for each other after the last event.
+/// `None`. If all events are possible and none is a refused submit, returns `None` unless there are
+/// members, in ascending order, that wait only for each other after the last event.
 ///
 /// # Errors
 ///
@@ -67,8 +67,9 @@ fn refused(mut events: Vec<Event>, length: usize, pool: usize) -> Witness
     }
 }
 
-/// Returns the witness that consists of these events, or `None` if the members are not in ascending
-/// order, or do not wait only for each other in `world`. `world` is the world after the events.
+/// Returns the witness that consists of these events, or `None` if there are no members, if they
+/// are not in ascending order, or if they do not wait only for each other in `world`, the world
+/// after the events.
 fn stuck(
     plan: &Plan,
     world: &World,

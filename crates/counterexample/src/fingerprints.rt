@@ -1,7 +1,7 @@
 //! Fingerprints of states, by which a search recognises the states that it has reached.
 //!
-//! Two states have the same fingerprint if they differ only in the numbers of jobs and clients, in
-//! finished jobs that no actor will get, or in clients that are again at their first submit. Two
+//! Two states have the same fingerprint if they differ only in how jobs and clients are numbered,
+//! in finished jobs that no actor will get, or in clients that are again at their first submit. Two
 //! other states may have the same fingerprint by chance. The search then continues from only one of
 //! them.
 
@@ -12,9 +12,9 @@ use written_machine::Parent;
 
 /// The number by which the hash function multiplies its second input.
 const FACTOR: u64 = 0x9e37_79b9_7f4a_7c15;
-/// The hash input for the phase of a done job. It is greater than the number of any position.
+/// The hash input for the phase of a done job. It is greater than every position of a body.
 const DONE: u64 = 1_000_001;
-/// The hash input for the phase of a queued job. It is greater than the number of any position.
+/// The hash input for the phase of a queued job. It is greater than every position of a body.
 const QUEUED: u64 = 1_000_002;
 /// The hash input that marks a job that no actor will get.
 const ROOT: u64 = 3;
@@ -63,7 +63,8 @@ struct Prints<'a> {
     machine: &'a Machine<'a>,
     /// For each job, the sum of the fingerprints of the jobs that it created and will get.
     of_jobs: Vec<u64>,
-    /// For each client, the sum of the fingerprints of the jobs that it created and will get.
+    /// For each client that has moved, the sum of the fingerprints of the jobs that it created and
+    /// will get.
     of_active_clients: Vec<u64>,
     /// For each job, its place in its pool's queue, counted from 1, or 0 if the job is not queued.
     places: Vec<u64>,

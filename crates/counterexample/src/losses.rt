@@ -58,7 +58,8 @@ impl<'a> Losses<'a> {
     }
 
     /// Returns the loss of the choice if `actor` makes it. If a new client starts or a thread takes
-    /// a job, `actor` has no effect. The choice must be possible.
+    /// a job, `actor` has no effect. The choice must be possible. The result is at most
+    /// [`MAX_LOST`].
     pub(crate) fn of(&self, choice: Choice, actor: Option<Parent>) -> u64 {
         let lost = match choice {
             Choice::Begin(kind) => self.of_begin(kind),
@@ -143,7 +144,8 @@ impl<'a> Losses<'a> {
     }
 
     /// Returns the loss of the submit at position `at`, by an actor that is now at position `from`
-    /// and performs only work in between. Returns `None` if there is no submit at `at`.
+    /// and performs only work in between. A refused submit loses nothing. Returns `None` if there
+    /// is no submit at `at`.
     fn of_submit(&self, weighted: &WeightedBody, from: usize, at: usize) -> Option<u64> {
         let Action::Submit(class) = *weighted.body.get(at)? else {
             return None;

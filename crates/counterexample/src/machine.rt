@@ -25,12 +25,13 @@ pub(crate) struct Job {
     pub(crate) submit: usize,
     /// The latest job that this job created, or `None` if it has created none.
     newest: Option<usize>,
-    /// The job that the same parent created immediately before this one, if any.
+    /// The job that the same parent created immediately before this one. `None` if there is none,
+    /// or if the parent started its body again between the two.
     before: Option<usize>,
 }
 
-/// A client that has moved. Its number in this machine is its index in
-/// [`Machine::active_clients`], which differs from its number in the plan.
+/// A client that has moved. Its number in this machine is its index in [`Machine::active_clients`],
+/// which can differ from its number in the plan.
 #[derive(Clone, Copy, PartialEq, Eq)]
 pub(crate) struct ActiveClient {
     kind: usize,
@@ -119,8 +120,8 @@ impl<'a> Machine<'a> {
     }
 
     /// Returns the actor's position in its body, and the action there, which is `None` at the end
-    /// of the body. If the actor is a queued or done job, it has no position, and the whole result
-    /// is `None`.
+    /// of the body. The whole result is `None` if the actor is a queued or done job, which has no
+    /// position, or if the machine does not have the actor.
     pub(crate) fn point(&self, actor: Parent) -> Option<(usize, Option<Action>)> {
         match actor {
             Parent::Client(number) => {
@@ -140,8 +141,8 @@ impl<'a> Machine<'a> {
     }
 
     /// Returns the number of the job that the actor created at position `submit` of its body, or
-    /// `None` if there is none. If there are several, because the actor started its body again,
-    /// returns the latest. Looks only at the latest [`MAX_ACTIONS`] jobs of the actor.
+    /// `None` if there is none. Ignores the jobs that a client created before it started its body
+    /// again.
     pub(crate) fn child(&self, actor: Parent, submit: usize) -> Option<usize> {
         let mut next = self.newest(actor);
         for _ in 0..MAX_ACTIONS {
@@ -165,7 +166,7 @@ impl<'a> Machine<'a> {
     }
 
     /// Returns `true` if the actor's body has a get of the submit at position `submit`, and the
-    /// actor has not passed that get.
+    /// actor has not passed that get. Returns `false` for a queued or done job.
     pub(crate) fn is_to_get(&self, actor: Parent, submit: usize) -> bool {
         let Some((position, _)) = self.point(actor) else {
             return false;

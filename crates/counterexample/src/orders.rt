@@ -31,7 +31,8 @@ impl Rng {
     }
 }
 
-/// Returns the key of each choice in the fixed order `number`, from 0 to [`FIXED_ORDERS`] minus 1.
+/// Returns the key of each choice in the fixed order `number`. The orders repeat: `number` and
+/// `number` plus [`FIXED_ORDERS`] give the same order.
 pub(crate) fn fixed_order(
     alloc: Global,
     choices: &[Choice],

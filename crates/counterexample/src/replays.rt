@@ -50,7 +50,8 @@ impl<'a> Replay<'a> {
         Ok(replay)
     }
 
-    /// Returns `true` if the replay ended in the violation `wanted` or in a refused submit.
+    /// Returns `true` if the replay ended in the violation `wanted` or in a refused submit. A
+    /// permanent wait is also a [`Violation::StuckNow`].
     pub(crate) fn has_violation(
         &self,
         alloc: Global,

@@ -1,6 +1,7 @@
 //! The search for a witness: several kinds of walks, and then a best-first search. A walk makes one
 //! possible choice after the other. A guided walk makes the choices that lose the least weight
-//! under a vector.
+//! under a vector. A violation is permanent if it is a refused submit, or if jobs wait only for
+//! each other and no later event ends the wait.
 
 ghost use Rattle.std.specs.Prelude.{◌≤◌, IfOk};
 
@@ -17,9 +18,9 @@ use job_bodies::Plan;
 use std::alloc::{AllocError, Global};
 use written_machine::Event;
 
-/// The number of guided walks for each vector that exceeds its bound.
+/// The maximum number of guided walks for each vector that exceeds its bound.
 const GUIDED_WALKS: usize = 256;
-/// The number of walks in random orders.
+/// The maximum number of walks in random orders.
 const RANDOM_WALKS: usize = 1500;
 
 /// A list of events that is probably a witness. [`confirmed`](crate::confirmed) checks whether it
@@ -39,7 +40,8 @@ pub struct SearchResult {
     /// A probable witness, if one was found.
     pub found: Option<CandidateWitness>,
     /// The number of visited states. A state counts each time that it is visited: the initial state
-    /// at the start of each walk and of the best-first search, and each state after a choice.
+    /// at the start of each walk and of the best-first search, and each state after a choice. In
+    /// the best-first search, a refused submit counts too.
     pub states: usize,
 }
 
@@ -143,8 +145,7 @@ impl Search<'_> {
     }
 
     /// Performs guided walks for each vector that exceeds its bound, until one finds a permanent
-    /// violation. Each step of a guided walk makes a possible choice that loses the least weight
-    /// under the vector.
+    /// violation. Together they may visit half of the remaining states.
     fn guided(&mut self, potentials: &[Potential]) -> Result<Option<CandidateWitness>, AllocError> {
         self.reserve_half();
         for potential in potentials {
@@ -174,7 +175,8 @@ impl Search<'_> {
     }
 
     /// Performs the best-first search, which may visit all remaining states, and returns a probable
-    /// witness if it finds a permanent violation.
+    /// witness if it finds a permanent violation. If `stuck_now` is empty, stores in it the events
+    /// of a violation that is not permanent, if the search finds one.
     fn best_first(
         &mut self,
         potentials: &[Potential],
@@ -262,7 +264,8 @@ impl Search<'_> {
     }
 
     /// Returns the rules of the guided walk with this number. The first [`FIXED_ORDERS`] guided
-    /// walks use the fixed orders, and the others use random orders.
+    /// walks use the fixed orders, and the others use random orders. Every second one of the others
+    /// changes its order during the walk.
     fn guided_rules(&mut self, number: usize) -> Result<Rules, AllocError> {
         let mut rules = self.fixed_rules(number)?;
         if number >= FIXED_ORDERS {
@@ -272,8 +275,8 @@ impl Search<'_> {
         Ok(rules)
     }
 
-    /// Returns the rules of the random walk with this number. Seven of eight random walks have few
-    /// clients: 1 to 7 at first, and one more after every 64 walks.
+    /// Returns the rules of the random walk with this number. Seven of eight random walks limit the
+    /// number of clients that move: to 1 to 7 at first, and to one more after every 64 walks.
     fn random_rules(&mut self, number: usize) -> Result<Rules, AllocError> {
         let mut rules = self.fixed_rules(number)?;
         shuffle(&mut rules.keys, &mut self.rng);
@@ -296,8 +299,8 @@ fn longest_walk(plan: &Plan) -> usize {
     room.saturating_mul(12).saturating_add(128) as usize
 }
 
-/// Shortens the script as far as possible, and returns it as a probable witness. The shorter script
-/// ends in the same `violation` or in a refused submit.
+/// Shortens the script, and returns it as a probable witness. The shorter script ends in the same
+/// `violation` or in a refused submit.
 fn answer_of(
     alloc: Global,
     plan: &Plan,

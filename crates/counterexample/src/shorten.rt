@@ -28,7 +28,8 @@ struct Shortener<'a> {
     left: u64,
 }
 
-/// Returns a script that is not longer, and that ends in the same violation or in a refused submit.
+/// Shortens a script that ends in `violation`. The result ends in the same violation or in a
+/// refused submit, and is not longer than `script`.
 pub(crate) fn shorten_script(
     alloc: Global,
     plan: &Plan,
@@ -103,7 +104,8 @@ impl Shortener<'_> {
         Ok(())
     }
 
-    /// Tries, for each event, to remove this event and all later events of its actor.
+    /// Tries, for each event, to remove this event and all later events that are equal to it: the
+    /// later steps of the same actor, or the later takes from the same queue.
     fn with_actors_still(&mut self) -> Result<(), AllocError> {
         for from in (0..self.script.steps.len()).rev() {
             if let Some(act) = self.script.steps.get(from).copied() {
@@ -113,9 +115,10 @@ impl Shortener<'_> {
         Ok(())
     }
 
-    /// Removes the events for which `is_out` returns `true`, if a replay of the other events still
-    /// has the violation and is shorter. Does nothing if the script is longer than the number of
-    /// events that may still be replayed.
+    /// Removes the events for which `is_out` returns `true`, if a replay of the other events is
+    /// shorter than the script and ends in the violation or in a refused submit. Also removes the
+    /// events that the replay skips. Does nothing if the script is longer than the number of events
+    /// that may still be replayed.
     fn try_without<F: Fn(usize, Event) -> bool>(&mut self, is_out: F) -> Result<(), AllocError>
         requires { F.IsAlwaysCallable is_out }
     {

@@ -1,12 +1,14 @@
-//! The vectors whose totals exceed the bounds that the plan's sizes set.
+//! The vectors whose totals exceed the bounds that the plan's sizes set. The standing vector of a
+//! pool bounds the number of its queued jobs, and its blocked vector bounds the number of its jobs
+//! that wait for other jobs.
 
 use job_bodies::Plan;
 use least_vectors::{Kind, Levels, ResizedPlan, reach};
 use std::alloc::{AllocError, Global};
 use weights::Vector;
 
-/// The weights of a vector that exceeds its bound. Walks measure by it how much weight a choice
-/// loses.
+/// The weights of a vector whose total exceeds its bound. A walk uses them to compute how much
+/// weight a choice loses.
 #[derive(Drop)]
 pub(crate) struct Potential {
     pub(crate) workers: Vec<u64>,
@@ -15,7 +17,8 @@ pub(crate) struct Potential {
 }
 
 /// Computes the lightest vectors of each pool, and returns those that are heavier than the plan's
-/// sizes allow. These vectors show where the plan may fail.
+/// sizes allow. These vectors show where the plan may fail. The list is empty if a class of the
+/// plan submits itself, directly or through other classes.
 pub(crate) fn missed_vectors(alloc: Global, plan: &Plan) -> Result<Vec<Potential>, AllocError> {
     let mut vectors = MissedVectors {
         alloc,
@@ -51,7 +54,7 @@ struct MissedVectors {
 
 impl MissedVectors {
     /// Returns `true` if the pool's lightest vector of this kind has a total of at most `limit`.
-    /// Otherwise records that vector, if there is one.
+    /// Otherwise returns `false`, and records that vector if there is one.
     fn holds(
         &mut self,
         growing: &ResizedPlan,
@@ -81,8 +84,8 @@ impl MissedVectors {
     }
 
     /// Gives this rank to each pool that has no rank yet, and whose blocked vector for this rank
-    /// has a total below the pool's core. Returns whether a pool got the rank. If none did, the
-    /// blocked vectors with larger totals remain recorded.
+    /// has a total below the pool's core. Returns whether a pool got the rank. If none did, records
+    /// the blocked vectors with larger totals.
     fn rank_pools(
         &mut self,
         growing: &ResizedPlan,

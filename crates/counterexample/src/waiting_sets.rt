@@ -34,9 +34,10 @@ impl JobSet {
         Ok(members)
     }
 
-    /// Returns a subset whose members still wait only for each other, and from which no member can
-    /// be removed. If `permanent` is `true`, each pool that has a member in its queue must have
-    /// `max` threads. If [`MAX_LOOKS`] is reached first, the subset may have removable members.
+    /// Returns a minimal subset: its members still wait only for each other, and no smaller subset
+    /// except the empty one has this property. If `permanent` is `true`, each pool that has a
+    /// member in its queue must have `max` threads. If [`MAX_LOOKS`] is reached first, the subset
+    /// may not be minimal.
     pub(crate) fn made_least(
         self,
         alloc: Global,
@@ -114,8 +115,8 @@ impl JobSet {
     }
 
     /// Returns, for each pool, whether it is closed. A job in the queue of a closed pool waits only
-    /// for members, because no thread is idle and each running job is a member. If `permanent` is
-    /// `true`, a closed pool must also have `max` threads.
+    /// for members, because no thread of the pool is idle and each of its running jobs is a member.
+    /// If `permanent` is `true`, a closed pool must also have `max` threads.
     fn closed_pools(
         &self,
         alloc: Global,
@@ -140,8 +141,8 @@ impl JobSet {
     }
 
     /// Removes each member that waits for no job or for a job outside the set, and returns `true`
-    /// if it removed one. Visits the jobs from the latest to the first, because each job waits only
-    /// for a job that was created later.
+    /// if it removed one. Visits the jobs from the latest to the first, because a job at a get
+    /// waits for a job that was created after it.
     fn shrink_once(&mut self, machine: &Machine, closed: &[bool]) -> bool {
         let mut changed = false;
         for number in (0..machine.jobs.len()).rev() {

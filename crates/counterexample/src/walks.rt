@@ -16,7 +16,7 @@ use written_machine::Parent;
 /// than every key, so that the keys decide only among equal losses.
 const FOR_A_LOSS: u64 = 10_000_000_000_000;
 
-/// The violation in which a list of events ends.
+/// The violation in which a list of events ends. It is *permanent* unless it is `StuckNow`.
 #[derive(Clone, Copy, PartialEq, Eq)]
 pub(crate) enum Violation {
     /// The last event is a refused submit.
@@ -32,7 +32,7 @@ pub(crate) enum Violation {
 #[derive(Drop)]
 pub(crate) struct Rules {
     /// The key of each choice. Of the possible choices that lose the least weight, the walk makes
-    /// the one with the least key. Without a vector no choice loses weight.
+    /// the one with the least key. In a walk without a vector, no choice loses weight.
     pub(crate) keys: Vec<u64>,
     /// The maximum number of clients that move.
     pub(crate) max_active_clients: usize,
@@ -71,14 +71,16 @@ pub(crate) struct Walk<'a> {
     pub(crate) ready: Vec<Vec<Parent>>,
     /// For each client kind, the number of its clients that have started their bodies.
     pub(crate) begun: Vec<u64>,
-    /// Whether, since this flag was last cleared, an actor has stopped at a get or at its end.
+    /// Whether, since this flag was last cleared, a client or a job has stopped at a get that must
+    /// wait, or a client at the end of its body.
     pub(crate) has_blocked: bool,
 }
 
 /// Performs a walk by these rules, until a submit is refused, a permanent violation is found, no
 /// choice is possible, or the limit of states is reached. `potential` is the vector of a guided
 /// walk. Each step makes a choice, and then performs the steps that are possible without another
-/// choice: work, gets of done jobs, and ends and restarts of bodies.
+/// choice: work, gets of done jobs, and ends and restarts of bodies. If the walk finds only a
+/// violation that is not permanent, its result has the events that lead to that violation.
 pub(crate) fn perform_walk<'a>(
     alloc: Global,
     plan: &'a Plan,
@@ -180,7 +182,9 @@ impl<'a> Walk<'a> {
 
     /// Makes the choice with this index. If an actor that is ready for the choice makes it, `newer`
     /// selects the actor: 0 for the actor that became ready last, 1 for the one before it, and so
-    /// on. If a new client starts or a thread takes a job, `newer` has no effect.
+    /// on. If a new client starts or a thread takes a job, `newer` has no effect. The choice of a
+    /// new client must be possible. If any other choice is not possible, changes nothing and
+    /// returns [`WalkStep::Nothing`].
     pub(crate) fn choose(&mut self, place: usize, newer: usize) -> Result<WalkStep, AllocError> {
         match self.choices.all.get(place).copied() {
             Some(Choice::Begin(kind)) => {
@@ -296,7 +300,8 @@ impl<'a> Walk<'a> {
         Ok(WalkStep::Advanced)
     }
 
-    /// Performs the first submit of a new client. The client is already at that submit.
+    /// Performs the first submit of a new client. The client is at that submit, and no other actor
+    /// became ready for it later.
     fn submit_of(&mut self, client: Parent) -> Result<WalkStep, AllocError> {
         let place = match self.machine.point(client) {
             Some((position, _)) => self.choices.place_of(&self.machine, client, position),
@@ -324,8 +329,9 @@ impl<'a> Walk<'a> {
         Ok(WalkStep::Advanced)
     }
 
-    /// Performs all steps of the actor up to its next submit or to a get that must wait. If the
-    /// actor is a job and ends, continues with the parent, if the parent waited for this job.
+    /// Performs all steps of the actor up to its next submit, to a get that must wait, or to its
+    /// end. An actor that reaches a submit becomes ready for it. If the actor is a job and ends,
+    /// continues with its parent if the parent waited for this job.
     fn settle(&mut self, actor: Parent) -> Result<(), AllocError> {
         let mut actor = actor;
         for _ in 0..u64::MAX {

@@ -28,7 +28,8 @@ pub(crate) struct Attempt {
 
 /// Searches for a certificate, starting with these cores and maximums. The first round without a
 /// pool whose core is large enough skips the `passed_over` pools that need the smallest increases,
-/// and raises the core of the next pool.
+/// and raises the core of the next pool. Returns an obstacle as the error if the attempt finds no
+/// certificate or no sizes for it.
 pub(crate) fn attempt_from(
     alloc: Global,
     cache: &mut VectorCache,

@@ -88,8 +88,8 @@ fn most(plan: &Plan, vector: &Vector, body: &[Action]) -> u64
     most
 }
 
-/// Returns the weight of the actor before the action, given its weight after the action. A
-/// submit adds the weight of the queued job. A get subtracts the weight that it returns, but the
+/// Returns the weight of the actor before the action. `behind` is its weight after the action. A
+/// submit adds the weight of the queued job. A get subtracts the weight of the done job, but the
 /// result is at least `least`.
 fn before(
     plan: &Plan,

@@ -1,4 +1,5 @@
-//! The vector that bounds a pool's queue.
+//! The vector that bounds a pool's queue: a standing vector, which bounds the number of queued
+//! jobs, or a lifetime vector, which bounds the number of jobs that the pool ever accepts.
 
 use crate::found::{AttemptError, Obstacle};
 use crate::pool_threads::PoolThreads;
@@ -11,6 +12,7 @@ use weights::Bound;
 /// Returns the vector that bounds the pool's queue. This is the standing vector, or the lifetime
 /// vector if the lifetime vector requires a smaller increase of the queue. `pool_threads` has the
 /// current core and maximum of this pool, and `maxes` has the current maximums of all pools.
+/// Returns this pool as the obstacle if the search finds no such vector.
 pub(crate) fn bound_of(
     alloc: Global,
     cache: &mut VectorCache,

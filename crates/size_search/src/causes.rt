@@ -79,8 +79,9 @@ fn never_got_by_clients(plan: &Plan) -> Option<Cause>
     None
 }
 
-/// Returns, as a cause, the first submit without a get in the body of one of these classes. Returns
-/// `None` if there is none.
+/// Returns, as a cause, the first submit without a get in the body of a class in
+/// `submitted_classes`. The set must have the classes that repeating clients submit, directly or
+/// through other jobs. Returns `None` if there is none.
 fn never_got_by_jobs(plan: &Plan, submitted_classes: &SubmittedClasses) -> Option<Cause>
     requires { (k : ℕ) → Has submitted_classes.now k ↔ IsSubmitted plan.now (repeated_bodies plan.now) k }
     ensures cause { IfSome result (IsCause plan.now) }

@@ -12,7 +12,8 @@ use weights::{Ranks, Vector};
 
 /// Returns the certificate that results from a [`RankAssignment`] in which every pool has a rank.
 /// The sizes that this certificate needs can be smaller than the sizes of the assignment, so the
-/// caller computes them anew from the plan's sizes.
+/// caller computes them anew from the plan's sizes. Returns an obstacle as the error if a pool has
+/// no rank, or if its bound or blocked vector is not found.
 pub(crate) fn cert_of(
     alloc: Global,
     cache: &mut VectorCache,
@@ -58,7 +59,8 @@ fn pool_certs(
 
 /// Returns the blocked vector that was found for a pool in the round that gave it this rank. The
 /// vector is still valid, because the pool's counted gets are the same as in that round: each pool
-/// that had no rank in that round now has at least this rank.
+/// that had no rank in that round now has at least this rank. Returns the pool as the obstacle if
+/// there is no vector.
 fn blocked_of(
     alloc: Global,
     cache: &VectorCache,

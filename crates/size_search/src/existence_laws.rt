@@ -1,5 +1,6 @@
 //! Laws about the existence of sizes with which a certificate accepts a plan. Each law is the
-//! contract of a function with an empty body.
+//! contract of a function with an empty body. In the steady certificate of a plan, one vector is
+//! both the standing and the blocked vector of every pool.
 
 ghost use Rattle.size_search.specs.NoSizesHelp.{NoSizesHelp};
 ghost use Rattle.size_search.specs.NoSizesHelp.{SizesExist};
@@ -13,8 +14,8 @@ pub fn no_sizes_help()
 
 /// States when a plan has sizes with which some certificate accepts it. Assume that each weight of
 /// its steady certificate is at most `MAX_WEIGHT`, and that the total of its vector is below
-/// `MAX_SIZE`. Then the plan has these sizes exactly when no class submits itself, directly or
-/// through other classes, and no repeating client causes a submit that is never got.
+/// `MAX_SIZE`. Then such sizes exist exactly when no class submits itself, directly or through
+/// other classes, and no repeating client causes a submit that is never got.
 pub fn sizes_exist()
     ensures { SizesExist }
 {}

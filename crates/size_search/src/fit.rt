@@ -20,8 +20,8 @@ use soundness::Note;
 use std::alloc::{AllocError, Global};
 use weights::{Bound, Place, Vector};
 
-/// Returns the core that a pool with this blocked vector needs: one thread more than the number of
-/// jobs that can be blocked.
+/// Returns the core that a pool with this blocked vector needs: 1 more than the vector's total,
+/// which bounds the number of the pool's jobs that wait for other jobs.
 pub(crate) fn core_needed(plan: &Plan, blocked: &Vector) -> u64
     requires well_formed { IsWellFormed plan.now }
     requires fits { IsTrue (vector_fits plan.now blocked.now) }

@@ -18,8 +18,9 @@ pub fn accepted_plans_fit()
     ensures { AcceptedPlansFit }
 {}
 
-/// States that a certificate that accepts a plan also accepts it with other cores and queues. The
-/// assumption is that no core is smaller, and that no limit of the total of a bound is smaller.
+/// States that a certificate that accepts a plan also accepts it with other cores and queues. This
+/// holds if no core becomes smaller, and if no pool then has a smaller limit on the total of its
+/// bound.
 pub fn larger_sizes_are_accepted()
     ensures { LargerSizesAreAccepted }
 {}

@@ -23,7 +23,7 @@ pub enum NoSizes {
     Cause(Cause),
     /// The plan's steady certificate needs sizes above 1,000,000 or has a weight above
     /// [`MAX_WEIGHT`](job_bodies::MAX_WEIGHT), and the first attempt failed at the pool with this
-    /// number. Other sizes can exist.
+    /// number. The number is 0 if it failed at no particular pool. Other sizes can exist.
     TooLarge(usize),
 }
 
@@ -32,7 +32,7 @@ pub enum NoSizes {
 pub(crate) enum Obstacle {
     /// The pool with this number, for which no vector or no size was found.
     Pool(usize),
-    /// Any other point.
+    /// A point for which no pool is named.
     Unknown,
 }
 
@@ -56,7 +56,7 @@ impl Obstacle {
 pub(crate) enum AttemptError {
     /// Memory ran out.
     Memory(AllocError),
-    /// The attempt found no certificate.
+    /// The attempt failed at this point.
     Obstacle(Obstacle),
 }
 

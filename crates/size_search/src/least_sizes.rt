@@ -69,9 +69,8 @@ fn obstacle_of_wide(unfit: Unfit) -> Obstacle {
     }
 }
 
-/// Returns the obstacle that corresponds to the reason why the plan with raised maximums could not
-/// be fitted. A core above its pool's maximum becomes an unknown obstacle, since it need not exceed
-/// `MAX_SIZE`.
+/// Returns the obstacle for the reason why the plan with raised maximums could not be fitted. A
+/// core above its pool's maximum becomes an unknown obstacle, since it need not exceed `MAX_SIZE`.
 fn obstacle_of_fit(unfit: Unfit) -> Obstacle {
     match unfit {
         Unfit::Queue(pool) => Obstacle::Pool(pool),

@@ -20,7 +20,8 @@ pub(crate) fn number_at(numbers: &[u64], place: usize) -> u64
     }
 }
 
-/// Returns the least level that is above the levels of the classes that the body submits.
+/// Returns the least level that is above the levels of the classes that the body submits, or 0 if
+/// it submits none.
 fn level_above(levels: &[u64], body: &[Action]) -> u64
     requires { (k : ℕ) → slice_index levels.now k ≤ MAX_CLASSES }
     ensures { result ≡ spec.level_above levels.now body.now }

@@ -19,21 +19,21 @@ impl PoolThreads {
         }
     }
 
-    /// Returns the sum of the increases of core and maximum that are necessary to make both at
-    /// least this core.
+    /// Returns the amount by which `core` exceeds the current core, plus the amount by which it
+    /// exceeds the maximum. An amount is 0 if `core` is not larger.
     pub(crate) fn shortfall(self, core: u64) -> u64 {
         let max = core.saturating_sub(self.max);
         core.saturating_sub(self.core).saturating_add(max)
     }
 
-    /// Returns the amount by which core exceeds the core of `other`, plus the amount by which the
-    /// maximum exceeds the maximum of `other`. An amount is 0 if the size is not larger.
+    /// Returns the amount by which this core exceeds the core of `other`, plus the amount by which
+    /// this maximum exceeds the maximum of `other`. An amount is 0 if the size is not larger.
     pub(crate) fn growth(self, other: PoolThreads) -> u64 {
         let max = self.max.saturating_sub(other.max);
         self.core.saturating_sub(other.core).saturating_add(max)
     }
 
-    /// Returns core and maximum, each raised to at least this core.
+    /// Returns the core and the maximum, each raised to `core` if it is smaller.
     pub(crate) fn raised(self, core: u64) -> PoolThreads {
         PoolThreads {
             core: self.core.max(core),

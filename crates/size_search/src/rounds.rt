@@ -1,4 +1,5 @@
-//! The rounds in which pools get ranks. In each round, the pools whose cores are large enough for
+//! The rounds in which pools get ranks. The blocked vector of a pool bounds the number of the
+//! pool's jobs that wait for other jobs. In each round, the pools whose cores are large enough for
 //! their blocked vectors get the number of the round as their rank. If there is no such pool, the
 //! round raises the core of one pool.
 
@@ -91,6 +92,7 @@ impl RankAssignment {
 
     /// Gives the rank to one pool: number `choice`, counted from 0, in ascending order of
     /// shortfalls. Raises its core, and if necessary its maximum, to what its blocked vector needs.
+    /// Returns [`Obstacle::Unknown`] as the error if `choice` is not below the number of hits.
     fn assign_one(
         &mut self,
         hits: &[CacheHit],
@@ -109,8 +111,8 @@ impl RankAssignment {
         Ok(())
     }
 
-    /// Returns the obstacle of a round in which each pool needs a core above `MAX_SIZE`. The
-    /// obstacle is the pool with the smallest shortfall.
+    /// Returns the obstacle of a round in which each pool without a rank needs a core above
+    /// `MAX_SIZE`. The obstacle names the pool among them with the smallest shortfall.
     fn obstacle_of(&self, hits: &[CacheHit]) -> Obstacle {
         match self.choice_of(hits, 0) {
             Some(hit) => Obstacle::Pool(hit.pool),
@@ -153,8 +155,7 @@ impl RankAssignment {
     }
 }
 
-/// Returns the core that a pool with this blocked vector needs: one thread more than the number of
-/// jobs that can be blocked.
+/// Returns the core that a pool with this blocked vector needs: 1 more than the vector's total.
 fn core_for(hit: &CacheHit) -> u64 {
     hit.total.saturating_add(1)
 }
@@ -169,10 +170,12 @@ fn within_limit(alloc: Global, hits: &[CacheHit]) -> Result<Vec<CacheHit>, Alloc
 
 /// Gives each pool a rank and a blocked vector, starting with these cores and maximums. If
 /// `lending` is `false`, no workers have weight in the vectors. In each round, all pools whose core
-/// is large enough get the rank. If there are none, raises the core of the pool with the smallest
-/// shortfall (the increase of its core plus the increase of its maximum), and gives the rank to
-/// this pool. The first time that this happens, skips the `passed_over` pools with the smallest
-/// shortfalls, and raises the core of the next pool.
+/// is large enough get the number of the round as their rank. If there are none, raises the core of
+/// the pool with the smallest shortfall (the increase of its core plus the increase of its
+/// maximum), and gives the rank to this pool. The first time that this happens, skips the
+/// `passed_over` pools with the smallest shortfalls, and raises the core of the next pool. Returns
+/// an obstacle as the error if each pool without a rank needs a core above `MAX_SIZE`, or if there
+/// are at most `passed_over` pools to choose from.
 pub(crate) fn assign_ranks(
     alloc: Global,
     cache: &mut VectorCache,
@@ -206,7 +209,8 @@ pub(crate) fn assign_ranks(
 /// Repeats the rounds until no maximum grows, and returns the last assignment. The repetition is
 /// needed because a larger maximum can increase totals: a pool whose workers have weight adds this
 /// weight once for each of its threads. The last repetition that is allowed gives workers no
-/// weight, so that totals no longer depend on maximums.
+/// weight, so that totals no longer depend on maximums. `passed_over` applies only to the first
+/// execution of the rounds, and the field `choices` of the result is from it.
 pub(crate) fn assign_ranks_to_fixpoint(
     alloc: Global,
     cache: &mut VectorCache,

@@ -51,8 +51,8 @@ fn set_class_row(
     Ok(true)
 }
 
-/// Sets the row of the class if the class has this level. Returns `false` if a weight in the row is
-/// above `MAX_WEIGHT`.
+/// Sets the row of the class if the class has this level, and otherwise does nothing. If a weight
+/// in the row is above `MAX_WEIGHT`, changes nothing and returns `false`.
 fn set_row_of_level(
     alloc: Global,
     plan: &Plan,
@@ -78,7 +78,8 @@ fn set_row_of_level(
     }
 }
 
-/// Sets the rows of the classes of this level. Returns `false` if a weight is above `MAX_WEIGHT`.
+/// Sets the rows of the classes of this level. Stops and returns `false` at the first row with a
+/// weight above `MAX_WEIGHT`.
 fn set_level_rows(
     alloc: Global,
     plan: &Plan,
@@ -103,7 +104,7 @@ fn set_level_rows(
     Ok(true)
 }
 
-/// Creates a vector with an empty row for each class.
+/// Creates a vector with an empty row for each class, and without weights for workers and clients.
 fn no_jobs(alloc: Global, plan: &Plan) -> Result<Vector, AllocError>
     ensures { IfOk result (λ jobs. IsComputedUpTo plan.now jobs 0 0) }
 {
@@ -118,8 +119,9 @@ fn no_jobs(alloc: Global, plan: &Plan) -> Result<Vector, AllocError>
     })
 }
 
-/// Returns the rows of all classes, computed from the lowest level to the highest, or `None` if a
-/// weight is above `MAX_WEIGHT`.
+/// Returns a vector with the rows of all classes, and without weights for workers and clients.
+/// Computes the rows from the lowest level to the highest. Returns `None` if a weight is above
+/// `MAX_WEIGHT`.
 pub(crate) fn jobs_of(
     alloc: Global,
     plan: &Plan,

@@ -23,12 +23,13 @@ use least_vectors::Levels;
 use std::alloc::{AllocError, Global};
 
 /// The maximum number of further attempts that raise another pool first. It also limits the
-/// attempts that reset one pool to its declared sizes, if the plan has more than [`FEW_POOLS`]
-/// pools.
+/// attempts that reset one pool to its declared core and maximum, if the plan has more than
+/// [`FEW_POOLS`] pools.
 const FURTHER_ATTEMPTS: usize = 3;
 
 /// The number of pools up to which one further attempt is made for each raised pool, with this pool
-/// reset to its declared sizes. In a plan with more pools, only the most raised pools are reset.
+/// reset to its declared core and maximum. In a plan with more pools, only the most raised pools
+/// are reset.
 const FEW_POOLS: usize = 8;
 
 /// Searches for sizes with which a certificate accepts the plan, with few and small increases. If
@@ -38,8 +39,8 @@ const FEW_POOLS: usize = 8;
 /// certificate. If no pool has a large enough core in a round, the attempt raises the core of the
 /// pool that needs the smallest increase. After the rounds it computes the queues, and reduces all
 /// sizes to what the certificate needs. Further attempts raise another pool first, or start with
-/// one pool reset to its declared sizes. The result is the attempt with the smallest sum of
-/// increases. If no attempt succeeds, the result is the plan's steady certificate with the least
+/// one pool reset to its declared core and maximum. The result is the attempt with the smallest sum
+/// of increases. If no attempt succeeds, the result is the plan's steady certificate with the least
 /// sizes for it. A new search finds a certificate of the plan with the returned sizes, unless the
 /// steady certificate is too large.
 ///
@@ -163,7 +164,8 @@ fn best_from_declared(
 }
 
 /// Returns the cheapest of `best` and of further attempts. Each further attempt starts with the
-/// sizes of `best`, with one of the most raised pools reset to its declared sizes.
+/// cores and maximums of the best attempt so far, with one of the most raised pools reset to its
+/// declared ones.
 fn improved_attempt(
     alloc: Global,
     cache: &mut VectorCache,

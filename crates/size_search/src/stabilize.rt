@@ -30,11 +30,12 @@ enum Recheck {
     Nothing,
 }
 
-/// Returns the plan with these sizes if a new search finds a certificate that accepts it. If the
-/// new search finds a certificate that needs larger sizes, repeats this with the larger sizes, at
-/// most [`MAX_TURNS`] times. Otherwise returns the plan with the sizes for its steady certificate,
-/// with which the search always finds a certificate. If those sizes are too large, returns the plan
-/// with the current sizes.
+/// Returns `fit`, the plan with the sizes that were found, if no size has grown or if a new search
+/// finds a certificate that accepts `fit`. The result keeps `cert` as its certificate. If the new
+/// search finds a certificate that needs larger sizes, repeats this with the larger sizes and that
+/// certificate, at most [`MAX_TURNS`] times. Otherwise returns the plan with the sizes for its
+/// steady certificate, with which the search always finds a certificate. If those sizes are too
+/// large, returns the plan with the current sizes.
 pub(crate) fn stabilize(
     alloc: Global,
     plan: &Plan,

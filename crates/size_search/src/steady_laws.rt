@@ -3,10 +3,11 @@
 
 ghost use Rattle.size_search.specs.SteadyLaws.{SteadyCertificatesAccept};
 
-/// States when the steady certificate accepts its plan. Assume that no class submits itself, that
-/// no repeating client causes a submit that is never got, and that the weights are within their
-/// limit. Then only conditions on the certificate's total can fail, so the certificate accepts the
-/// plan exactly when every queue is at least the total and every core is larger than the total.
+/// States when the steady certificate accepts its plan. Assume that no class submits itself,
+/// directly or through other classes, that no repeating client causes a submit that is never got,
+/// and that the weights are within their limit. Then only conditions on the certificate's total can
+/// fail, so the certificate accepts the plan exactly when every queue is at least the total and
+/// every core is larger than the total.
 pub fn steady_certificates_accept()
     ensures { SteadyCertificatesAccept }
 {}

@@ -78,8 +78,8 @@ impl SubmittedClasses {
         Ok(())
     }
 
-    /// Adds the classes that the body of a pending class submits. Does nothing if no class is
-    /// pending.
+    /// Scans the body of one pending class, and adds the classes that it submits. Does nothing if
+    /// no class is pending.
     fn follow(&mut self, plan: &Plan) -> Result<(), AllocError>
         requires { length self.old.is_found.items ≡ length plan.now.classes }
         ensures reaching { OnOk result

@@ -10,8 +10,9 @@ use weights::submitted_class;
 /// known plans need less than a quarter of it.
 const MAX_VECTORS: usize = 32_768;
 
-/// The kind of a vector and, for a blocked vector, its counted gets and lenders. Together with the
-/// other fields of [`CacheKey`], this determines a pool's lightest vector.
+/// The kind of a vector and, for a blocked vector, its counted gets and whether the workers of
+/// other pools can have weight. Together with the other fields of [`CacheKey`], this determines a
+/// pool's lightest vector.
 #[derive(PartialEq, Drop)]
 enum VectorKey {
     Standing,
@@ -133,8 +134,9 @@ impl<'a> VectorCache<'a> {
 
     /// Returns the cache hit of the pool's lightest vector of this kind for these maximums, and
     /// computes the vector if the cache does not have it. The search for a vector stops when its
-    /// total is at most `enough`. Returns [`Obstacle::Unknown`] as the error if a vector must be
-    /// computed and [`MAX_VECTORS`] have been computed already.
+    /// total is at most `enough`. The hit is empty if the search finds no vector, or if there is no
+    /// such pool. Returns [`Obstacle::Unknown`] as the error if a vector must be computed and
+    /// [`MAX_VECTORS`] have been computed already.
     pub(crate) fn lightest(
         &mut self,
         alloc: Global,
