@@ -37,7 +37,7 @@ impl LatestJobs {
     }
 
     /// Returns the number of the latest job that the actor created by the submit at this position,
-    /// if the map has one.
+    /// or `None` if the map has no entry for this submit.
     #[inline(always)]
     pub(crate) fn get(&self, actor: Parent, submit: usize) -> Option<usize>
         ensures { result ≡ found self.now actor submit }

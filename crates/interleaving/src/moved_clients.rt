@@ -12,8 +12,8 @@ use written_machine::ClientState;
 
 /// A map from client numbers to the states of the clients that have moved.
 ///
-/// Most clients make their first moves in the order of their numbers. These clients are in the
-/// vector `front`. All other clients that have moved are in the map.
+/// The vector `front` has the clients that made their first moves in the order of their numbers,
+/// starting with client 0. All other clients that have moved are in the map `others`.
 #[derive(Drop)]
 pub(crate) struct MovedClients {
     front: Vec<ClientState>,
