@@ -46,11 +46,13 @@ use std::thread::Threads;
 ///   sink that fail.
 /// - `refute`, `refute head` and `refute bundle`: the output of `refute` as a description, the
 ///   first line of it, and the output as a bundle. `refute briefly` is the first line with a limit
-///   of one state. `refute and replay` is the output of `replay` for the bundle.
+///   of one state. `refute and replay` is the output of `replay` for the bundle, or the output of
+///   `refute` if it writes no bundle.
 /// - `ask` and `ask strict`: the output of `ask`. `ask head` is the first line of it. For `ask
 ///   with` and `ask with strict`, the input is a bundle of a plan and a certificate. `ask json`,
 ///   `ask json strict`, `ask json with`, `ask dot`, `ask github`, `ask github with`, `ask sarif`
-///   and `ask sarif with` are the same in another format.
+///   and `ask sarif with` are the same in another format. `ask html` is the JSON object in the HTML
+///   page.
 /// - `sizes`: the lines of the sizes that the search finds, without a search for a certificate
 ///   first. They have no exit status.
 pub fn answered<R: Threads + Wait + Sync>(

@@ -23,7 +23,9 @@ pub struct Case<'a> {
 }
 
 impl Case<'_> {
-    /// Appends a note to the answer for each failing call with an unexpected result.
+    /// Runs the command with a source that fails at one call, with a sink that fails at one call, and
+    /// with a writer that accepts no byte from one call on, for each call in turn. Appends a note to
+    /// the answer for each unexpected result.
     pub fn push_differences(
         &self,
         alloc: Global,
