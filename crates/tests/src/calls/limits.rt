@@ -32,8 +32,8 @@ impl Source for Failing {
     }
 }
 
-/// The program reports the fault of a source that fails after 2,097,155 bytes. After 2,097,156 bytes
-/// it makes no further call, so it reports that the input is too long.
+/// If a source fails after 2,097,155 bytes, the program reports that it failed. After 2,097,156
+/// bytes, the program makes no further call, and reports that the input is too long.
 #[test]
 fn a_source_that_fails_at_the_limit(rt: HostRuntime) -> Result<(), Fail> {
     for (left, ended, written) in [

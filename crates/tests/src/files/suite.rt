@@ -15,8 +15,8 @@ pub trait Suite {
 }
 
 /// Runs all inputs in the files. For each unexpected answer, prints the name of the row, the place
-/// of the input, the answer and the expected answer. Then prints the number of inputs and the number
-/// of unexpected answers.
+/// of the input, the answer and the expected answer. Then prints the number of inputs and the
+/// number of unexpected answers.
 pub fn run_files<S: Suite, R: Files + Print + AllocGlobal>(
     rt: &R,
     suite: &S,

@@ -58,8 +58,8 @@ pub fn refuted_bundle<R: Threads + Wait + Sync>(
     output_of(rt, alloc, BUNDLE, plan)
 }
 
-/// Returns the output of `replay` for the bundle that `refute` writes for a plan's text. If `refute`
-/// writes no bundle, returns its output.
+/// Returns the output of `replay` for the bundle that `refute` writes for a plan's text. If
+/// `refute` writes no bundle, returns its output.
 pub fn refuted_and_replayed<R: Threads + Wait + Sync>(
     rt: &R,
     alloc: Global,

@@ -23,9 +23,9 @@ pub struct Case<'a> {
 }
 
 impl Case<'_> {
-    /// Runs the command with a source that fails at one call, with a sink that fails at one call, and
-    /// with a writer that accepts no byte from one call on, for each call in turn. Appends a note to
-    /// the answer for each unexpected result.
+    /// Runs the command again for each call of the source and of the sink. Each time, that call
+    /// fails, or the sink accepts no byte in that call and later calls. Appends a note to the
+    /// answer for each unexpected result.
     pub fn push_differences(
         &self,
         alloc: Global,
