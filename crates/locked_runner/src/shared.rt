@@ -190,8 +190,8 @@ impl<'a> Shared<'a> {
         self.wake_all();
     }
 
-    /// Makes every thread stop before the run is complete, because something that a thread needs
-    /// was not found.
+    /// Makes every thread stop before the run is complete, and records no fault. The check of the
+    /// results then finds that the run is not complete.
     pub(crate) fn end<R: Wait>(&self, rt: &R) {
         let guard = self.machine.lock(rt);
         self.progress.lock(rt).end();
