@@ -49,6 +49,7 @@ impl LatestJobs {
     }
 
     /// Reserves memory for one more job of the actor, which [`set`](LatestJobs::set) then records.
+    /// Returns `AllocError` if there is not enough memory.
     #[inline(always)]
     pub(crate) fn reserve_for(&mut self, actor: Parent) -> Result<(), AllocError>
         ensures found { (a : Parent) (t : ℕ) → found self.new a t ≡ found self.old a t }

@@ -51,7 +51,8 @@ impl MovedClients {
         }
     }
 
-    /// Reserves memory for the first move of one more client.
+    /// Reserves memory for the first move of one more client. Returns `AllocError` if there is not
+    /// enough memory.
     pub(crate) fn reserve(&mut self) -> Result<(), AllocError>
         ensures stay { (q : ℕ) → moved_at self.new q ≡ moved_at self.old q }
         ensures room { OnOk result (0 < self.new.room) }

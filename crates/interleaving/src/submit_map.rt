@@ -66,7 +66,8 @@ impl SubmitMap {
         get_other(&self.others, call)
     }
 
-    /// Reserves memory for one more call, which [`set`](SubmitMap::set) then records.
+    /// Reserves memory for one more call, which [`set`](SubmitMap::set) then records. Returns
+    /// `AllocError` if there is not enough memory.
     #[inline(always)]
     pub(crate) fn reserve(&mut self) -> Result<(), AllocError>
         ensures numbers { (q : ℕ × ℕ) → number_at self.new q ≡ number_at self.old q }
