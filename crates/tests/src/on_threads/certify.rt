@@ -1,4 +1,4 @@
-//! Inputs of the command `certify`.
+//! Inputs of the command `certify`. The exit status or the fault of the command follows its output.
 
 use crate::on_threads::ended::Ended;
 use crate::on_threads::failing;

@@ -1,4 +1,4 @@
-//! Inputs of the command `refute`.
+//! Inputs of the command `refute`. The exit status or the fault of the command follows its output.
 
 use crate::on_threads::ended::Ended;
 use crate::on_threads::fit::output_of;

@@ -1,4 +1,4 @@
-//! Inputs of the command `run`.
+//! Inputs of the command `run`. The exit status or the fault of the command follows its output.
 
 ghost use Rattle.std.specs.Prelude.{◌≤◌};
 
