@@ -2,8 +2,8 @@
 
 use crate::ThreadFault;
 
-/// The progress of a run: the number of clients that have not finished, whether the run stops early,
-/// and the fault that a thread reported.
+/// The progress of a run: the number of clients that have not finished, whether the run stops
+/// early, and the fault that a thread reported.
 #[derive(Drop)]
 pub(crate) struct Progress {
     /// The number of clients that have an event left.

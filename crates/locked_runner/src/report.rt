@@ -61,7 +61,7 @@ impl RunFault {
     }
 }
 
-/// The reason why the threads of a run end early.
+/// A fault that a thread of a run reports. All threads of the run then end early.
 #[derive(Clone, Copy, PartialEq, Eq)]
 pub enum ThreadFault {
     /// Memory ran out, or a thread could not be started.
