@@ -20,8 +20,8 @@ pub(crate) struct PoolActivity {
 }
 
 impl PoolActivity {
-    /// Returns the activity after a member in this phase is added. If `is_new` is `false`, the
-    /// member was added before, and `at_work` does not change.
+    /// Returns the activity after a member in this phase is added. A done member changes nothing.
+    /// If `is_new` is `false`, the member was added before, and `at_work` does not change.
     fn with(self, phase: Phase, is_new: bool) -> PoolActivity
         requires { self.at_work + 1 < 2 ^ 64 }
         ensures { result ≡ activity_with self phase is_new }
@@ -43,7 +43,8 @@ impl PoolActivity {
 impl World {
     ghost use Rattle.interleaving.specs.OfPlan.{IsReachableView};
 
-    /// Returns the activity of the members in each pool, by pool number. Looks up each member once.
+    /// Returns the activity of the members in each pool, by pool number. A member that occurs more
+    /// than once in the list counts once, and numbers without a live job do not count.
     pub(crate) fn activities(&self, plan: &Plan, members: &Members<'_>) -> [PoolActivity; MAX_POOLS]
         requires of_plan { IsReachableView plan.now self.now.view }
         requires well_formed { IsWellFormed plan.now }

@@ -114,6 +114,11 @@ impl JobTable {
     }
 
     /// Reserves memory for one more job, which [`push`](JobTable::push) then adds.
+    ///
+    /// # Errors
+    ///
+    /// Returns `AllocError` if there is not enough memory, or if the number of jobs ever created
+    /// would overflow.
     pub(crate) fn reserve(&mut self) -> Result<(), AllocError>
         ensures items { self.new.items ≡ self.old.items }
         ensures places { self.new.places ≡ self.old.places }

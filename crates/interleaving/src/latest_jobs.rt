@@ -37,7 +37,7 @@ impl LatestJobs {
     }
 
     /// Returns the number of the latest job that the actor created by the submit at this position,
-    /// if the map has one.
+    /// or `None` if the map has no entry for this submit.
     #[inline(always)]
     pub(crate) fn get(&self, actor: Parent, submit: usize) -> Option<usize>
         ensures { result ≡ found self.now actor submit }
@@ -49,6 +49,7 @@ impl LatestJobs {
     }
 
     /// Reserves memory for one more job of the actor, which [`set`](LatestJobs::set) then records.
+    /// Returns `AllocError` if there is not enough memory.
     #[inline(always)]
     pub(crate) fn reserve_for(&mut self, actor: Parent) -> Result<(), AllocError>
         ensures found { (a : Parent) (t : ℕ) → found self.new a t ≡ found self.old a t }

@@ -24,8 +24,9 @@ pub fn unfinished_jobs_are_live()
     ensures { UnfinishedJobsAreLive }
 {}
 
-/// Proves that the test on the live view accepts a set of job numbers exactly when the set is a
-/// waiting set. This holds in every reachable state of a well-formed plan.
+/// Proves that a live view determines the waiting sets. In every reachable state of a well-formed
+/// plan, a set of job numbers is a waiting set of the live view exactly when it is a waiting set of
+/// the state.
 pub fn waiting_sets_are_seen()
     ensures { WaitingSetsAreSeen }
 {}

@@ -87,7 +87,8 @@ impl LiveJobs {
         self.latest.get(actor, submit)
     }
 
-    /// Moves the unfinished job with this number to this position of its body.
+    /// Moves the unfinished job with this number to this position of its body. If the job was
+    /// queued, it is then running.
     pub fn go_to(&mut self, number: usize, position: usize)
         requires { may_get_in self.old.jobs (Job number) ≡ true }
         ensures jobs { self.new.jobs ≡ with_phase number (At position) self.old.jobs }
@@ -127,7 +128,8 @@ impl LiveJobs {
     }
 
     /// Adds a new job. If the job with number `latest` is a done job of the same submit, removes
-    /// that job. No other job of this submit may be done. Memory must have been reserved.
+    /// that job. No other job of this submit may be done. [`LiveJobs::reserve_for`] must have
+    /// reserved memory.
     pub fn create(&mut self, latest: Option<usize>, job: JobView)
         requires room { 0 < room_for self.old.room job.parent }
         requires parent { WasMade self.old.jobs job.parent }

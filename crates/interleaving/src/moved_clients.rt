@@ -12,8 +12,8 @@ use written_machine::ClientState;
 
 /// A map from client numbers to the states of the clients that have moved.
 ///
-/// Most clients make their first moves in the order of their numbers. These clients are in the
-/// vector `front`. All other clients that have moved are in the map.
+/// The vector `front` has the clients that made their first moves in the order of their numbers,
+/// starting with client 0. All other clients that have moved are in the map `others`.
 #[derive(Drop)]
 pub(crate) struct MovedClients {
     front: Vec<ClientState>,
@@ -51,7 +51,8 @@ impl MovedClients {
         }
     }
 
-    /// Reserves memory for the first move of one more client.
+    /// Reserves memory for the first move of one more client. Returns `AllocError` if there is not
+    /// enough memory.
     pub(crate) fn reserve(&mut self) -> Result<(), AllocError>
         ensures stay { (q : ℕ) → moved_at self.new q ≡ moved_at self.old q }
         ensures room { OnOk result (0 < self.new.room) }

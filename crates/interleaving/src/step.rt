@@ -24,8 +24,9 @@ impl World {
     /// Performs the event and returns its outcome. If the event is not possible, changes nothing
     /// and returns `None`.
     ///
-    /// An event belongs to one actor or one pool: an actor performs its next action, an idle worker
-    /// takes the head of its pool's queue, or an idle worker ends.
+    /// An event belongs to one actor or one pool. An actor performs its next action. At the end of
+    /// its body, a job finishes, and a client whose kind repeats starts again. In a pool, an idle
+    /// worker takes the head of the queue, or an idle worker ends.
     ///
     /// # Errors
     ///

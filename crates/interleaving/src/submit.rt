@@ -19,9 +19,15 @@ use written_machine::{Outcome, Parent};
 impl World {
     ghost use Rattle.interleaving.specs.World.{ReusesPlaces};
 
-    /// Performs a submit of the actor: offers a job of the class to the class's pool. `next` has
-    /// the position of the submit in the actor's body. If the body has a get of this submit, no
-    /// live job of this submit may exist yet. An error leaves the world unchanged.
+    /// Performs a submit of the actor: offers a job of the class to the class's pool. If the pool
+    /// accepts the job, creates it and moves the actor to its next position. Otherwise counts the
+    /// refusal, and the actor does not move. `next` has the position of the submit in the actor's
+    /// body. If the body has a get of this submit, no live job of this submit may exist yet.
+    ///
+    /// # Errors
+    ///
+    /// Returns `AllocError` if there is not enough memory, or if the number of jobs or of refusals
+    /// would overflow. The world is then unchanged.
     pub(crate) fn submit(
         &mut self,
         plan: &Plan,

@@ -18,7 +18,8 @@ const TABLE_LEN: usize = 4096;
 /// A map from submit calls to job numbers.
 ///
 /// The index of a call in `table` is the actor's number modulo the length of `table`. If another
-/// call occupies the entry at this index, the call is in `others`. A look-up reads `table` first.
+/// call occupies the entry at this index when a call is recorded, the call is stored in `others`. A
+/// look-up reads `table` first.
 #[derive(Drop)]
 pub(crate) struct SubmitMap {
     // The entries of the table, of which there are none before the first call of `reserve`.
@@ -46,7 +47,8 @@ impl SubmitMap {
         }
     }
 
-    /// Returns the number of the job that the call created, if the map contains the call.
+    /// Returns the number of the job that the call created, or `None` if the map does not contain
+    /// the call.
     #[inline(always)]
     pub(crate) fn get(&self, call: SubmitKey) -> Option<usize>
         ensures { result ≡ number_at self.now call }
@@ -64,7 +66,8 @@ impl SubmitMap {
         get_other(&self.others, call)
     }
 
-    /// Reserves memory for one more call, which [`set`](SubmitMap::set) then records.
+    /// Reserves memory for one more call, which [`set`](SubmitMap::set) then records. Returns
+    /// `AllocError` if there is not enough memory.
     #[inline(always)]
     pub(crate) fn reserve(&mut self) -> Result<(), AllocError>
         ensures numbers { (q : ℕ × ℕ) → number_at self.new q ≡ number_at self.old q }
@@ -76,7 +79,8 @@ impl SubmitMap {
         self.others.reserve(1)
     }
 
-    /// Records the number of the job that the call created. Memory must have been reserved.
+    /// Records the number of the job that the call created, in place of the call's earlier number.
+    /// Memory must have been reserved.
     #[inline(always)]
     pub(crate) fn set(&mut self, call: SubmitKey, number: usize)
         requires { 0 < self.old.room }

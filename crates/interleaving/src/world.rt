@@ -18,9 +18,10 @@ use std::marker::Model;
 /// The pools, the clients and the live jobs of a plan, and the number of refused submits.
 ///
 /// A job is live while it is queued or running, and while it is done and its parent may still get
-/// it. Other jobs occupy no memory: a new job reuses the place of a job that is no longer live. A
-/// client occupies no memory before its first step. The memory therefore depends on the number of
-/// pools, client kinds, live jobs and clients that moved, and not on the sizes in the plan.
+/// it. A new job reuses the place of a job that is no longer live, and a client occupies no memory
+/// before its first step. The memory therefore depends on the numbers of pools, client kinds and
+/// clients that have moved, and on the greatest number of jobs that were live at the same time. It
+/// does not depend on the sizes in the plan.
 #[derive(Drop)]
 pub struct World {
     pub(crate) jobs: LiveJobs,

@@ -106,7 +106,7 @@ fn events_made(alloc: Global, clients: usize, history: &[Event]) -> Result<Vec<u
 }
 
 /// Adds 1 to the count of the client that performed the event. Does nothing if no client performed
-/// it. The counts saturate at `u64::MAX`.
+/// it, or if `made` has no count for the client. The counts saturate at `u64::MAX`.
 fn count_event(made: &mut [u64], event: Event)
     ensures as_many { length made.new ≡ length made.old }
     ensures made { (c : ℕ)

@@ -24,7 +24,9 @@ pub struct RunNumbers {
 }
 
 /// Returns the numbers of a run of the plan in which each repeating client performs its body
-/// `rounds` times. With 0 rounds, a repeating client contributes nothing.
+/// `rounds` times. With 0 rounds, a repeating client contributes nothing. Jobs of jobs are counted
+/// for as many generations as the greatest level in `ranks`. If the rows of the ranks hold, these
+/// are all jobs.
 ///
 /// # Errors
 ///
@@ -171,7 +173,7 @@ fn units_in(body: &[Action]) -> u64
 }
 
 /// Returns a sum over all submits of the body. Each submit adds the number that `numbers` has for
-/// the submitted class.
+/// the submitted class, or 0 if it has none.
 fn submitted(body: &[Action], numbers: &[u64]) -> u64
     ensures { result ≡ capped (spec.submitted (slice_index numbers.now) body.now) }
 {
@@ -220,7 +222,7 @@ fn greatest(levels: &[u64]) -> u64
 
 /// Returns, for each class, the quantity that `measure` selects, summed over one job and the jobs
 /// that it causes. `numbers` has these sums for a number of generations of jobs, and the result
-/// includes one generation more.
+/// includes one generation more. If `numbers` is empty, the result does not include caused jobs.
 fn add_generation(
     alloc: Global,
     plan: &Plan,

@@ -82,8 +82,9 @@ pub fn kinds_of(alloc: Global, plan: &Plan) -> Result<Vec<usize>, AllocError>
     Ok(kinds)
 }
 
-/// Returns the owner of each list of receipts. There is one list for each client, and then there
-/// are `max` lists for each pool, one for each of its threads.
+/// Returns the owner of each list of receipts of a run. There is one list for each client, and then
+/// there are `max` lists for each pool, one for each of its threads. `kinds` has one entry for each
+/// client (see [`kinds_of`]).
 ///
 /// # Errors
 ///

@@ -2,8 +2,8 @@
 
 use crate::ThreadFault;
 
-/// The progress of a run: the number of clients that have not finished, and whether the run stops
-/// early.
+/// The progress of a run: the number of clients that have not finished, whether the run stops
+/// early, and the fault that a thread reported.
 #[derive(Drop)]
 pub(crate) struct Progress {
     /// The number of clients that have an event left.
@@ -39,8 +39,8 @@ impl Progress {
         self.clients_left = self.clients_left.saturating_sub(1);
     }
 
-    /// Stops the run before it is complete. The check of the results then finds that the history is
-    /// not complete.
+    /// Stops the run before it is complete. The check of the results then finds that the run is not
+    /// complete.
     pub(crate) fn end(&mut self) {
         self.is_over = true;
     }

@@ -13,10 +13,10 @@ use interleaving::Event;
 use job_bodies::Plan;
 use std::alloc::{AllocError, Global};
 
-/// Returns `true` if the receipts of each list are in ascending order and belong to the list's
-/// owner. `pools` has, for each event of the history, the pool of the job that performed it. A
-/// receipt belongs to an owner if its event is the history's event at its number, and this event
-/// belongs to the owner.
+/// Returns `true` if there is one list for each owner in `of_lists`, and the receipts of each list
+/// are in ascending order and belong to the list's owner. A receipt belongs to an owner if its
+/// event is the history's event at its number, and this event belongs to the owner. `pools` has,
+/// for each event of the history, the pool of the job that performed it, or 0 if no job did.
 pub(crate) fn lists_fit(
     plan: &Plan,
     history: &[Event],
@@ -131,7 +131,8 @@ pub(crate) fn each_once(
     Ok(all_are_one(&marks))
 }
 
-/// Adds 1, for each receipt, to the mark at the receipt's number. A mark of 255 does not change.
+/// Adds 1, for each receipt, to the mark at the receipt's number, if there is such a mark. A mark
+/// of 255 does not change.
 fn mark_all(marks: &mut [u8], list: &[CompactReceipt])
     ensures len { length marks.new ≡ length marks.old }
     ensures marks { (k : ℕ)

@@ -31,7 +31,8 @@ pub(crate) struct Replay {
 ///
 /// # Errors
 ///
-/// Returns `AllocError` if there is not enough memory for the world before its first event.
+/// Returns `AllocError` if there is not enough memory for the world before its first event, or for
+/// the list of pools.
 pub(crate) fn replay_history(
     alloc: Global,
     plan: &Plan,

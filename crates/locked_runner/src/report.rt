@@ -37,10 +37,10 @@ impl Model for RunReport {
 /// The reason why a run is not complete: a fault number from `support`, and the length of a legal
 /// prefix of the history.
 ///
-/// - 20: memory ran out.
+/// - 20: memory ran out, or a thread could not be started.
 /// - 40: the run exceeds a limit, and nothing was started.
-/// - 41: the receipts of a list are not in ascending order, or one of them does not match the
-///   history, or belongs to another client or pool than the list.
+/// - 41: the number of lists is wrong, or the receipts of a list are not in ascending order, or one
+///   of them does not match the history, or belongs to another client or pool than the list.
 /// - 42: the history has an impossible event, or is not complete, or has not exactly one receipt
 ///   for each event, or its number of jobs or units differs from the computed one.
 /// - 43: the gate failed.
@@ -51,7 +51,7 @@ pub struct RunFault {
 }
 
 impl RunFault {
-    /// Creates the fault with this number, for a run that ended before its first event.
+    /// Creates the fault with this number and an empty legal prefix.
     #[tactic(auto, using(crate::proofs::Histories::nothing_is_legal))]
     pub fn at_start(number: u8) -> RunFault
         ensures value { result ≡ record { number = number; events = 0 } }
@@ -61,7 +61,7 @@ impl RunFault {
     }
 }
 
-/// The reason why the threads of a run end early.
+/// A fault that a thread of a run reports. All threads of the run then end early.
 #[derive(Clone, Copy, PartialEq, Eq)]
 pub enum ThreadFault {
     /// Memory ran out, or a thread could not be started.

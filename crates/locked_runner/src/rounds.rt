@@ -14,8 +14,8 @@ pub fn rounds_of_client(client: &Client, rounds: u64) -> u64
     if client.repeat { rounds } else { 1 }
 }
 
-/// Returns the number of events of a client of this kind: those of its rounds, plus a loop event
-/// between consecutive rounds. Returns `None` if the number exceeds `u64::MAX`.
+/// Returns the number of events of a client of this kind: one for each action in each round, plus a
+/// loop event between consecutive rounds. Returns `None` if the number exceeds `u64::MAX`.
 pub(crate) fn events_of_client(client: &Client, rounds: u64) -> Option<u64>
     ensures value { IfSome result (λ events. events ≡ spec.events_of_client rounds client.now) }
     ensures too_many { IfNone result (2 ^ 64 ≤ spec.events_of_client rounds client.now) }

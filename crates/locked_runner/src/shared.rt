@@ -95,7 +95,8 @@ impl<'a> Shared<'a> {
         )
     }
 
-    /// Waits until the event is possible, and performs it. Returns `None` if the run is to stop.
+    /// Waits until the event is possible, performs it and returns its receipt. Returns `None` if
+    /// the run is to stop. Stops the run if memory runs out.
     pub(crate) fn act<R: Wait>(&self, rt: &R, event: Event) -> Option<Receipt<Event>> {
         let mut guard = self.machine.lock(rt);
         for _ in rt.forever() {
@@ -122,7 +123,7 @@ impl<'a> Shared<'a> {
 
     /// Waits for the next job of the pool, and returns it. Jobs that a submit has started come
     /// before the job at the head of the queue. Returns `None` if the run is to stop or is
-    /// complete.
+    /// complete. Stops the run if memory runs out, or if the pool or the job is not found.
     pub(crate) fn next_job<R: Wait>(&self, rt: &R, pool: usize) -> Option<Work> {
         let Some(handoff) = self.handoffs.get(pool) else {
             self.end(rt);
@@ -189,8 +190,8 @@ impl<'a> Shared<'a> {
         self.wake_all();
     }
 
-    /// Makes every thread stop before the run is complete, because something that a thread needs
-    /// was not found.
+    /// Makes every thread stop before the run is complete, and records no fault. The check of the
+    /// results then finds that the run is not complete.
     pub(crate) fn end<R: Wait>(&self, rt: &R) {
         let guard = self.machine.lock(rt);
         self.progress.lock(rt).end();
@@ -229,7 +230,8 @@ impl<'a> Shared<'a> {
         }
     }
 
-    /// Puts the started job into its pool's hand-off queue, and returns the threads to wake.
+    /// Puts the started job into its pool's hand-off queue, and returns the threads to wake. Stops
+    /// the run if the job's pool is not found or memory runs out.
     fn hand_off<R: Wait>(&self, rt: &R, guard: &MachineGuard<'a, '_>, job: usize) -> Wakeup {
         let Some(pool) = self.pool_of(guard, job) else {
             return self.end_without_worker(rt);

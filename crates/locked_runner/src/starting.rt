@@ -15,7 +15,8 @@ use std::thread;
 use std::thread::Threads;
 
 /// Starts a thread for each client and `max` threads for each pool, and returns the results of the
-/// threads after all of them have ended. If a thread cannot be started, the run stops.
+/// threads after all of them have ended. If a thread cannot be started or memory runs out, the run
+/// stops, and the fault in the results is [`ThreadFault::Memory`].
 ///
 /// # Errors
 ///
@@ -72,7 +73,7 @@ pub(crate) fn run_threads<R: Threads + Wait + Sync, G: Gate>(
 }
 
 /// Runs one thread of `owner`, which is a client or a pool, and returns the thread's receipts.
-/// Stops the run if there is not enough memory for the thread.
+/// Stops the run if there is not enough memory for the thread, or if the plan has no such client.
 fn run_one<R: Wait, G: Gate>(
     rt: &R,
     alloc: Global,

@@ -91,7 +91,8 @@ impl<'a, 'b, R: Wait, G: Gate> Runner<'a, 'b, R, G> {
         self.perform_body(&class.body, Actor::Job(job)) && self.act(Event::Job(job))
     }
 
-    /// Performs the actions of a body. Returns `false` if the run is to stop.
+    /// Performs the actions of a body. Calls the gate before each event of a `work` action, and
+    /// stops the run if the gate fails. Returns `false` if the run is to stop.
     fn perform_body(&mut self, body: &[Action], actor: Actor) -> bool {
         for action in body {
             if let Action::Work(units) = action {

@@ -23,8 +23,8 @@
 //! - `^<64 TEXT^>`: the text 64 times. In it, `^#` is the number of the repetition, from 0, and
 //!   `^+` is that number plus 1. `^<to 64 X^>` is the byte X as often as needed for an output of 64
 //!   bytes.
-//! - `^n`, `^r`, `^t` and `^s`, only in inputs: a newline, a carriage return, a tab and a space.
-//!   `^xff` is the byte `ff`.
+//! - `^n`, `^r`, `^t` and `^s`: a newline, a carriage return, a tab and a space. `^xff` is the byte
+//!   `ff`.
 mod certs;
 mod fill;
 mod plans;

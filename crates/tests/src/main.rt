@@ -1,4 +1,6 @@
-//! Tests in files of rows: the inputs in `data/`, with answers written by hand.
+//! Tests of the whole program. `main` runs each suite on its files in `data/`, which have inputs
+//! and expected answers that are written by hand. The modules `calls` and `threads` have the other
+//! tests.
 #![tactic(auto)]
 
 #[cfg(test)]

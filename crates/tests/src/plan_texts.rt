@@ -8,14 +8,16 @@ use crate::plan_texts::answers::answered;
 use crate::plan_texts::lists::{built, written};
 use std::alloc::{AllocError, Global};
 
-/// The suite for texts of plans. The kinds of input are below. If the list gives no other answer,
-/// the answer to an input is its plan or its fault, in one line.
+/// The suite for texts of plans. The answer to an input is its plan or its fault, in one line,
+/// unless this list of the kinds of input says otherwise:
 ///
 /// - `plan`: the text of a plan.
 /// - `spelling`: the text of a plan. The test also reads it with a carriage return before each
-///   newline, and with a byte order mark in addition. All three have the same answer.
+///   newline, and with a byte order mark in addition. If the three answers differ, the answer has
+///   all of them.
 /// - `lists`: the lists of a plan, with a line for each entry.
-/// - `written`: the lists of a plan. The answer is the text that is written for the plan.
+/// - `written`: the lists of a plan. The answer is the text that is written for the plan, or the
+///   fault of the lists.
 /// - `change`: the text of a plan, a line `%%`, and a line `OLD -> NEW`. The text is read with NEW
 ///   in place of OLD.
 pub struct PlanTexts;

@@ -14,19 +14,20 @@ use std::alloc::{AllocError, Global};
 /// plan.
 ///
 /// A line is an event (`client 0`, `job 0`, `take 0` or `retire 0`) or a look-up: `start` prints
-/// all look-ups of the world; `stuck 0 1` tests whether these jobs wait only for each other; and
+/// the results of all look-ups; `stuck 0 1` tests whether these jobs wait only for each other; and
 /// `see client 0` and `see job 0` print a client or a job. Clients, jobs and pools are identified
 /// by their numbers.
 ///
-/// The answer has a line for each line of the input. The line for an event is its outcome, and
-/// after it
+/// The answer has a line for each line of the input: the outcome of the event or the result of the
+/// look-up, followed by
 ///
-/// - each look-up that changed, if the kind is `facts`;
+/// - each result of a look-up that changed, if the kind is `facts`;
 /// - the sets among the first six jobs that wait only for each other, if the kind is `sets`;
 /// - nothing, if the kind is `outcomes`.
 ///
 /// The answer to an input of the kind `counts` is one line: the number of events that were
-/// possible, and the counts of the world after the last event.
+/// possible, and the counts of the world after the last event. If the text of the plan has a fault,
+/// the answer to an input of any kind is the fault.
 pub struct Worlds;
 
 impl Suite for Worlds {

@@ -110,8 +110,8 @@ fn visit_all_counted_rows<C: Counted, V: RowVisitor>(
     }
 }
 
-/// Passes all conditions of the pool's blocked vector to the visitor, in this order: V2 to V7, B1
-/// of each counted get of each class of the pool, B2.
+/// Passes all conditions of the pool's blocked vector to the visitor: first the rows of
+/// [`Vector::visit_rows`], then B1 of each counted get of each class of the pool, then B2.
 pub fn visit_blocked_rows<C: Counted, V: RowVisitor>(
     plan: &Plan,
     pool: usize,
@@ -133,8 +133,8 @@ pub fn visit_blocked_rows<C: Counted, V: RowVisitor>(
     visitor.visit(Row::new(Rule::B2, Place::Total, vector.total(plan), pool.core - 1));
 }
 
-/// Returns the first condition of the pool's blocked vector that fails, in the order V2 to V7, B1,
-/// B2, or `None` if all hold. Allocates no memory.
+/// Returns the first condition of the pool's blocked vector that fails, in the order of
+/// [`visit_blocked_rows`], or `None` if all hold. Allocates no memory.
 pub fn blocked_fault<C: Counted>(
     plan: &Plan,
     pool: usize,

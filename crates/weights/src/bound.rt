@@ -1,4 +1,4 @@
-//! The vector that bounds the queue of a pool, so that the pool never refuses a job.
+//! The vector which shows that a pool never refuses a job.
 
 ghost use Rattle.std.specs.Prelude.{◌≡◌, ◌<◌, IsTrue, length};
 ghost use Rattle.job_bodies.specs.Plan.{pool_at};
@@ -17,8 +17,8 @@ pub enum Bound {
     /// A standing vector. It shows that the number of queued jobs never exceeds the capacity of the
     /// queue.
     Standing(Vector),
-    /// A lifetime vector. It shows that the queue and the threads have room for all jobs that are
-    /// ever submitted to the pool.
+    /// A lifetime vector. It shows that the number of jobs that are ever submitted to the pool is
+    /// at most the number that the pool accepts before it can refuse one.
     Lifetime(Vector),
 }
 

@@ -1,5 +1,5 @@
-//! The conditions of the lifetime vector of a pool: the queue and the threads have room for all
-//! jobs that are ever submitted. [`Rule`] explains the names of the rows.
+//! The conditions of the lifetime vector of a pool, which bounds the number of jobs that are ever
+//! submitted to the pool. [`Rule`] explains the names of the rows.
 
 ghost use Rattle.std.specs.Prelude.{◌≡◌, ◌==◌, ◌<◌, ◌∷◌, [], if◌then◌else◌, IsTrue, Some, length, map, slice_get};
 ghost use Rattle.std.specs.List.{flat_map, enumerate_from};
@@ -40,8 +40,8 @@ fn visit_worker_rows<V: RowVisitor>(plan: &Plan, vector: &Vector, visitor: &mut 
     }
 }
 
-/// Passes row L2 of each of `weights` to the visitor. These are the weights of a job of the class
-/// at each of its points.
+/// Passes one row L2 for each of `weights` to the visitor. `weights` are the weights of a job of
+/// the class: when it is queued, at each position of its body, and when it is done.
 fn visit_l2_rows<V: RowVisitor>(class: usize, weights: &[u64], visitor: &mut V)
     ensures { Visits V.HasSeen visitor.old visitor.new
         (map (λ weight. row L2 (place.Class class) 1 weight) weights.now) }
@@ -84,8 +84,9 @@ fn visit_all_l2_rows<V: RowVisitor>(plan: &Plan, pool: usize, vector: &Vector, v
 }
 
 impl Vector {
-    /// Passes all conditions of the pool's lifetime vector to the visitor, in this order: L1 of
-    /// each pool, V2 to V7 with L5 in place of V5, L2 of each weight of each class of the pool, L3.
+    /// Passes all conditions of the pool's lifetime vector to the visitor: first L1 of each pool,
+    /// then the rows of [`Vector::visit_rows`] with L5 in place of V5, then L2 of each weight of
+    /// each class of the pool, then L3.
     pub fn visit_lifetime_rows<V: RowVisitor>(&self, plan: &Plan, pool: usize, visitor: &mut V)
         requires fits { IsTrue (spec.vector_fits plan.now self.now) }
         requires pool { pool < length plan.now.pools }
@@ -103,8 +104,8 @@ impl Vector {
         ));
     }
 
-    /// Returns the first condition of the pool's lifetime vector that fails, or `None` if all hold.
-    /// Allocates no memory.
+    /// Returns the first condition of the pool's lifetime vector that fails, in the order of
+    /// [`Vector::visit_lifetime_rows`], or `None` if all hold. Allocates no memory.
     pub fn lifetime_fault(&self, plan: &Plan, pool: usize) -> Option<StandingFault>
         requires fits { IsTrue (spec.vector_fits plan.now self.now) }
         requires pool { pool < length plan.now.pools }

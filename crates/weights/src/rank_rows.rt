@@ -127,7 +127,8 @@ fn visit_action_rows<V: RowVisitor>(
     }
 }
 
-/// Passes the rows of class `number` to the visitor: K1, then K2 of each get and K3 of each submit.
+/// Passes the rows of class `number` to the visitor: K1, and then, in the order of the body, K2 of
+/// each get and K3 of each submit.
 fn visit_class_rows<V: RowVisitor>(
     plan: &Plan,
     ranks: &Ranks,
@@ -146,8 +147,8 @@ fn visit_class_rows<V: RowVisitor>(
 }
 
 impl Ranks {
-    /// Passes all conditions of the ranks to the visitor: for each class, K1, and then K2 of each
-    /// get and K3 of each submit.
+    /// Passes all conditions of the ranks to the visitor: for each class, K1, and then, in the
+    /// order of the body, K2 of each get and K3 of each submit.
     pub fn visit_rank_rows<V: RowVisitor>(&self, plan: &Plan, visitor: &mut V)
         requires { IsTrue (spec.ranks_fit plan.now self.now) }
         ensures { Visits V.HasSeen visitor.old visitor.new (spec.rank_rows plan.now self.now) }

@@ -37,8 +37,8 @@ pub enum Rule {
     /// In the lifetime vector of a pool, a job of the pool weighs at least 1 at every point: when
     /// it is queued, at each position of its body, and when it is done.
     L2,
-    /// The total of the lifetime vector of a pool is at most the number of jobs for which the queue
-    /// and the threads of the pool have room.
+    /// The total of the lifetime vector of a pool is at most the capacity of the pool's queue plus
+    /// its maximum, minus its prestarted threads.
     L3,
     /// In a lifetime vector, a get does not increase the weight of its actor. This rule replaces
     /// V5.

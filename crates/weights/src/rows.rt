@@ -1,5 +1,6 @@
 //! The rows V2 to V7 of a vector, for all classes and client kinds of a plan. [`Rule`] explains
-//! their names. In a lifetime vector, L5 replaces V5: its [`GetReturn`] is `NoWeight`.
+//! their names. In a lifetime vector, L5 replaces V5, because a get gives its actor no weight
+//! ([`GetReturn::NoWeight`]).
 
 ghost use Rattle.std.specs.Prelude.{◌≡◌, ◌+◌, IsTrue, Some, length, slice_get};
 ghost use Rattle.std.specs.List.{flat_map, enumerate_from};
@@ -158,8 +159,8 @@ fn visit_clients<V: RowVisitor>(
 }
 
 impl Vector {
-    /// Passes the rows V2 to V7 of each class and then of each client kind to the visitor. L5
-    /// replaces V5 if `get_return` is `NoWeight`.
+    /// Passes the rows V2 to V7 to the visitor: those of each class, and then those of each client
+    /// kind. L5 replaces V5 if `get_return` is `NoWeight`.
     pub fn visit_rows<V: RowVisitor>(&self, plan: &Plan, get_return: GetReturn, visitor: &mut V)
         requires fits { IsTrue (spec.vector_fits plan.now self.now) }
         ensures { Visits V.HasSeen visitor.old visitor.new (rows get_return plan.now self.now) }

@@ -1,5 +1,5 @@
-//! The conditions of the standing vector of a pool: the number of queued jobs never exceeds the
-//! capacity of the queue. [`Rule`] explains the names of the rows.
+//! The conditions of the standing vector of a pool, which show that the number of queued jobs never
+//! exceeds the capacity of the queue. [`Rule`] explains the names of the rows.
 
 ghost use Rattle.std.specs.Prelude.{◌≡◌, ◌==◌, ◌<◌, ◌∷◌, [], if◌then◌else◌, IsTrue, Some, length, map, slice_get};
 ghost use Rattle.job_bodies.specs.WellFormed.{IsWellFormed};
@@ -53,8 +53,8 @@ fn visit_queued_rows<V: RowVisitor>(plan: &Plan, pool: usize, vector: &Vector, v
 }
 
 impl Vector {
-    /// Passes all conditions of the pool's standing vector to the visitor, in this order: V2 to V7,
-    /// S1 of each class of the pool, S2.
+    /// Passes all conditions of the pool's standing vector to the visitor: first the rows of
+    /// [`Vector::visit_rows`], then S1 of each class of the pool, then S2.
     pub fn visit_standing_rows<V: RowVisitor>(&self, plan: &Plan, pool: usize, visitor: &mut V)
         requires fits { IsTrue (spec.vector_fits plan.now self.now) }
         requires pool { pool < length plan.now.pools }
@@ -66,8 +66,8 @@ impl Vector {
         visitor.visit(Row::new(Rule::S2, Place::Total, self.total(plan), pool.queue));
     }
 
-    /// Returns the first of the conditions V2 to V7 of the vector that fails, or `None` if all
-    /// hold. Allocates no memory.
+    /// Returns the first condition from V2 to V7 that fails, in the order of
+    /// [`Vector::visit_rows`], or `None` if all hold. Allocates no memory.
     pub fn first_fault(&self, plan: &Plan) -> Option<RowFault>
         requires { IsTrue (spec.vector_fits plan.now self.now) }
         ensures { result ≡ first_failing (rows DoneWeight plan.now self.now) }
@@ -77,8 +77,8 @@ impl Vector {
         first.found
     }
 
-    /// Returns the first condition of the pool's standing vector that fails, in the order V2 to V7,
-    /// S1, S2, or `None` if all hold. Allocates no memory.
+    /// Returns the first condition of the pool's standing vector that fails, in the order of
+    /// [`Vector::visit_standing_rows`], or `None` if all hold. Allocates no memory.
     pub fn standing_fault(&self, plan: &Plan, pool: usize) -> Option<StandingFault>
         requires fits { IsTrue (spec.vector_fits plan.now self.now) }
         requires pool { pool < length plan.now.pools }

@@ -170,9 +170,9 @@ fn the_first_condition_that_fails(rt: HostRuntime) -> Result<(), Fail> {
     Ok(())
 }
 
-/// Returns whether the get at this position of the class's body is counted: whether it may block a
-/// thread that other jobs need. Returns `None` if the ranks do not have the shape of the plan, or
-/// if the body has no such position.
+/// Returns whether the action at this position of the class's body is a counted get: a get that may
+/// block a thread that other jobs need. Returns `None` if the plan has no such class, if its body
+/// has no such position, or if the ranks do not have the shape of the plan.
 fn is_counted(plan: &Plan, ranks: &Ranks, class: usize, position: usize) -> Option<bool> {
     let found = plan.class_at(class)?;
     if position >= found.body.len() || !ranks.fits(plan) {
@@ -281,7 +281,8 @@ fn verdicts(rt: HostRuntime) -> Result<(), Fail> {
     Ok(())
 }
 
-/// `check` returns a verdict for two texts, or the plan's fault, or the certificate's fault.
+/// For the texts of a plan and a certificate, `check` returns a verdict, or the fault of the plan's
+/// text, or the fault of the certificate's text.
 #[test]
 fn what_is_checked(rt: HostRuntime) -> Result<(), Fail> {
     let line = PoolLine {

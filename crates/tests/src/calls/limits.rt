@@ -32,8 +32,8 @@ impl Source for Failing {
     }
 }
 
-/// The program makes no call after it has read 2,097,156 bytes. So it does not see a failure of the
-/// next call. It reports a failure one byte earlier.
+/// If a source fails after 2,097,155 bytes, the program reports that it failed. After 2,097,156
+/// bytes, the program makes no further call, and reports that the input is too long.
 #[test]
 fn a_source_that_fails_at_the_limit(rt: HostRuntime) -> Result<(), Fail> {
     for (left, ended, written) in [

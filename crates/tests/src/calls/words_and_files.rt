@@ -335,8 +335,8 @@ fn words_without_an_answer(rt: HostRuntime) -> Result<(), Fail> {
 }
 
 /// If the certificate cannot be written, because its folder is missing or its file cannot be
-/// replaced, the call writes the whole answer and returns the error. A certificate of another plan
-/// may be overwritten.
+/// replaced, the call writes the whole answer and returns the error. A file that has a certificate
+/// may be overwritten, even if it is the certificate of another plan.
 #[test]
 fn an_unwritten_certificate(rt: HostRuntime) -> Result<(), Fail> {
     for name in ["none/kept.json", "cert.json", "older.json"] {

@@ -10,6 +10,7 @@ use std::alloc::{AllocError, Global};
 const COLUMNS: &str = "123456789";
 
 /// Returns the text with the first column in place of `$1`, the second in place of `$2`, and so on.
+/// A `$` without a column does not change.
 pub fn with_columns(alloc: Global, text: &str, columns: &[&str]) -> Result<String, AllocError> {
     let mut filled = String::new(alloc);
     for (number, piece) in text.split('$').enumerate() {
@@ -35,7 +36,8 @@ fn push_column(filled: &mut String, piece: &str, columns: &[&str]) -> Result<(),
     filled.push_str(piece)
 }
 
-/// Returns the text with each `$(NAME)` replaced by the text that the name stands for.
+/// Returns the text with each `$(NAME)` replaced by the text of the row's part `let NAME`. If the
+/// row has no such part, NAME is the name of a sample certificate or a sample plan.
 pub fn with_names(alloc: Global, text: &str, row: &Row) -> Result<String, AllocError> {
     let mut filled = String::new(alloc);
     for (number, piece) in text.split("$(").enumerate() {

@@ -3,7 +3,9 @@
 use crate::files::spelling::spelled;
 use std::alloc::{AllocError, Global};
 
-/// Replaces each `^<N TEXT^>` in the text by TEXT repeated N times.
+/// Returns the text with TEXT repeated N times in place of each `^<N TEXT^>`. For `^<to N TEXT^>`,
+/// the number of bytes before it is subtracted from N. In TEXT, `^#` is the number of the
+/// repetition, from 0, and `^+` is that number plus 1.
 pub fn repeated(alloc: Global, text: &str) -> Result<String, AllocError> {
     let mut whole = String::new(alloc);
     for (number, piece) in text.split("^<").enumerate() {

@@ -14,8 +14,9 @@ pub trait Suite {
     fn answer(&self, alloc: Global, kind: &str, input: &[u8]) -> Result<String, AllocError>;
 }
 
-/// Runs all inputs in the files. Prints each input with an unexpected answer, and then the number
-/// of inputs and the number of unexpected answers.
+/// Runs all inputs in the files. For each unexpected answer, prints the name of the row, the place
+/// of the input, the answer and the expected answer. Then prints the number of inputs and the
+/// number of unexpected answers.
 pub fn run_files<S: Suite, R: Files + Print + AllocGlobal>(
     rt: &R,
     suite: &S,

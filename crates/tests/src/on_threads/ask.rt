@@ -1,4 +1,4 @@
-//! Inputs of the command `ask`.
+//! Inputs of the command `ask`. The exit status or the fault of the command follows its output.
 
 ghost use Rattle.command_line.specs.Command.{IsInRange};
 

@@ -1,4 +1,4 @@
-//! Inputs of the command `certify`.
+//! Inputs of the command `certify`. The exit status or the fault of the command follows its output.
 
 use crate::on_threads::ended::Ended;
 use crate::on_threads::failing;
@@ -25,7 +25,7 @@ pub fn certified<R: Threads + Wait + Sync>(
 }
 
 /// Returns the output of `certify` for a plan's text. If that is a bundle, returns the first line
-/// of the output of `check` for the bundle instead.
+/// of the output of `check` for the bundle instead, with a note if the bundle has another plan.
 pub fn certified_and_checked<R: Threads + Wait + Sync>(
     rt: &R,
     alloc: Global,

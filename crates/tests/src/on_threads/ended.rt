@@ -48,7 +48,7 @@ impl Ended {
         Ok(Ended { written, outcome })
     }
 
-    /// Runs `check` on a bundle.
+    /// Runs `check` on a bundle, and returns its result.
     pub fn of_bundle(alloc: Global, bundle: &[u8]) -> Result<Ended, AllocError> {
         let mut sink = MemorySink::new(alloc);
         let outcome = serve_alone(
@@ -77,8 +77,8 @@ impl Ended {
         Ok(text)
     }
 
-    /// Returns the JSON object in the HTML page that the command wrote, followed by the exit status
-    /// or the fault.
+    /// Returns the JSON object in the HTML page that the command wrote, or `no object` if there is
+    /// none, followed by the exit status or the fault.
     pub fn object_in_page(&self, alloc: Global) -> Result<String, AllocError> {
         let written = String::from_utf8_lossy(alloc, &self.written)?;
         let mut text = String::new(alloc);

@@ -1,4 +1,4 @@
-//! Inputs of the command `refute`.
+//! Inputs of the command `refute`. The exit status or the fault of the command follows its output.
 
 use crate::on_threads::ended::Ended;
 use crate::on_threads::fit::output_of;
@@ -49,7 +49,7 @@ pub fn refuted_briefly<R: Threads + Wait + Sync>(
     Ended::of_input(rt, alloc, BRIEF, plan)?.first_line(alloc)
 }
 
-/// Returns the bundle that `refute` writes for a plan's text.
+/// Returns the output of `refute` for a plan's text, as a bundle.
 pub fn refuted_bundle<R: Threads + Wait + Sync>(
     rt: &R,
     alloc: Global,
@@ -58,7 +58,8 @@ pub fn refuted_bundle<R: Threads + Wait + Sync>(
     output_of(rt, alloc, BUNDLE, plan)
 }
 
-/// Returns the output of `replay` for the bundle that `refute` writes for a plan's text.
+/// Returns the output of `replay` for the bundle that `refute` writes for a plan's text. If
+/// `refute` writes no bundle, returns its output.
 pub fn refuted_and_replayed<R: Threads + Wait + Sync>(
     rt: &R,
     alloc: Global,

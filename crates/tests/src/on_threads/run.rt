@@ -1,4 +1,4 @@
-//! Inputs of the command `run`.
+//! Inputs of the command `run`. The exit status or the fault of the command follows its output.
 
 ghost use Rattle.std.specs.Prelude.{◌≤◌};
 
@@ -30,7 +30,8 @@ pub fn ran<R: Threads + Wait + Sync>(
 }
 
 /// Returns the output of `run` for this input. The first line of the input is the number of rounds,
-/// from 1 to 1,000,000. The rest is a bundle.
+/// from 1 to 1,000,000. The rest is a bundle. If the first line is not such a number, returns a
+/// note.
 pub fn ran_for<R: Threads + Wait + Sync>(
     rt: &R,
     alloc: Global,

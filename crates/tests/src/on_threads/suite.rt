@@ -3,7 +3,8 @@
 use crate::files::Suite;
 use std::alloc::{AllocError, Global};
 
-/// A function that returns the answer to an input of a kind.
+/// A function that returns the answer to an input. Its arguments are an allocator, the kind of the
+/// input, and the input.
 pub type Answer = Box<dyn Fn(Global, &str, &[u8]) -> Result<String, AllocError> + Drop>;
 
 /// A suite that calls a function for each answer. The method of a suite cannot start threads, but

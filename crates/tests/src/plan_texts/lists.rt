@@ -10,8 +10,9 @@ pub fn built(alloc: Global, lines: &[u8]) -> Result<String, AllocError> {
     line_of(alloc, plan_of(alloc, lines)?)
 }
 
-/// Returns the text that is written for the plan of the lists. Reads this text again, and reports
-/// if that fails or if the plan that is read has another text.
+/// Returns the text that is written for the plan of the lists, or the fault of the lists. Also
+/// reads the text again, and writes the plan that is read. If the text has a fault, returns the
+/// fault instead. If the second text differs from the first, returns both texts.
 pub fn written(alloc: Global, lines: &[u8]) -> Result<String, AllocError> {
     let text = match plan_of(alloc, lines)? {
         Ok(plan) => write_plan(alloc, &plan)?,

@@ -1,4 +1,4 @@
-//! Runs of commands whose input and output are in memory.
+//! Runs of commands that use no threads, and the results of the commands.
 
 use sizing_cli::{
     MemorySink, RecordingCommand, ReviewCommand, ServeFault, Sink, Source, Status, serve_alone,

@@ -23,7 +23,9 @@ pub struct Case<'a> {
 }
 
 impl Case<'_> {
-    /// Appends a note to the answer for each failing call with an unexpected result.
+    /// Runs the command again for each call of the source and of the sink. Each time, that call
+    /// fails, or the sink accepts no byte in that call and later calls. Appends a note to the
+    /// answer for each unexpected result.
     pub fn push_differences(
         &self,
         alloc: Global,

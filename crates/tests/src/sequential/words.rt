@@ -3,8 +3,8 @@
 use command_line::{Cli, Command, read_words};
 use std::alloc::{AllocError, Global};
 
-/// Returns the command and the files that the arguments name, or the kind of their error. Each
-/// argument is followed by a newline.
+/// Returns the command and the files that the arguments name, `None` if they name no command, or
+/// the kind of their error. `lines` has one argument in each line.
 pub fn asked(alloc: Global, lines: &[u8]) -> Result<String, AllocError> {
     let lines = String::from_utf8_lossy(alloc, lines)?;
     let words = lines.lines().collect::<Vec<&str>>(alloc)?;

@@ -91,7 +91,8 @@ fn two_pools_are_looked_at_at_once(rt: HostRuntime) -> Result<(), Fail> {
     Ok(())
 }
 
-/// If the gate refuses a pool, the check returns the fault of the gate, with any number of workers.
+/// If the gate refuses one of two pools, the check returns the fault of the gate, with 1, 2, 3 and
+/// 64 workers.
 #[test]
 fn a_no_of_the_gate(rt: HostRuntime) -> Result<(), Fail> {
     let (plan, cert) = (TWO_POOLS.as_bytes(), TWO_POOLS_CERT.as_bytes());

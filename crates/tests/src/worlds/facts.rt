@@ -11,8 +11,8 @@ use std::alloc::{AllocError, Global};
 // the last of them does not exist.
 const CLIENTS_SHOWN: usize = 4;
 
-/// Returns the results of all look-ups of the world: the counts, the pools, the clients and the
-/// jobs. Also looks up the two numbers after the last job, which have no job.
+/// Returns the results of all look-ups of the world: the counts, the pools, the first four clients
+/// and the jobs. Also looks up the two numbers after the last job, which have no job.
 pub fn facts(alloc: Global, plan: &Plan, world: &World) -> Result<Vec<String>, AllocError>
     requires { IsReachableView plan.now world.now.view }
 {
@@ -59,7 +59,7 @@ fn push_pool(
     Ok(())
 }
 
-/// Appends a number, or `none` if there is none.
+/// Appends the number, or `none` if it is `None`.
 pub fn push_number(text: &mut String, number: Option<usize>) -> Result<(), AllocError> {
     match number {
         Some(number) => write!(text, "{number}"),
@@ -67,7 +67,8 @@ pub fn push_number(text: &mut String, number: Option<usize>) -> Result<(), Alloc
     }
 }
 
-/// Appends a job's class, parent, slot and phase, or `none` if there is no job.
+/// Appends the job's class, parent, slot and phase, or `none` if the job is `None`. The slot is the
+/// position of the submit in the parent's body.
 pub fn push_job(text: &mut String, job: Option<JobView>) -> Result<(), AllocError> {
     let Some(job) = job else {
         return text.push_str("none");

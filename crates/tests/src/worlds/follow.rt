@@ -8,7 +8,7 @@ use interleaving::{Event, Outcome, World};
 use job_bodies::Plan;
 use std::alloc::{AllocError, Global};
 
-/// Returns the answers to the lines of an input, on one line each.
+/// Performs the lines of an input in order, and returns the answer to each, on one line.
 pub fn followed(
     alloc: Global,
     kind: &str,
