@@ -1,7 +1,7 @@
 //! One round of the search, in which the workers search for the vectors of the pools: the bound of
 //! a pool's queue, and the blocked vector, which bounds the number of the pool's jobs that wait for
-//! other jobs. In a round, a get by a job of a pool without a rank is *counted* if the reach of the
-//! class of its job is at least the rank of this round.
+//! other jobs. Consider a job of a pool without a rank. In a round, its get of another job is
+//! *counted* if the reach of the other job's class is at least the rank of this round.
 
 ghost use Rattle.std.specs.Prelude.{◌≡◌, ◌≢◌, ◌<◌, ◌≤◌, IfErr, IfOk, length};
 ghost use Rattle.cert_search.specs.declared.finding.SearchFault.TheVariants.{Memory, Mixed};

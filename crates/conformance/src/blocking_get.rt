@@ -7,7 +7,8 @@ use crate::body_gets::BodyGet;
 use crate::row::has_submit_at;
 use job_bodies::Action;
 
-/// The part of a body between an index and the last earlier index where the body can be.
+/// The way to an index of a body. It starts at the last index, at or before that one, where the
+/// body can be.
 #[derive(Clone, Copy)]
 enum Way {
     /// The body can be at no earlier index.

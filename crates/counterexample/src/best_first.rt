@@ -14,7 +14,7 @@ use std::alloc::{AllocError, Global};
 use std::collections::{BinaryHeap, HashSet};
 use std::hash::{BuildHasherDefault, FoldHasher};
 
-/// The maximum number of vectors under which the lost weight is a measure.
+/// The maximum number of vectors for which the search measures the lost weight.
 const MAX_VECTORS: usize = 2;
 
 /// A state that the search reached. It is open until the search visits its successors, and then

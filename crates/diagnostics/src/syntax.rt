@@ -98,7 +98,8 @@ fn value_hint_at(text: &str, offset: usize, place: TextPlace, line: &str) -> Opt
     }
 }
 
-/// Returns whether a list is open at byte `offset` of the text, whose place is `place`.
+/// Returns whether a list is open at byte `offset` of the text. `place` is the line and the column
+/// of that byte.
 fn is_in_list(text: &str, offset: usize, place: TextPlace) -> bool {
     match text.as_bytes().get(..offset) {
         Some(before) => match std::str::from_utf8(before) {

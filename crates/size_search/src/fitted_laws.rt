@@ -31,10 +31,11 @@ pub fn smallest_fit_is_least()
     ensures { SmallestFitIsLeast }
 {}
 
-/// States that a larger maximum never allows a smaller core. Take sizes with which the certificate
-/// accepts the plan, and in which no maximum is smaller than the plan's. Their cores are at least
-/// those that the certificate needs with the plan's maximums. So their maximums are at least those
-/// of the widened plan, in which each maximum was raised to the core that the certificate needs.
+/// States that no maximum of the widened plan is larger than necessary. Consider any sizes with
+/// which the certificate accepts the plan, and whose maximums are no smaller than the plan's. Each
+/// of their cores is at least the core that the certificate needs with the plan's own maximums.
+/// Each of their maximums is at least the widened plan's maximum, which is the plan's maximum
+/// raised to that core if the core is larger.
 pub fn widened_maxes_are_least()
     ensures { WidenedMaxesAreLeast }
 {}
