@@ -14,7 +14,8 @@ use recordings::{RecordedActor, RecordedStep};
 use std::alloc::{AllocError, Global};
 use support::IdMap;
 
-/// The classes that a job can belong to. If they are undecided, there may be more.
+/// The classes that a job can belong to. If `is_decided` is false, the job may also belong to
+/// classes that are not in `classes`.
 #[derive(Drop)]
 pub(crate) struct JobClasses {
     pub(crate) classes: Vec<usize>,

@@ -35,8 +35,8 @@ fn checked_circle<'a>(plan: &Plan, class: usize, between: &'a [usize]) -> &'a [u
     }
 }
 
-/// Returns the message that a class submits itself through these classes. The message lists the
-/// submits, unless `between` is empty.
+/// Returns the message that a class submits itself through the classes `between`. If `between` is
+/// empty, the message lists no submits.
 fn words_through(
     alloc: Global,
     plan: &Plan,

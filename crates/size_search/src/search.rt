@@ -40,14 +40,21 @@ const FEW_POOLS: usize = 8;
 /// pool that needs the smallest increase. After the rounds it computes the queues, and reduces all
 /// sizes to what the certificate needs. Further attempts raise another pool first, or start with
 /// one pool reset to its declared core and maximum. The result is the attempt with the smallest sum
-/// of increases. If no attempt succeeds, the result is the plan's steady certificate with the least
-/// sizes for it. A new search finds a certificate of the plan with the returned sizes, unless the
-/// steady certificate is too large.
+/// of increases.
 ///
-/// If no sizes are found, either the plan has a cause (a reason why no sizes are enough), or the
-/// steady certificate is too large. So if the steady certificate is not too large, sizes are found
-/// exactly when some exist: when no class submits itself, directly or through other classes, and no
-/// repeating client causes a submit that is never got.
+/// The *steady certificate* of a plan has one vector that is both the bound and the blocked vector
+/// of every pool. It is too large if it needs sizes above 1,000,000 or has a weight above
+/// [`MAX_WEIGHT`](job_bodies::MAX_WEIGHT). If no attempt succeeds, the result is the steady
+/// certificate with the least sizes for it, unless it is too large.
+///
+/// If no sizes are found, one of these is the reason:
+///
+/// - The plan has a cause, so no sizes are enough: a class submits itself, directly or through
+///   other classes, or a repeating client causes a submit that is never got.
+/// - The steady certificate is too large. Other sizes can exist.
+///
+/// If the plan has no cause and its steady certificate is not too large, sizes are found. Unless
+/// the certificate is `first`, a new search then finds a certificate of the plan with these sizes.
 ///
 /// The contract proves that the certificate accepts the plan with these sizes, and that they are
 /// the least for this certificate. Among the sizes that are no smaller than the declared ones, the

@@ -1,4 +1,4 @@
-//! The answers of the commands that use no threads, from bytes to bytes.
+//! The answers of the commands that use no threads.
 
 mod ended;
 mod failing;

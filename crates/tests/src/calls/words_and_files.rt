@@ -295,7 +295,7 @@ const NO_ANSWERS: &[(&[&str], &str, u8)] = &[
     (&["sizing", "--help"], "words DisplayHelp", 2),
 ];
 
-/// Arguments without an answer result in the right message and exit status.
+/// Each command line in [`NO_ANSWERS`] fails with the expected message and exit status.
 #[test]
 fn words_without_an_answer(rt: HostRuntime) -> Result<(), Fail> {
     for (words, wanted, code) in NO_ANSWERS.iter().copied() {
