@@ -15,8 +15,9 @@ enum Way {
     Unreached,
     /// The body may pass every get between the two indices.
     Free,
-    /// The body may not pass a get between the two indices. The field is the get with the smallest
-    /// limit among the first such get and the later gets of the same class between the indices.
+    /// There is a get between the two indices that the body may not pass. Consider the first such
+    /// get, and the later gets of its class between the indices. The field is the one of these gets
+    /// that has the smallest limit.
     Blocked(BodyGet),
 }
 

@@ -70,8 +70,10 @@ pub fn match_path(
     }
 }
 
-/// Matches the path against the body. The result is undecided if the body submits several classes
-/// of a job, and the path can be walked together with the body up to the submit of this job.
+/// Matches the path against the body, one step of the path after the other. The path deviates at
+/// the first step that cannot be walked together with the body. If the walk first reaches the
+/// submit of a job that may belong to several classes that the body submits, the result is
+/// undecided.
 ///
 /// # Errors
 ///

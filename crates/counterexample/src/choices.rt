@@ -15,7 +15,7 @@ pub(crate) enum Choice {
     Begin(usize),
     /// A client of this client kind that moved earlier performs the first submit of its body.
     First(usize),
-    /// A client of this client kind performs a later submit of its body.
+    /// A client of this client kind performs a submit of its body that is not the first one.
     Later(usize),
     /// A job of the class performs its next submit.
     Inner(usize),

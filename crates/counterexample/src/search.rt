@@ -275,8 +275,9 @@ impl Search<'_> {
         Ok(rules)
     }
 
-    /// Returns the rules of the random walk with this number. Seven of eight random walks limit the
-    /// number of clients that move: to 1 to 7 at first, and to one more after every 64 walks.
+    /// Returns the rules of the random walk with this number. Every eighth random walk lets any
+    /// number of clients move. The others have a limit, which is between 1 and 7 in the first 64
+    /// walks and increases by one after every 64 walks.
     fn random_rules(&mut self, number: usize) -> Result<Rules, AllocError> {
         let mut rules = self.fixed_rules(number)?;
         shuffle(&mut rules.keys, &mut self.rng);

@@ -19,9 +19,11 @@ pub enum InferenceLimit {
     Names,
     /// More rounds of a kind at once than a plan may have clients.
     Rounds,
-    /// Paths of jobs or rounds for which no body was found. It is also the reason if bodies were
-    /// learned from the start of a longer recording and a label has several client kinds, or if the
-    /// pools, classes and client kinds do not form a valid plan.
+    /// Paths of jobs or rounds for which no body was found. This is also the reason in these cases:
+    ///
+    /// - The bodies were learned from the start of a longer recording, and a label has several
+    ///   client kinds.
+    /// - The pools, classes and client kinds do not form a valid plan.
     Paths,
     /// A text of the plan that would be too long.
     Text,

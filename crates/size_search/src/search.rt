@@ -22,9 +22,10 @@ use job_bodies::{MAX_POOLS, Plan};
 use least_vectors::Levels;
 use std::alloc::{AllocError, Global};
 
-/// The maximum number of further attempts that raise another pool first. It also limits the
-/// attempts that reset one pool to its declared core and maximum, if the plan has more than
-/// [`FEW_POOLS`] pools.
+/// The maximum number of further attempts that start with the declared sizes. Each of them skips a
+/// different number of pools in the first round that must raise a core. In a plan with more than
+/// [`FEW_POOLS`] pools, this is also the maximum number of attempts that reset one pool to its
+/// declared core and maximum.
 const FURTHER_ATTEMPTS: usize = 3;
 
 /// The number of pools up to which one further attempt is made for each raised pool, with this pool
