@@ -52,7 +52,7 @@ dist:
 release-notes:
 	@tools/version --notes
 
-# Runs every test, every worked row and each program's stored run before any proof: at most 4 minutes on four cores. It
+# Runs every test, every worked row and each program's stored run before any proof: about 6 minutes on four cores. It
 # proves nothing.
 test:
 	@tools/test
