@@ -1,7 +1,8 @@
 -- A certificate has no failing condition exactly when the conditions of its ranks and of each pool hold.
-use Rattle.std.proofs.Common.{◌≡◌, ℕ, Bool, true, false, cond, ◌&&◌, not, ltb, List, [], ◌∷◌, ◌++◌, filter, flat_map, Some, is_some, refl, sym, ap, ap₂, ◌∙◌}
+use Rattle.std.proofs.Common.{◌≡◌, ℕ, Bool, true, false, cond, ◌&&◌, not, ltb, List, [], ◌∷◌, ◌++◌, filter, flat_map, Option, Some, None, is_some, refl, sym, ap, ap₂, ◌∙◌}
 use Rattle.std.specs.List.{list_all, enumerate_from}
 use Rattle.job_bodies.specs.Plan.{Pool, Plan}
+use Rattle.weights.specs.declared.bound.Bound.{Bound}
 use Rattle.weights.specs.declared.row.Row.{Row}
 use Rattle.weights.specs.Row.{fails, first_failing}
 use Rattle.weights.specs.Bound.{bound_rows}
@@ -11,9 +12,9 @@ use Rattle.cert_text.specs.Cert.{Cert, pool_cert_at}
 use Rattle.soundness.specs.declared.note.Section.{Section}
 use Rattle.soundness.specs.declared.note.Section.TheVariants as section
 use Rattle.soundness.specs.declared.note.Note.{Note}
-use Rattle.soundness.specs.Conditions.{note, in_section, bound_section, pool_conditions, failing}
+use Rattle.soundness.specs.Conditions.{note, in_section, bound_section, bound_conditions, pool_conditions, failing}
 use Rattle.soundness.specs.Accepted.{is_nil}
-use Rattle.cert_check.specs.PoolConditions.{pool_holds}
+use Rattle.cert_check.specs.PoolConditions.{bound_holds, pool_holds}
 
 -- the note fails: its left side is greater than its right side
 abbrev is_failing : Note → Bool
@@ -63,14 +64,18 @@ list_all-same : {X : Type 0} (f g : X → Bool) (xs : List X) → ((x : X) → f
 list_all-same f g [] same = refl
 list_all-same f g (x ∷ xs) same = ap₂ (λ a b. a && b) (same x) (list_all-same f g xs same)
 
+-- no condition of a bound fails exactly when `bound_holds` is true
+bound_holds-means : (plan : Plan) (p : ℕ) (bound : Option Bound) → none_failing (bound_conditions plan p bound) ≡ bound_holds plan p bound
+bound_holds-means plan p None = refl
+bound_holds-means plan p (Some bound) = none_failing-section (bound_section p bound) (bound_rows plan p bound)
+
 -- no condition of pool p fails exactly when `pool_holds` is true
 pool_holds-means : (plan : Plan) (cert : Cert) (p : ℕ) → none_failing (pool_conditions plan cert p) ≡ pool_holds plan cert p
 pool_holds-means plan cert p =
     let pool = pool_cert_at cert p in
-    let of_bound = bound_rows plan p pool.bound in
     let of_blocked = blocked_rows plan p (is_counted plan cert.ranks) pool.blocked in
-    none_failing-append (in_section (bound_section p pool.bound) of_bound) (in_section (section.Blocked p) of_blocked)
-    ∙ ap₂ (λ a b. a && b) (none_failing-section (bound_section p pool.bound) of_bound) (none_failing-section (section.Blocked p) of_blocked)
+    none_failing-append (bound_conditions plan p pool.bound) (in_section (section.Blocked p) of_blocked)
+    ∙ ap₂ (λ a b. a && b) (bound_holds-means plan p pool.bound) (none_failing-section (section.Blocked p) of_blocked)
 
 -- no condition of the certificate fails exactly when no condition of the ranks fails and `pool_holds` is true for each pool
 pub conditions_hold : (plan : Plan) (cert : Cert)

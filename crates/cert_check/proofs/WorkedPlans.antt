@@ -1,5 +1,5 @@
 -- Small plans and certificates for them. proofs/WorkedVerdicts.antt computes their verdicts.
-use Rattle.std.proofs.Common.{ℕ, List, [], ◌∷◌, Bool, true, false}
+use Rattle.std.proofs.Common.{ℕ, List, [], ◌∷◌, Option, Some, None, Bool, true, false}
 use Rattle.job_bodies.specs.declared.action.Action.{Action}
 use Rattle.job_bodies.specs.declared.action.Action.TheVariants.{Work, Submit, Get}
 use Rattle.job_bodies.specs.Plan.{Plan, Pool, Class, Client}
@@ -12,7 +12,7 @@ use Rattle.cert_text.specs.Cert.{Cert, PoolCert}
 -- ---- parts of plans, each with a name of one letter
 
 abbrev pub a_pool : ℕ → ℕ → ℕ → ℕ → Bool → Pool
-a_pool letter core max queue prestart = record { name = letter ∷ []; core = core; max = max; queue = queue; prestart = prestart }
+a_pool letter core max queue prestart = record { name = letter ∷ []; core = core; max = max; queue = queue; prestart = prestart; may_reject = false }
 
 abbrev pub a_class : ℕ → ℕ → List Action → Class
 a_class letter pool body = record { name = letter ∷ []; pool = pool; body = body }
@@ -45,6 +45,10 @@ one_pool core max queue count = one_class (a_pool 112 core max queue false) (cli
 abbrev pub one_pool_once : ℕ → ℕ → ℕ → ℕ → Bool → Plan
 one_pool_once core max queue count prestart = one_class (a_pool 112 core max queue prestart) (clients 99 count false (asks 0))
 
+-- a plan like `one_pool`, but the pool may reject jobs
+abbrev pub rejecting : ℕ → ℕ → ℕ → ℕ → Plan
+rejecting core max queue count = one_class (record (a_pool 112 core max queue false) { may_reject = true }) (clients 99 count true (asks 0))
+
 -- a plan of one client that submits a job and never waits for it, once or repeatedly
 abbrev pub forgetting : Bool → Plan
 forgetting repeat = one_class (a_pool 112 1 1 2 false) (clients 99 1 repeat (Submit 0 ∷ []))
@@ -56,6 +60,10 @@ nested core max prestart = record {
   classes = a_class 111 0 (asks 1) ∷ a_class 105 0 works ∷ [];
   clients = clients 99 1 true (asks 0) ∷ [];
 }
+
+-- a plan like `nested`, with this number of threads, but the pool may reject jobs
+abbrev pub nested_rejecting : ℕ → Plan
+nested_rejecting threads = record (nested threads threads false) { pools = record (a_pool 112 threads threads 5 false) { may_reject = true } ∷ [] }
 
 -- a plan of a pool with two threads and this queue, in which an outer job submits three inner jobs and then waits for them
 abbrev pub fan_out : ℕ → Plan
@@ -95,7 +103,7 @@ abbrev pub weighing : List ℕ → List (List ℕ) → List (List ℕ) → Vecto
 weighing workers classes clients = record { workers = workers; classes = classes; clients = clients }
 
 abbrev pub pool_cert : Bound → Vector → PoolCert
-pool_cert bound blocked = record { bound = bound; blocked = blocked }
+pool_cert bound blocked = record { bound = Some bound; blocked = blocked }
 
 -- the weights of a class, all 0 or all 1: `pair_of` for a body of two actions, `one_of` for a body of one action
 abbrev pub pair_of_zeros : List ℕ
@@ -137,6 +145,13 @@ one_pool_cert bound rank = record {
 abbrev pub standing_cert : ℕ → Cert
 standing_cert weight = one_pool_cert (Standing (weighing (0 ∷ []) ((weight ∷ weight ∷ weight ∷ weight ∷ []) ∷ []) ((weight ∷ 0 ∷ weight ∷ []) ∷ []))) 0
 
+-- a certificate for a plan of one pool without a bound, in which no job is ever blocked
+abbrev pub unbounded_cert : Cert
+unbounded_cert = record {
+  pools = record { bound = None; blocked = weighing (0 ∷ []) (one_of_zeros ∷ []) (has_nothing ∷ []) } ∷ [];
+  ranks = record { pools = 0 ∷ []; reach = 0 ∷ []; levels = 0 ∷ [] };
+}
+
 -- a certificate with two faults: a done job weighs more than a job at its end, and the rank of the pool is above the reach of its class
 abbrev pub faulty_cert : Cert
 faulty_cert = one_pool_cert (Standing (weighing (0 ∷ []) ((1 ∷ 1 ∷ 1 ∷ 2 ∷ []) ∷ []) (lends ∷ []))) 1
@@ -168,6 +183,13 @@ nested_cert = record {
       (Standing (weighing (0 ∷ []) (job_lends ∷ one_of_ones ∷ []) (lends ∷ [])))
       (weighing (0 ∷ []) (pair_of_ones ∷ one_of_zeros ∷ []) (lends ∷ []))
       ∷ [];
+  ranks = nested_ranks;
+}
+
+-- a certificate for `nested_rejecting`, without a bound: only the outer job is ever blocked
+abbrev pub nested_unbounded_cert : Cert
+nested_unbounded_cert = record {
+  pools = record { bound = None; blocked = weighing (0 ∷ []) (pair_of_ones ∷ one_of_zeros ∷ []) (lends ∷ []) } ∷ [];
   ranks = nested_ranks;
 }
 

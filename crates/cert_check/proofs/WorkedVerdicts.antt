@@ -1,5 +1,5 @@
 -- Verdicts, failing conditions and drain bounds of small plans, computed from the definitions alone.
-use Rattle.std.proofs.Common.{◌≡◌, ℕ, List, [], ◌∷◌, Option, Some, Bool, true, false, refl}
+use Rattle.std.proofs.Common.{◌≡◌, ℕ, List, [], ◌∷◌, Option, Some, None, Bool, true, false, refl}
 use Rattle.std.specs.Option.{option_map}
 use Rattle.written_machine.specs.declared.event.Event.{Event}
 use Rattle.written_machine.specs.declared.event.Event.TheVariants as event
@@ -13,7 +13,7 @@ use Rattle.soundness.specs.declared.note.Section.TheVariants as section
 use Rattle.soundness.specs.Conditions.{note, failing}
 use Rattle.cert_check.specs.declared.answer.PoolLine.{PoolLine}
 use Rattle.cert_check.specs.Verdict.{Verdict, verdict}
-use Rattle.cert_check.proofs.WorkedPlans.{no_parts, one_pool, one_pool_once, forgetting, nested, fan_out, front_and_back, two_pools, there_and_back, no_parts_cert, standing_cert, faulty_cert, lifetime_cert, forgetting_cert, nested_ranks, nested_cert, fan_out_cert, front_and_back_cert, two_pools_cert, there_and_back_cert}
+use Rattle.cert_check.proofs.WorkedPlans.{no_parts, one_pool, one_pool_once, rejecting, forgetting, nested, nested_rejecting, fan_out, front_and_back, two_pools, there_and_back, no_parts_cert, standing_cert, unbounded_cert, faulty_cert, lifetime_cert, forgetting_cert, nested_ranks, nested_cert, nested_unbounded_cert, fan_out_cert, front_and_back_cert, two_pools_cert, there_and_back_cert}
 
 abbrev yes : List PoolLine → Verdict
 yes pools = record { yes = true; pools = pools }
@@ -23,11 +23,15 @@ no pools = record { yes = false; pools = pools }
 
 -- the line of a pool with a standing vector: its total and limit, and the blocked total and limit
 abbrev standing : ℕ → ℕ → ℕ → ℕ → PoolLine
-standing total queue blocked limit = record { lifetime = false; standing = total; queue = queue; blocked = blocked; limit = limit }
+standing total queue blocked limit = record { bound = Some (record { lifetime = false; total = total; limit = queue }); blocked = blocked; limit = limit }
 
 -- the line of a pool with a lifetime vector: its total and limit, and the blocked total and limit
 abbrev lifetime : ℕ → ℕ → ℕ → ℕ → PoolLine
-lifetime total most blocked limit = record { lifetime = true; standing = total; queue = most; blocked = blocked; limit = limit }
+lifetime total most blocked limit = record { bound = Some (record { lifetime = true; total = total; limit = most }); blocked = blocked; limit = limit }
+
+-- the line of a pool without a bound: the blocked total and limit
+abbrev unbounded : ℕ → ℕ → PoolLine
+unbounded blocked limit = record { bound = None; blocked = blocked; limit = limit }
 
 -- ---- one pool
 
@@ -112,6 +116,33 @@ lifetime_repeating = refl
 
 pub lifetime_repeating_fails : failing (one_pool 1 1 1 2) lifetime_cert ≡ note (section.Lifetime 0) (row V7 (place.Client 0) 1 0) ∷ []
 lifetime_repeating_fails = refl
+
+-- ---- pools that may reject jobs
+
+-- a pool that may reject jobs needs no bound
+pub rejecting_pool : verdict (rejecting 1 1 1 2) unbounded_cert ≡ yes (unbounded 0 0 ∷ [])
+rejecting_pool = refl
+
+pub rejecting_pool_fits : cert_fits (rejecting 1 1 1 2) unbounded_cert ≡ true
+rejecting_pool_fits = refl
+
+-- a pool that must not reject jobs needs a bound, so the certificate does not fit its plan
+pub other_pool_does_not_fit : cert_fits (one_pool 1 1 1 2) unbounded_cert ≡ false
+other_pool_does_not_fit = refl
+
+-- a pool that may reject jobs can have a bound, whose conditions must hold
+pub rejecting_pool_with_bound : verdict (rejecting 1 1 2 2) (standing_cert 1) ≡ yes (standing 2 2 0 0 ∷ [])
+rejecting_pool_with_bound = refl
+
+pub rejecting_pool_with_bound_fails : failing (rejecting 1 1 1 2) (standing_cert 1) ≡ note (section.Standing 0) (row S2 place.Total 2 1) ∷ []
+rejecting_pool_with_bound_fails = refl
+
+-- the conditions of the blocked vector do not depend on whether the pool has a bound
+pub nested_rejecting_two_workers : verdict (nested_rejecting 2) nested_unbounded_cert ≡ yes (unbounded 1 1 ∷ [])
+nested_rejecting_two_workers = refl
+
+pub nested_rejecting_one_worker_fails : failing (nested_rejecting 1) nested_unbounded_cert ≡ note (section.Blocked 0) (row B2 place.Total 1 0) ∷ []
+nested_rejecting_one_worker_fails = refl
 
 -- ---- jobs that wait for jobs of their own pool
 

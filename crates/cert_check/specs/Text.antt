@@ -1,8 +1,9 @@
 -- The text of a verdict.
-use Rattle.std.specs.Prelude.{ℕ, Bool, if◌then◌else◌, List, [], ◌∷◌, ◌++◌, codes}
+use Rattle.std.specs.Prelude.{ℕ, Bool, if◌then◌else◌, List, [], ◌∷◌, ◌++◌, codes, Option, Some, None}
 use Rattle.std.specs.List.{flat_map, enumerate_from}
 use Rattle.std.specs.Fmt.{decimal}
 use Rattle.job_bodies.specs.Plan.{Plan, pool_at}
+use Rattle.cert_check.specs.declared.answer.BoundTotal.{BoundTotal}
 use Rattle.cert_check.specs.declared.answer.PoolLine.{PoolLine}
 use Rattle.cert_check.specs.Verdict.{Verdict}
 
@@ -10,14 +11,22 @@ use Rattle.cert_check.specs.Verdict.{Verdict}
 abbrev pub bound_words : Bool → List ℕ
 bound_words lifetime = if lifetime then codes ": lifetime " else codes ": standing "
 
--- the text of both totals, each with its limit
-abbrev pub sides : PoolLine → List ℕ
-sides line =
-    decimal line.standing ++ codes " of " ++ decimal line.queue ++ codes ", blocked " ++ decimal line.blocked ++ codes " of " ++ decimal line.limit ++ 10 ∷ []
+-- the words for the vector that bounds the pool's queue, and its total with its limit
+abbrev pub total_text : BoundTotal → List ℕ
+total_text bound = bound_words bound.lifetime ++ decimal bound.total ++ codes " of " ++ decimal bound.limit
+
+-- the text of the bound of the pool's queue; a pool without a bound may reject jobs
+abbrev pub bound_text : Option BoundTotal → List ℕ
+bound_text None = codes ": may reject"
+bound_text (Some bound) = total_text bound
+
+-- the text of the blocked vector's total with its limit
+abbrev pub blocked_text : PoolLine → List ℕ
+blocked_text line = codes ", blocked " ++ decimal line.blocked ++ codes " of " ++ decimal line.limit ++ 10 ∷ []
 
 -- the line of the pool with this name
 abbrev pub pool_line_text : List ℕ → PoolLine → List ℕ
-pool_line_text name line = codes "pool " ++ name ++ bound_words line.lifetime ++ sides line
+pool_line_text name line = codes "pool " ++ name ++ bound_text line.bound ++ blocked_text line
 
 abbrev pub pool_lines_text : Plan → List PoolLine → List ℕ
 pool_lines_text plan lines = flat_map (λ entry. pool_line_text (pool_at plan entry.0).name entry.1) (enumerate_from 0 lines)

@@ -1,19 +1,24 @@
 -- The verdict on a plan and a certificate.
-use Rattle.std.specs.Prelude.{ℕ, ◌-◌, Bool, List, map}
+use Rattle.std.specs.Prelude.{ℕ, ◌-◌, Bool, List, map, Option, Some, None}
 use Rattle.std.specs.List.{enumerate_from}
 use Rattle.job_bodies.specs.Plan.{Plan, pool_at}
+use Rattle.weights.specs.declared.bound.Bound.{Bound}
 use Rattle.weights.specs.Vector.{total}
 use Rattle.weights.specs.Bound.{bound_vector, bound_limit, is_lifetime}
 use Rattle.cert_text.specs.Cert.{Cert, pool_cert_at}
 use Rattle.soundness.specs.Accepted.{accepted}
+use Rattle.cert_check.specs.declared.answer.BoundTotal.{BoundTotal}
 use Rattle.cert_check.specs.declared.answer.PoolLine.{PoolLine}
+
+-- the total of the bound of pool p with its limit, or None if there is no bound
+abbrev pub bound_total : Plan → ℕ → Option Bound → Option BoundTotal
+bound_total plan p None = None
+bound_total plan p (Some bound) = Some (record { lifetime = is_lifetime bound; total = total plan (bound_vector bound); limit = bound_limit plan p bound })
 
 -- the totals of pool p's two vectors, each with its limit
 abbrev pub pool_line : Plan → Cert → ℕ → PoolLine
 pool_line plan cert p = record {
-  lifetime = is_lifetime (pool_cert_at cert p).bound;
-  standing = total plan (bound_vector (pool_cert_at cert p).bound);
-  queue = bound_limit plan p (pool_cert_at cert p).bound;
+  bound = bound_total plan p (pool_cert_at cert p).bound;
   blocked = total plan (pool_cert_at cert p).blocked;
   limit = (pool_at plan p).core - 1;
 }

@@ -1,20 +1,23 @@
 //! The test whether a certificate accepts a plan. A certificate has ranks and, for each pool, a
-//! bound of the queue (a standing or a lifetime vector) and a blocked vector.
+//! bound of the queue (a standing or a lifetime vector) and a blocked vector. A pool that may
+//! reject jobs need not have a bound.
 
-ghost use Rattle.std.specs.Prelude.{◌≡◌, ◌<◌, ◌&&◌, IsTrue, length};
+ghost use Rattle.std.specs.Prelude.{◌≡◌, ◌<◌, ◌&&◌, not, IsTrue, length};
 ghost use Rattle.std.specs.List.{list_all, enumerate_from};
+ghost use Rattle.job_bodies.specs.Plan.{pool_at};
+ghost use Rattle.weights.specs.Row.{fails};
+ghost use Rattle.weights.specs.Standing.{standing_rows};
 ghost use Rattle.weights.specs.Vector.{vector_fits};
-ghost use Rattle.weights.specs.Bound.{bound_vector};
-ghost use Rattle.cert_text.specs.Cert.{cert_fits, pool_cert_at};
+ghost use Rattle.cert_text.specs.Cert.{bound_fits, cert_fits, pool_cert_at};
 ghost use Rattle.soundness.specs.Conditions.{failing};
 ghost use Rattle.soundness.specs.Accepted.{is_nil, accepted};
 ghost use Rattle.soundness.specs.Headline.{Promises, RefusesNothing, JavaRefusesNothing};
-ghost use Rattle.cert_check.specs.PoolConditions.{pool_holds};
+ghost use Rattle.cert_check.specs.PoolConditions.{bound_holds, pool_holds};
 ghost use Rattle.cert_check.specs.Standing as spec;
 
 use cert_text::Cert;
 use job_bodies::Plan;
-use weights::{Bound, RanksOf, blocked_fault};
+use weights::{Bound, RanksOf, Vector, blocked_fault};
 
 /// Returns whether the certificate has the shape of the plan, and all its conditions hold.
 /// Allocates no memory.
@@ -42,8 +45,9 @@ pub(crate) fn conditions_hold(plan: &Plan, cert: &Cert) -> bool
     true
 }
 
-/// Returns whether all conditions of the pool's bound and of its blocked vector hold. The
-/// certificate must fit the plan.
+/// Returns whether all conditions of the pool's bound and of its blocked vector hold. A pool
+/// without a bound has only the conditions of its blocked vector. The certificate must fit the
+/// plan.
 pub(crate) fn pool_holds(plan: &Plan, cert: &Cert, pool: usize) -> bool
     requires fits { IsTrue (cert_fits plan.now cert.now) }
     requires pool { pool < length plan.now.pools }
@@ -51,12 +55,27 @@ pub(crate) fn pool_holds(plan: &Plan, cert: &Cert, pool: usize) -> bool
 {
     let of_pool = cert.pool_at(pool);
     let counted = RanksOf::new(plan, &cert.ranks);
-    of_pool.bound.fault(plan, pool).is_none()
+    bound_holds(plan, pool, &of_pool.bound)
         && blocked_fault(plan, pool, &counted, &of_pool.blocked).is_none()
 }
 
-/// Returns whether the certificate has the shape of the plan, and has for each pool a standing
-/// vector whose conditions all hold. Ignores the blocked vectors and the ranks.
+/// Returns whether all conditions of the pool's bound hold. If there is no bound, there are no
+/// conditions.
+fn bound_holds(plan: &Plan, pool: usize, bound: &Option<Bound>) -> bool
+    requires fits { IsTrue (bound_fits plan.now pool bound.now) }
+    requires pool { pool < length plan.now.pools }
+    ensures { result ≡ bound_holds plan.now pool bound.now }
+{
+    match bound {
+        Some(bound) => bound.fault(plan, pool).is_none(),
+        None => true,
+    }
+}
+
+/// Returns whether the certificate has the shape of the plan, no pool of the plan may reject jobs,
+/// and the certificate has for each pool a standing vector whose conditions all hold. Ignores the
+/// blocked vectors and the ranks. If a pool may reject jobs, the standing vectors alone are not
+/// enough, because a rejected job could increase the weight of a state.
 ///
 /// If the result is `true`, no submit is ever refused, even if each submit takes the separate steps
 /// of Java's `execute`. Allocates no memory.
@@ -84,14 +103,33 @@ fn has_valid_standing_vectors(plan: &Plan, cert: &Cert) -> bool
     true
 }
 
-/// Returns whether the bound is a standing vector whose conditions all hold.
-fn is_valid_standing_vector(plan: &Plan, pool: usize, bound: &Bound) -> bool
-    requires fits { IsTrue (vector_fits plan.now (bound_vector bound.now)) }
+/// Returns whether the pool must not reject jobs, and the bound is a standing vector whose
+/// conditions all hold.
+fn is_valid_standing_vector(plan: &Plan, pool: usize, bound: &Option<Bound>) -> bool
+    requires fits { IsTrue (bound_fits plan.now pool bound.now) }
     requires pool { pool < length plan.now.pools }
     ensures { result ≡ spec.is_valid_standing_vector plan.now pool bound.now }
 {
     match bound {
-        Bound::Standing(vector) => vector.standing_fault(plan, pool).is_none(),
-        Bound::Lifetime(_) => false,
+        Some(Bound::Standing(vector)) => !may_reject(plan, pool)
+            && all_rows_hold(plan, pool, vector),
+        Some(Bound::Lifetime(_)) | None => false,
     }
+}
+
+/// Returns whether all conditions of the pool's standing vector hold.
+fn all_rows_hold(plan: &Plan, pool: usize, vector: &Vector) -> bool
+    requires fits { IsTrue (vector_fits plan.now vector.now) }
+    requires pool { pool < length plan.now.pools }
+    ensures { result ≡ list_all (λ row. not (fails row)) (standing_rows plan.now pool vector.now) }
+{
+    vector.standing_fault(plan, pool).is_none()
+}
+
+fn may_reject(plan: &Plan, pool: usize) -> bool
+    requires { pool < length plan.now.pools }
+    ensures { result ≡ (pool_at plan.now pool).may_reject }
+{
+    let pool = &plan.pools()[pool];
+    pool.may_reject
 }

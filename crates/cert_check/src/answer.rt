@@ -4,18 +4,26 @@ ghost use Rattle.cert_check.specs.Verdict as spec;
 
 use std::marker::Model;
 
+/// The total of the vector that bounds a pool's queue, with its limit.
+#[derive(Clone, Copy, Debug, PartialEq, Eq)]
+pub struct BoundTotal {
+    /// Whether the vector is a lifetime vector, which bounds the number of all jobs that are ever
+    /// submitted to the pool.
+    pub lifetime: bool,
+    /// The total of the vector.
+    pub total: u64,
+    /// The limit of `total`: the queue's capacity or, for a lifetime vector, the number of jobs
+    /// that the pool accepts before it can refuse one.
+    pub limit: u64,
+}
+
 /// The totals of the two vectors of a pool, each with its limit. One vector bounds the pool's
 /// queue, and the other is the blocked vector.
 #[derive(Clone, Copy, Debug, PartialEq, Eq)]
 pub struct PoolLine {
-    /// Whether the vector that bounds the queue is a lifetime vector, which bounds the number of
-    /// all jobs that are ever submitted to the pool.
-    pub lifetime: bool,
-    /// The total of the vector that bounds the pool's queue.
-    pub standing: u64,
-    /// The limit of `standing`: the queue's capacity or, for a lifetime vector, the number of jobs
-    /// that the pool accepts before it can refuse one.
-    pub queue: u64,
+    /// The total of the vector that bounds the pool's queue, or `None` if the pool may reject jobs
+    /// and has no such vector.
+    pub bound: Option<BoundTotal>,
     /// The total of the blocked vector. It bounds the number of the pool's jobs that wait at
     /// [counted](weights::Counted) gets.
     pub blocked: u64,

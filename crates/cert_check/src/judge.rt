@@ -2,12 +2,12 @@
 
 ghost use Rattle.std.specs.Prelude.{◌≡◌, ◌<◌, IfOk, IsTrue, length, map};
 ghost use Rattle.std.specs.List.{enumerate_from};
-ghost use Rattle.cert_text.specs.Cert.{cert_fits};
+ghost use Rattle.cert_text.specs.Cert.{bound_fits, cert_fits};
 ghost use Rattle.soundness.specs.Headline.{Promises};
 ghost use Rattle.cert_check.specs.Verdict as spec;
 
 use crate::acceptance::conditions_hold;
-use crate::{PoolLine, Verdict};
+use crate::{BoundTotal, PoolLine, Verdict};
 use cert_text::Cert;
 use job_bodies::Plan;
 use std::alloc::{AllocError, Global};
@@ -54,10 +54,24 @@ pub(crate) fn pool_line(plan: &Plan, cert: &Cert, pool: usize) -> PoolLine
     let of_pool = cert.pool_at(pool);
     let sizes = &plan.pools()[pool];
     PoolLine {
-        lifetime: matches!(of_pool.bound, Bound::Lifetime(_)),
-        standing: of_pool.bound.vector().total(plan),
-        queue: of_pool.bound.limit(plan, pool),
+        bound: bound_total(plan, pool, &of_pool.bound),
         blocked: of_pool.blocked.total(plan),
         limit: sizes.core - 1,
+    }
+}
+
+/// Returns the total of the pool's bound with its limit, or `None` if the pool has no bound.
+fn bound_total(plan: &Plan, pool: usize, bound: &Option<Bound>) -> Option<BoundTotal>
+    requires fits { IsTrue (bound_fits plan.now pool bound.now) }
+    requires pool { pool < length plan.now.pools }
+    ensures { result ≡ spec.bound_total plan.now pool bound.now }
+{
+    match bound {
+        Some(bound) => Some(BoundTotal {
+            lifetime: bound.is_lifetime(),
+            total: bound.vector().total(plan),
+            limit: bound.limit(plan, pool),
+        }),
+        None => None,
     }
 }

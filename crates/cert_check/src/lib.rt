@@ -16,7 +16,7 @@ mod pool_gate;
 mod text;
 
 pub use acceptance::{accepts, accepts_standing};
-pub use answer::{PoolLine, Verdict};
+pub use answer::{BoundTotal, PoolLine, Verdict};
 pub use certified::Certified;
 pub use from_bytes::{CheckFault, check};
 pub use judge::verdict;

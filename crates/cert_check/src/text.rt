@@ -4,12 +4,13 @@ ghost use Rattle.job_bodies.specs.Plan.{pool_at};
 ghost use Rattle.cert_check.specs.Text as spec;
 ghost use Rattle.support.specs.Pushed.{Pushes};
 
-use crate::{PoolLine, Verdict};
+use crate::{BoundTotal, PoolLine, Verdict};
 use job_bodies::Plan;
 use std::alloc::AllocError;
 
 /// Appends the text of a verdict on the plan: `yes` or `no`, and then a line for each pool such as
-/// `pool pages: standing 2 of 2, blocked 0 of 0`.
+/// `pool pages: standing 2 of 2, blocked 0 of 0`, or `pool pages: may reject, blocked 0 of 0` if the
+/// pool has no vector that bounds its queue.
 ///
 /// # Errors
 ///
@@ -49,11 +50,28 @@ fn push_named_line(text: &mut String, name: &str, line: &PoolLine) -> Result<(),
     ensures { Pushes result text.old text.new (spec.pool_line_text name.now line.now) }
 {
     write!(text, "pool {name}")?;
-    push_bound(text, line.lifetime)?;
-    push_sides(text, line)
+    push_bound(text, &line.bound)?;
+    push_blocked(text, line)
 }
 
-fn push_bound(text: &mut String, lifetime: bool) -> Result<(), AllocError>
+fn push_bound(text: &mut String, bound: &Option<BoundTotal>) -> Result<(), AllocError>
+    ensures { Pushes result text.old text.new (spec.bound_text bound.now) }
+{
+    match bound {
+        Some(bound) => push_total(text, bound),
+        None => text.push_str(": may reject"),
+    }
+}
+
+fn push_total(text: &mut String, bound: &BoundTotal) -> Result<(), AllocError>
+    ensures { Pushes result text.old text.new (spec.total_text bound.now) }
+{
+    push_kind(text, bound.lifetime)?;
+    let (total, limit) = (bound.total, bound.limit);
+    write!(text, "{total} of {limit}")
+}
+
+fn push_kind(text: &mut String, lifetime: bool) -> Result<(), AllocError>
     ensures { Pushes result text.old text.new (spec.bound_words lifetime) }
 {
     text.push_str(if lifetime {
@@ -63,10 +81,9 @@ fn push_bound(text: &mut String, lifetime: bool) -> Result<(), AllocError>
     })
 }
 
-fn push_sides(text: &mut String, line: &PoolLine) -> Result<(), AllocError>
-    ensures { Pushes result text.old text.new (spec.sides line.now) }
+fn push_blocked(text: &mut String, line: &PoolLine) -> Result<(), AllocError>
+    ensures { Pushes result text.old text.new (spec.blocked_text line.now) }
 {
-    let (standing, queue) = (line.standing, line.queue);
     let (blocked, limit) = (line.blocked, line.limit);
-    writeln!(text, "{standing} of {queue}, blocked {blocked} of {limit}")
+    writeln!(text, ", blocked {blocked} of {limit}")
 }

@@ -12,9 +12,18 @@ use weights::{Bound, Ranks, Vector};
 /// The known parts of a certificate for one pool.
 #[derive(Drop)]
 struct PoolDraft {
+    /// Whether the pool needs a bound, because it must not reject jobs.
+    needs_bound: bool,
     rank: Option<u64>,
     bound: Option<Bound>,
     blocked: Option<Vector>,
+}
+
+impl PoolDraft {
+    /// Returns whether the bound is known, or the pool needs none.
+    fn is_bounded(&self) -> bool {
+        self.bound.is_some() || !self.needs_bound
+    }
 }
 
 /// The known parts of a certificate for each pool, in plan order.
@@ -27,8 +36,9 @@ impl Draft {
     /// Creates a draft without any known part.
     pub(crate) fn of(alloc: Global, plan: &Plan) -> Result<Draft, AllocError> {
         let mut pools = Vec::with_capacity(alloc, plan.pools().len())?;
-        for _ in plan.pools() {
+        for pool in plan.pools() {
             pools.push(PoolDraft {
+                needs_bound: !pool.may_reject,
                 rank: None,
                 bound: None,
                 blocked: None,
@@ -60,7 +70,7 @@ impl Draft {
 
     /// Records the results of a round, and gives `rank` to each pool whose blocked vector was
     /// found. Returns `false` if no pool got the rank. Also returns `false` if this was the first
-    /// round and it found no bound for some pool.
+    /// round and it found no bound for some pool that must not reject jobs.
     pub(crate) fn note(&mut self, found: Vec<PoolVectors>, rank: u64) -> bool {
         let mut moved = false;
         let mut bounded = true;
@@ -71,10 +81,10 @@ impl Draft {
                 blocked,
             } = found;
             if let Some(draft) = self.pools.get_mut(pool) {
-                bounded = bounded && (bound.is_some() || draft.bound.is_some());
                 if bound.is_some() {
                     draft.bound = bound;
                 }
+                bounded = bounded && draft.is_bounded();
                 if blocked.is_some() {
                     draft.blocked = blocked;
                     draft.rank = Some(rank);
@@ -85,8 +95,8 @@ impl Draft {
         moved && bounded
     }
 
-    /// Returns the certificate, or `None` if the bound or the blocked vector of a pool is not
-    /// known.
+    /// Returns the certificate, or `None` if the blocked vector of a pool is not known, or the bound
+    /// of a pool that must not reject jobs.
     pub(crate) fn into_cert(
         self,
         alloc: Global,
@@ -102,14 +112,18 @@ impl Draft {
         } = levels;
         let mut pools = Vec::with_capacity(alloc, self.pools.len())?;
         for draft in self.pools {
+            if !draft.is_bounded() {
+                return Ok(None);
+            }
             let PoolDraft {
+                needs_bound: _,
                 rank: _,
                 bound,
                 blocked,
             } = draft;
-            match (bound, blocked) {
-                (Some(bound), Some(blocked)) => pools.push(PoolCert { bound, blocked })?,
-                _ => return Ok(None),
+            match blocked {
+                Some(blocked) => pools.push(PoolCert { bound, blocked })?,
+                None => return Ok(None),
             }
         }
         Ok(Some(Cert {

@@ -49,6 +49,9 @@ impl From<AllocError> for SearchFault {
 /// exactly when [`cause_of`](size_search::cause_of) finds no cause. The result does not depend on
 /// the number of workers, which is tested, and not proved.
 ///
+/// A pool that may reject jobs needs no bound. The certificate has a bound of such a pool if the
+/// rounds find one, and the pool then never rejects a job.
+///
 /// In each round the workers search for the vectors of the pools without a rank. A pool whose
 /// blocked vector is found gets the round's number as its rank. In the next round, a get is not
 /// counted if its job, and all jobs for which that job waits directly or through others, are in

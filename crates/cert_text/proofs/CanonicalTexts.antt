@@ -1,5 +1,5 @@
 -- Proofs that a text in canonical form is read as the certificate from which it was written.
-use Rattle.std.proofs.Common.{◌≡◌, ℕ, ◌^◌, ◌<◌, ◌≤◌, ◌&&◌, true, List, [], ◌∷◌, ◌++◌, length, length-append, append-nil, codes, Some, Ok, refl, sym, ap, subst, ◌∙◌, arith}
+use Rattle.std.proofs.Common.{◌≡◌, ℕ, ◌^◌, ◌<◌, ◌≤◌, ◌&&◌, true, List, [], ◌∷◌, ◌++◌, length, length-append, append-nil, codes, Option, Some, None, Ok, refl, sym, ap, subst, ◌∙◌, arith}
 use Rattle.std.specs.List.{list_all}
 use Rattle.std.specs.Str.{is_utf8}
 use Rattle.std.proofs.lemmas.Bool.{and_parts, leb-true}
@@ -12,16 +12,15 @@ use Rattle.job_bodies.specs.declared.limits.TheConstants.{MAX_WEIGHT, MAX_CERT_B
 use Rattle.weights.specs.declared.bound.Bound.{Bound}
 use Rattle.weights.specs.declared.bound.Bound.TheVariants.{Standing, Lifetime}
 use Rattle.weights.specs.Vector.{Vector, is_small, has_small_numbers}
-use Rattle.weights.specs.Bound.{bound_vector}
 use Rattle.weights.specs.Ranks.{Ranks}
 use Rattle.cert_text.specs.Cert.{PoolCert, Cert, cert_fits}
-use Rattle.cert_text.specs.Sizes.{pool_has_small_numbers, ranks_have_small_numbers, cert_has_small_numbers}
+use Rattle.cert_text.specs.Sizes.{bound_has_small_numbers, pool_has_small_numbers, ranks_have_small_numbers, cert_has_small_numbers}
 use Rattle.cert_text.specs.CertOf.{cert_of}
 use Rattle.cert_text.specs.CertText.{number_data, numbers_data, rows_data, vector_data, bounded_data, pool_data, ranks_data, version_number, cert_data, cert_text}
 use Rattle.cert_text.specs.Canonical.{IsCanonical}
 use Rattle.cert_text.proofs.Lists.{list_all_place}
 use Rattle.cert_text.proofs.Blank.{read_before_blank, blank_is_utf8}
-use Rattle.cert_text.proofs.Readable.{IsReadable, IsKey, number_readable, deeper, list_readable, pair_readable, triple_readable, text_is_compact, text_reads}
+use Rattle.cert_text.proofs.Readable.{IsReadable, IsKey, number_readable, deeper, list_readable, single_readable, pair_readable, triple_readable, text_is_compact, text_reads}
 use Rattle.cert_text.proofs.ReadsBack.{fits_small, cert_back}
 
 small_fits : (n : ℕ) → is_small n ≡ true → n < 2 ^ 64
@@ -71,14 +70,15 @@ vector_readable v small =
     triple_readable 2 _ _ _ _ _ _ keys.classes keys.clients keys.workers (record { order = refl }) (record { order = refl }) (record { order = refl })
     (rows_readable v.classes classes.1) (rows_readable v.clients clients.1) (deeper _ 1 2 (omega arith) (numbers_readable v.workers classes.0))
 
-bounded_readable : (blocked : Vector) (bound : Bound) → has_small_numbers (bound_vector bound) ≡ true → has_small_numbers blocked ≡ true → IsReadable 4 (bounded_data (vector_data blocked) bound)
+bounded_readable : (blocked : Vector) (bound : Option Bound) → bound_has_small_numbers bound ≡ true → has_small_numbers blocked ≡ true → IsReadable 4 (bounded_data (vector_data blocked) bound)
 unfolding bounded_data
-bounded_readable blocked (Standing v) first second = pair_readable 3 _ _ _ _ keys.blocked keys.standing (record { order = refl }) (vector_readable blocked second) (vector_readable v first)
-bounded_readable blocked (Lifetime v) first second = pair_readable 3 _ _ _ _ keys.blocked keys.lifetime (record { order = refl }) (vector_readable blocked second) (vector_readable v first)
+bounded_readable blocked None first second = single_readable 3 _ _ keys.blocked (vector_readable blocked second)
+bounded_readable blocked (Some (Standing v)) first second = pair_readable 3 _ _ _ _ keys.blocked keys.standing (record { order = refl }) (vector_readable blocked second) (vector_readable v first)
+bounded_readable blocked (Some (Lifetime v)) first second = pair_readable 3 _ _ _ _ keys.blocked keys.lifetime (record { order = refl }) (vector_readable blocked second) (vector_readable v first)
 
 pool_readable : (pool : PoolCert) → pool_has_small_numbers pool ≡ true → IsReadable 4 (pool_data pool)
 pool_readable pool small =
-    let both = and_parts (has_small_numbers (bound_vector pool.bound)) _ small in
+    let both = and_parts (bound_has_small_numbers pool.bound) _ small in
     bounded_readable pool.blocked pool.bound both.0 both.1
 
 ranks_readable : (ranks : Ranks) → ranks_have_small_numbers ranks ≡ true → IsReadable 2 (ranks_data ranks)

@@ -7,14 +7,14 @@ use Rattle.serde_json.specs.Data.{Data}
 use Rattle.support.specs.Reading.{ensure, ok_or}
 use Rattle.support.proofs.Steps.{bind_ok, holds_ok, ok_injective}
 use Rattle.support.proofs.ReadElements.{read_length, read_at}
-use Rattle.job_bodies.specs.Plan.{Plan, Class, Client, no_class, no_client}
-use Rattle.job_bodies.proofs.Passing.{EachPlace, both_passed, list_all_from, list_all_enumerated_from}
+use Rattle.job_bodies.specs.Plan.{Plan, Class, Client, no_class, no_client, pool_at}
+use Rattle.job_bodies.proofs.Passing.{EachPlace, both_passed, list_all_enumerated_from}
 use Rattle.weights.specs.declared.bound.Bound.{Bound}
 use Rattle.weights.specs.declared.bound.Bound.TheVariants.{Standing, Lifetime}
-use Rattle.weights.specs.Vector.{Vector, has_shape, has_small_numbers, is_small}
+use Rattle.weights.specs.Vector.{Vector, has_shape, is_small}
 use Rattle.weights.specs.Bound.{bound_vector}
 use Rattle.weights.specs.Ranks.{Ranks, ranks_fit}
-use Rattle.cert_text.specs.Cert.{PoolCert, Cert, pool_cert_fits, cert_fits}
+use Rattle.cert_text.specs.Cert.{PoolCert, Cert, bound_fits, pool_cert_fits, cert_fits}
 use Rattle.cert_text.specs.declared.fault.CertFault.{CertFault}
 use Rattle.cert_text.specs.declared.version.Version.{Version}
 use Rattle.cert_text.specs.declared.version.Version.TheVariants.{One, Two}
@@ -23,9 +23,9 @@ use Rattle.support.specs.declared.number.TheConstants.{WEIGHT_TOO_LARGE}
 use Rattle.cert_text.specs.Version.{version_of}
 use Rattle.cert_text.specs.Vectors.{numbers_of, class_points, client_points, class_rows, client_rows, vector_of}
 use Rattle.cert_text.specs.Canonical.{AreRows}
-use Rattle.cert_text.specs.Shape.{standing_of, lifetime_of, lifetime_or_standing, bound_of, pool_of, pools_of, ranks_of, shape_of}
-use Rattle.cert_text.specs.Sizes.{pool_has_small_numbers, ranks_have_small_numbers, cert_has_small_numbers}
-use Rattle.cert_text.proofs.Lists.{list_all_place}
+use Rattle.cert_text.specs.Shape.{standing_of, lifetime_of, no_bound_of, either_of, bound_of, keys_with, pool_of, pools_of, ranks_of, shape_of}
+use Rattle.cert_text.specs.Sizes.{bound_has_small_numbers, pool_has_small_numbers, ranks_have_small_numbers, cert_has_small_numbers}
+use Rattle.cert_text.proofs.Lists.{list_all_place, list_all_enumerated_all}
 use Rattle.cert_text.specs.CertOf.{document_of, cert_of_value, cert_of}
 
 elements_counted : (count : ℕ) (value : Data) (values : List Data) → elements_of count value ≡ Ok values → length values ≡ count
@@ -97,48 +97,61 @@ vector_read plan value v e =
     let shaped : has_shape plan made ≡ true = rows_shape plan made (numbers_counted _ _ workers.0 workers.1) (class_rows_read plan at_classes.0 classes.0 classes.1) (client_rows_read plan at_clients.0 clients.0 clients.1) in
     subst (λ (w : Vector). has_shape plan w ≡ true) (ok_injective {F = CertFault} made v clients.2) shaped
 
-standing_read : (plan : Plan) (pool : Data) (bound : Bound) → standing_of plan pool ≡ Ok bound → has_shape plan (bound_vector bound) ≡ true
+-- the bound of pool p has the plan's shape; no bound is for a pool that may reject jobs
+abbrev bound_has_shape : Plan → ℕ → Option Bound → Bool
+bound_has_shape plan p None = (pool_at plan p).may_reject
+bound_has_shape plan p (Some bound) = has_shape plan (bound_vector bound)
+
+standing_read : (plan : Plan) (p : ℕ) (value : Data) (bound : Option Bound) → standing_of plan value ≡ Ok bound → bound_has_shape plan p bound ≡ true
 unfolding standing_of
-standing_read plan pool bound e =
-    let at_vector = bind_ok (value_at (codes "standing") pool) _ _ e in
-    let vector = bind_ok (vector_of plan at_vector.0) _ _ at_vector.2 in
-    subst (λ (b : Bound). has_shape plan (bound_vector b) ≡ true) (ok_injective {F = CertFault} (Standing vector.0) bound vector.2) (vector_read plan at_vector.0 vector.0 vector.1)
-
-lifetime_read : (plan : Plan) (value : Data) (bound : Bound) → lifetime_of plan value ≡ Ok bound → has_shape plan (bound_vector bound) ≡ true
-unfolding lifetime_of
-lifetime_read plan value bound e =
+standing_read plan p value bound e =
     let vector = bind_ok (vector_of plan value) _ _ e in
-    subst (λ (b : Bound). has_shape plan (bound_vector b) ≡ true) (ok_injective {F = CertFault} (Lifetime vector.0) bound vector.2) (vector_read plan value vector.0 vector.1)
+    subst (λ (b : Option Bound). bound_has_shape plan p b ≡ true) (ok_injective {F = CertFault} (Some (Standing vector.0)) bound vector.2) (vector_read plan value vector.0 vector.1)
 
-either_read : (plan : Plan) (pool : Data) (found : Option Data) (bound : Bound) → lifetime_or_standing plan pool found ≡ Ok bound → has_shape plan (bound_vector bound) ≡ true
-either_read plan pool (Some value) bound e = lifetime_read plan value bound e
-either_read plan pool None bound e = standing_read plan pool bound e
+lifetime_read : (plan : Plan) (p : ℕ) (value : Data) (bound : Option Bound) → lifetime_of plan value ≡ Ok bound → bound_has_shape plan p bound ≡ true
+unfolding lifetime_of
+lifetime_read plan p value bound e =
+    let vector = bind_ok (vector_of plan value) _ _ e in
+    subst (λ (b : Option Bound). bound_has_shape plan p b ≡ true) (ok_injective {F = CertFault} (Some (Lifetime vector.0)) bound vector.2) (vector_read plan value vector.0 vector.1)
 
-bound_read : (version : Version) (plan : Plan) (pool : Data) (bound : Bound) → bound_of version plan pool ≡ Ok bound → has_shape plan (bound_vector bound) ≡ true
-bound_read One plan pool bound e = standing_read plan pool bound e
-bound_read Two plan pool bound e = either_read plan pool _ bound e
+no_bound_read : (plan : Plan) (p : ℕ) (bound : Option Bound) → no_bound_of plan p ≡ Ok bound → bound_has_shape plan p bound ≡ true
+unfolding no_bound_of
+no_bound_read plan p bound e =
+    let allowed = both_passed (ensure (pool_at plan p).may_reject wrong_shape) _ bound e in
+    subst (λ (b : Option Bound). bound_has_shape plan p b ≡ true) (ok_injective {F = CertFault} None bound allowed.1) (holds_ok _ wrong_shape allowed.0)
 
-abbrev pool_has_shape : Plan → PoolCert → Bool
-pool_has_shape plan pool = has_shape plan (bound_vector pool.bound) && has_shape plan pool.blocked
+either_read : (plan : Plan) (p : ℕ) (lifetime standing : Option Data) (bound : Option Bound) → either_of plan p lifetime standing ≡ Ok bound → bound_has_shape plan p bound ≡ true
+either_read plan p (Some value) standing bound e = lifetime_read plan p value bound e
+either_read plan p None (Some value) bound e = standing_read plan p value bound e
+either_read plan p None None bound e = no_bound_read plan p bound e
 
-pool_read : (version : Version) (plan : Plan) (value : Data) (pool : PoolCert) → pool_of version plan value ≡ Ok pool → pool_has_shape plan pool ≡ true
+bound_read : (version : Version) (plan : Plan) (p : ℕ) (pool : Data) (bound : Option Bound) → bound_of version plan p pool ≡ Ok bound → bound_has_shape plan p bound ≡ true
+bound_read One plan p pool bound e =
+    let value = bind_ok (value_at (codes "standing") pool) _ _ e in
+    standing_read plan p value.0 bound value.2
+bound_read Two plan p pool bound e = either_read plan p _ _ bound e
+
+abbrev pool_has_shape : Plan → ℕ → PoolCert → Bool
+pool_has_shape plan p pool = bound_has_shape plan p pool.bound && has_shape plan pool.blocked
+
+pool_read : (version : Version) (plan : Plan) (p : ℕ) (value : Data) (pool : PoolCert) → pool_of version plan p value ≡ Ok pool → pool_has_shape plan p pool ≡ true
 unfolding pool_of
-pool_read version plan value pool e =
-    let keys = both_passed (check_keys 2 value) _ pool e in
-    let bound = bind_ok (bound_of version plan value) _ _ keys.1 in
-    let at_blocked = bind_ok (value_at (codes "blocked") value) _ _ bound.2 in
+pool_read version plan p value pool e =
+    let bound = bind_ok (bound_of version plan p value) _ _ e in
+    let keys = both_passed (check_keys (keys_with bound.0) value) _ pool bound.2 in
+    let at_blocked = bind_ok (value_at (codes "blocked") value) _ _ keys.1 in
     let blocked = bind_ok (vector_of plan at_blocked.0) _ _ at_blocked.2 in
     let made : PoolCert = record { bound = bound.0; blocked = blocked.0 } in
-    let shaped : pool_has_shape plan made ≡ true = and_from _ _ (bound_read version plan value bound.0 bound.1) (vector_read plan at_blocked.0 blocked.0 blocked.1) in
-    subst (λ (p : PoolCert). pool_has_shape plan p ≡ true) (ok_injective {F = CertFault} made pool blocked.2) shaped
+    let shaped : pool_has_shape plan p made ≡ true = and_from _ _ (bound_read version plan p value bound.0 bound.1) (vector_read plan at_blocked.0 blocked.0 blocked.1) in
+    subst (λ (part : PoolCert). pool_has_shape plan p part ≡ true) (ok_injective {F = CertFault} made pool blocked.2) shaped
 
-pools_read : (version : Version) (plan : Plan) (value : Data) (pools : List PoolCert) → pools_of version plan value ≡ Ok pools → (length pools ≡ length plan.pools) × EachPlace pools (λ p pool. pool_has_shape plan pool ≡ true)
+pools_read : (version : Version) (plan : Plan) (value : Data) (pools : List PoolCert) → pools_of version plan value ≡ Ok pools → (length pools ≡ length plan.pools) × EachPlace pools (λ p pool. pool_has_shape plan p pool ≡ true)
 unfolding pools_of
 pools_read version plan value pools e =
     let found = bind_ok (elements_of (length plan.pools) value) _ _ e in
-    let read : ℕ → Data → Result PoolCert CertFault = λ _. pool_of version plan in (
+    let read : ℕ → Data → Result PoolCert CertFault = pool_of version plan in (
       read_length read 0 found.0 pools found.2 ∙ elements_counted _ value found.0 found.1,
-      λ p pool here. let from = read_at read found.0 pools p pool found.2 here in pool_read version plan from.0 pool from.2,
+      λ p pool here. let from = read_at read found.0 pools p pool found.2 here in pool_read version plan p from.0 pool from.2,
     )
 
 abbrev ranks_have_shape : Plan → Ranks → Bool
@@ -162,12 +175,16 @@ ranks_read plan value ranks e =
     (eq-eqb _ _ (numbers_counted _ _ levels.0 levels.1)) in
     subst (λ (r : Ranks). ranks_have_shape plan r ≡ true) (ok_injective {F = CertFault} made ranks levels.2) shaped
 
+bound_fits_of : (plan : Plan) (p : ℕ) (bound : Option Bound) → bound_has_shape plan p bound ≡ true → bound_has_small_numbers bound ≡ true → bound_fits plan p bound ≡ true
+bound_fits_of plan p None shaped small = shaped
+bound_fits_of plan p (Some bound) shaped small = and_from _ _ shaped small
+
 -- a pool's part fits the plan if it has the plan's shape and its numbers are within the limit
-pool_fits_of : (plan : Plan) (pool : PoolCert) → pool_has_shape plan pool ≡ true → pool_has_small_numbers pool ≡ true → pool_cert_fits plan pool ≡ true
-pool_fits_of plan pool shaped small =
-    let shapes = and_parts (has_shape plan (bound_vector pool.bound)) _ shaped in
-    let sizes = and_parts (has_small_numbers (bound_vector pool.bound)) _ small in
-    and_from _ _ (and_from _ _ shapes.0 sizes.0) (and_from _ _ shapes.1 sizes.1)
+pool_fits_of : (plan : Plan) (p : ℕ) (pool : PoolCert) → pool_has_shape plan p pool ≡ true → pool_has_small_numbers pool ≡ true → pool_cert_fits plan p pool ≡ true
+pool_fits_of plan p pool shaped small =
+    let shapes = and_parts (bound_has_shape plan p pool.bound) _ shaped in
+    let sizes = and_parts (bound_has_small_numbers pool.bound) _ small in
+    and_from _ _ (bound_fits_of plan p pool.bound shapes.0 sizes.0) (and_from _ _ shapes.1 sizes.1)
 
 ranks_fit_of : (plan : Plan) (ranks : Ranks) → ranks_have_shape plan ranks ≡ true → ranks_have_small_numbers ranks ≡ true → ranks_fit plan ranks ≡ true
 ranks_fit_of plan ranks shaped small =
@@ -191,7 +208,7 @@ shape_fits version plan value cert e small =
     and_from _ _ (and_from _ _
     (eq-eqb _ _ pools_are.0)
     (ranks_fit_of plan ranks.0 (ranks_read plan at_ranks.0 ranks.0 ranks.1) sizes.1))
-    (list_all_from (pool_cert_fits plan) pools.0 (λ p pool here. pool_fits_of plan pool (pools_are.1 p pool here) (list_all_place pool_has_small_numbers pools.0 sizes.0 p pool here))) in
+    (list_all_enumerated_all (λ entry. pool_cert_fits plan entry.0 entry.1) pools.0 (λ p pool here. pool_fits_of plan p pool (pools_are.1 p pool here) (list_all_place pool_has_small_numbers pools.0 sizes.0 p pool here))) in
     subst (λ (c : Cert). cert_fits plan c ≡ true) {y = cert} same fit
 
 value_fits : (plan : Plan) (value : Data) (cert : Cert) → cert_of_value value plan ≡ Ok cert → cert_fits plan cert ≡ true

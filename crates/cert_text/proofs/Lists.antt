@@ -2,7 +2,7 @@
 use Rattle.std.proofs.Common.{◌≡◌, ℕ, zero, suc, ◌+◌, Bool, true, List, [], ◌∷◌, ◌++◌, length, map, refl, sym, ap, subst, ◌∙◌, arith, zero-add}
 use Rattle.std.specs.List.{list_all, enumerate_from}
 use Rattle.std.proofs.lemmas.Bool.{and_parts, and_from}
-use Rattle.job_bodies.proofs.Passing.{EachPlace}
+use Rattle.job_bodies.proofs.Passing.{EachPlace, list_all_enumerated_from}
 use Rattle.serde_json.specs.Data.{Data}
 use Rattle.serde_json.specs.View.{items_of, members_view}
 use Rattle.serde_json.proofs.Views.{Entry}
@@ -51,6 +51,10 @@ list_all_enumerated_place_from test n (y ∷ xs) h (suc i) x here =
 -- if `list_all` holds for a test of pairs of an index and an element, each element of the list passes it with its index
 pub list_all_enumerated_place : {X : Type 0} (test : ℕ × X → Bool) (xs : List X) → list_all test (enumerate_from 0 xs) ≡ true → EachPlace xs (λ i x. test (i, x) ≡ true)
 list_all_enumerated_place test xs h i x here = subst (λ (k : ℕ). test (k, x) ≡ true) (zero-add i) (list_all_enumerated_place_from test 0 xs h i x here)
+
+-- if each element of the list passes a test of pairs with its index, `list_all` holds for the test
+pub list_all_enumerated_all : {X : Type 0} (test : ℕ × X → Bool) (xs : List X) → EachPlace xs (λ i x. test (i, x) ≡ true) → list_all test (enumerate_from 0 xs) ≡ true
+list_all_enumerated_all test xs each = list_all_enumerated_from test 0 xs (λ i x here. subst (λ (k : ℕ). test (k, x) ≡ true) (sym (zero-add i)) (each i x here))
 
 pub map_twice : {X Y Z : Type 0} (f : Y → Z) (g : X → Y) (xs : List X) → map (λ x. f (g x)) xs ≡ map f (map g xs)
 map_twice f g [] = refl

@@ -1,5 +1,5 @@
 -- Proofs that the text of a certificate contains no `%`.
-use Rattle.std.proofs.Common.{◌≡◌, ℕ, zero, suc, ◌+◌, ◌/◌, ◌%◌, if◌then◌else◌, Bool, true, false, nat_eq, ◌==◌, List, [], ◌∷◌, ◌++◌, map, codes, decimal, refl, arith}
+use Rattle.std.proofs.Common.{◌≡◌, ℕ, zero, suc, ◌+◌, ◌/◌, ◌%◌, if◌then◌else◌, Bool, true, false, nat_eq, ◌==◌, List, [], ◌∷◌, ◌++◌, map, Option, Some, None, codes, decimal, refl, arith}
 use Rattle.std.specs.Fmt.{digit_glyph, digits_onto, digits}
 use Rattle.std.proofs.lemmas.Bool.{lt-ltb, ne_eqb}
 use Rattle.std.proofs.lemmas.List.Folds.{list_any-append}
@@ -78,6 +78,11 @@ nothing_bare = record { bare = refl }
 end_bare : IsBare (125 ∷ [])
 end_bare = record { bare = refl }
 
+single_bare : (j : List ℕ) (d : Data) → IsBareKey j → IsBareData d → IsBareData (object (member j d no_members))
+single_bare j d j_bare only =
+    let inside : IsBare (members_text false (member j d no_members)) = member_bare [] j d _ nothing_bare j_bare only end_bare in
+    record { text = record { bare = inside.bare } }
+
 pair_bare : (j k : List ℕ) (d e : Data) → IsBareKey j → IsBareKey k → IsBareData d → IsBareData e → IsBareData (object (member j d (member k e no_members)))
 pair_bare j k d e j_bare k_bare first second =
     let inside : IsBare (members_text false (member j d (member k e no_members))) =
@@ -124,10 +129,11 @@ vector_bare : (v : Vector) → IsBareData (vector_data v)
 unfolding vector_data
 vector_bare v = triple_bare _ _ _ _ _ _ keys.classes keys.clients keys.workers (rows_bare v.classes) (rows_bare v.clients) (numbers_bare v.workers)
 
-bounded_bare : (blocked : Vector) (bound : Bound) → IsBareData (bounded_data (vector_data blocked) bound)
+bounded_bare : (blocked : Vector) (bound : Option Bound) → IsBareData (bounded_data (vector_data blocked) bound)
 unfolding bounded_data
-bounded_bare blocked (Standing v) = pair_bare _ _ _ _ keys.blocked keys.standing (vector_bare blocked) (vector_bare v)
-bounded_bare blocked (Lifetime v) = pair_bare _ _ _ _ keys.blocked keys.lifetime (vector_bare blocked) (vector_bare v)
+bounded_bare blocked None = single_bare _ _ keys.blocked (vector_bare blocked)
+bounded_bare blocked (Some (Standing v)) = pair_bare _ _ _ _ keys.blocked keys.standing (vector_bare blocked) (vector_bare v)
+bounded_bare blocked (Some (Lifetime v)) = pair_bare _ _ _ _ keys.blocked keys.lifetime (vector_bare blocked) (vector_bare v)
 
 pool_bare : (pool : PoolCert) → IsBareData (pool_data pool)
 pool_bare pool = bounded_bare pool.blocked pool.bound

@@ -71,6 +71,10 @@ pub triple_read : (j k l : List ℕ) (d e f : Data) (text at_d after_d at_e afte
     → BeginsAs at_e e after_e → after_e ≡ next_key l ++ at_f → BeginsAs at_f f after_f → after_f ≡ 125 ∷ rest → BeginsAs text (object (member j d (member k e (member l f no_members)))) rest
 triple_read j k l d e f text at_d after_d at_e after_e at_f after_f rest a b c p q r s = simp (a, b, c, p, q, r, s, append_assoc)
 
+-- if the value of an object of one key was parsed, the object was parsed
+pub single_read : (j : List ℕ) (d : Data) (text at_d after_d rest : List ℕ) → text ≡ first_key j ++ at_d → BeginsAs at_d d after_d → after_d ≡ 125 ∷ rest → BeginsAs text (object (member j d no_members)) rest
+single_read j d text at_d after_d rest a b c = simp (a, b, c, append_assoc)
+
 -- if both values of an object of two keys were parsed in order, the second together with its key, the object was parsed
 pub pair_read : (j k : List ℕ) (d e : Data) (text at_d after_d after_e rest : List ℕ) → text ≡ first_key j ++ at_d → BeginsAs at_d d after_d → after_d ≡ (next_key k ++ compact_text e) ++ after_e → after_e ≡ 125 ∷ rest
     → BeginsAs text (object (member j d (member k e no_members))) rest

@@ -1,5 +1,5 @@
 -- Lemmas about lists and objects that are appended to a text, part by part.
-use Rattle.std.proofs.Common.{◌≡◌, ℕ, ◌≤◌, Result, Ok, Err, OnOk, is_ok, cond, Bool, List, [], ◌∷◌, ◌++◌, length, map, drop, codes, decimal, refl, sym, ap, ◌∙◌, append_assoc}
+use Rattle.std.proofs.Common.{◌≡◌, ℕ, ◌≤◌, Option, Some, None, Result, Ok, Err, OnOk, is_ok, cond, Bool, List, [], ◌∷◌, ◌++◌, length, map, drop, codes, decimal, refl, sym, ap, ◌∙◌, append_assoc, append-nil}
 use Rattle.std.proofs.lemmas.List.{at_drop_all}
 use Rattle.serde_json.specs.Data.{Data, object, member, no_members}
 use Rattle.serde_json.specs.View.{items_of}
@@ -44,6 +44,10 @@ pair_parts : (j k : List ℕ) (d e : Data) (old at_d after_d after_e : List ℕ)
     → after_e ++ 125 ∷ [] ≡ old ++ compact_text (object (member j d (member k e no_members)))
 pair_parts j k d e old at_d after_d after_e a b c = simp (a, b, c, append_assoc)
 
+-- an object of one key is appended if its parts are appended in order
+single_parts : (j : List ℕ) (d : Data) (old at_d after_d : List ℕ) → at_d ≡ old ++ first_key j → after_d ≡ at_d ++ compact_text d → after_d ++ 125 ∷ [] ≡ old ++ compact_text (object (member j d no_members))
+single_parts j d old at_d after_d a b = simp (a, b, append_assoc)
+
 -- the text is the whole text after the closing brace is appended
 closed : {T E : Type 0} (r : Result T E) (text whole end new : List ℕ) → text ++ 125 ∷ [] ≡ whole → end ≡ 125 ∷ [] → new ≡ cond (is_ok r) (text ++ end) text → OnOk r (new ≡ whole)
 closed (Ok x) text whole end new all is_end pushed = pushed ∙ (ap (λ (t : List ℕ). text ++ t) is_end ∙ all)
@@ -69,11 +73,12 @@ ranks_pushed r ranks old at_levels after_levels at_pools after_pools at_reach af
     (triple_parts (codes "levels") (codes "pools") (codes "reach") (numbers_data ranks.levels) (numbers_data ranks.pools) (numbers_data ranks.reach) old at_levels after_levels at_pools after_pools at_reach after_reach a b c d e f)
     is_end pushed
 
-pool_parts : (blocked : Vector) (bound : Bound) (old at_blocked after_blocked after_bound : List ℕ) → at_blocked ≡ old ++ codes "{\"blocked\":" → after_blocked ≡ at_blocked ++ compact_text (vector_data blocked)
+pool_parts : (blocked : Vector) (bound : Option Bound) (old at_blocked after_blocked after_bound : List ℕ) → at_blocked ≡ old ++ codes "{\"blocked\":" → after_blocked ≡ at_blocked ++ compact_text (vector_data blocked)
     → after_bound ≡ after_blocked ++ bound_text bound → after_bound ++ 125 ∷ [] ≡ old ++ compact_text (bounded_data (vector_data blocked) bound)
 unfolding bounded_data serde_json_on_literals
-pool_parts blocked (Standing v) old at_blocked after_blocked after_bound a b c = pair_parts (codes "blocked") (codes "standing") (vector_data blocked) (vector_data v) old at_blocked after_blocked after_bound a b c
-pool_parts blocked (Lifetime v) old at_blocked after_blocked after_bound a b c = pair_parts (codes "blocked") (codes "lifetime") (vector_data blocked) (vector_data v) old at_blocked after_blocked after_bound a b c
+pool_parts blocked None old at_blocked after_blocked after_bound a b c = single_parts (codes "blocked") (vector_data blocked) old at_blocked after_bound a (c ∙ append-nil after_blocked ∙ b)
+pool_parts blocked (Some (Standing v)) old at_blocked after_blocked after_bound a b c = pair_parts (codes "blocked") (codes "standing") (vector_data blocked) (vector_data v) old at_blocked after_blocked after_bound a b c
+pool_parts blocked (Some (Lifetime v)) old at_blocked after_blocked after_bound a b c = pair_parts (codes "blocked") (codes "lifetime") (vector_data blocked) (vector_data v) old at_blocked after_blocked after_bound a b c
 
 pub pool_pushed : {T E : Type 0} (r : Result T E) (pool : PoolCert) (old at_blocked after_blocked after_bound end new : List ℕ) → at_blocked ≡ old ++ codes "{\"blocked\":"
     → after_blocked ≡ at_blocked ++ compact_text (vector_data pool.blocked) → after_bound ≡ after_blocked ++ bound_text pool.bound → end ≡ 125 ∷ [] → new ≡ cond (is_ok r) (after_bound ++ end) after_bound

@@ -74,7 +74,7 @@ list_readable levels f xs each =
       utf8 = IsUtf8-append (91 ∷ []) _ (IsUtf8-are_ascii (91 ∷ []) refl) (elements.utf8 false);
     }
 
--- ---- objects of two and of three keys
+-- ---- objects of one, two and three keys
 pub record IsKey (key : List ℕ) : Type 0 where
   pub utf8 : IsUtf8 (quoted key)
 
@@ -91,6 +91,14 @@ brace_utf8 = IsUtf8-are_ascii (123 ∷ []) refl
 
 end_utf8 : IsUtf8 (125 ∷ [])
 end_utf8 = IsUtf8-are_ascii (125 ∷ []) refl
+
+pub single_readable : (levels : ℕ) (j : List ℕ) (d : Data) → IsKey j → IsReadable levels d → IsReadable (suc levels) (object (member j d no_members))
+single_readable levels j d key only = record {
+  numbers = (only.numbers, tt);
+  shallow = omega (arith, only.shallow);
+  back = rw only.back refl;
+  utf8 = member_utf8 (123 ∷ []) j d _ brace_utf8 key only.utf8 end_utf8;
+}
 
 pub pair_readable : (levels : ℕ) (j k : List ℕ) (d e : Data) → IsKey j → IsKey k → IsBefore j k → IsReadable levels d → IsReadable levels e → IsReadable (suc levels) (object (member j d (member k e no_members)))
 pair_readable levels j k d e first_key second_key jk first second = record {

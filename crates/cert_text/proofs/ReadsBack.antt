@@ -1,6 +1,6 @@
 -- Proofs that the text of a certificate that fits the plan is read as that certificate.
-use Rattle.std.proofs.Common.{◌≡◌, ℕ, suc, ◌+◌, ◌<◌, ◌≤◌, ◌==◌, ◌&&◌, Bool, true, false, List, [], ◌∷◌, length, map, get_or, Some, Result, Ok, refl, sym, ap, subst, ◌∙◌, arith, zero-add}
-use Rattle.std.specs.List.{list_all, list_any, enumerate_from}
+use Rattle.std.proofs.Common.{◌≡◌, ℕ, suc, ◌+◌, ◌<◌, ◌≤◌, ◌==◌, ◌&&◌, Bool, true, false, List, [], ◌∷◌, length, map, get_or, Option, Some, None, Result, Ok, refl, sym, ap, subst, ◌∙◌, arith, zero-add}
+use Rattle.std.specs.List.{list_all, enumerate_from}
 use Rattle.std.specs.Str.{is_utf8}
 use Rattle.std.proofs.lemmas.Bool.{and_from, and_parts, eqb-true, eq-eqb, le-leb}
 use Rattle.std.proofs.lemmas.List.{length-map}
@@ -9,23 +9,23 @@ use Rattle.serde_json.specs.Data.{Data}
 use Rattle.serde_json.specs.Read.{read}
 use Rattle.support.specs.Reading.{read_each}
 use Rattle.job_bodies.specs.Plan.{Plan, Class, Client, no_class, no_client}
-use Rattle.job_bodies.proofs.Passing.{EachPlace, list_all_from, list_any_get}
+use Rattle.job_bodies.proofs.Passing.{EachPlace, list_all_from}
 use Rattle.weights.specs.declared.bound.Bound.{Bound}
 use Rattle.weights.specs.declared.bound.Bound.TheVariants.{Standing, Lifetime}
 use Rattle.weights.specs.Vector.{Vector, has_shape, vector_fits, is_small}
-use Rattle.weights.specs.Bound.{bound_vector, is_lifetime}
+use Rattle.weights.specs.Bound.{bound_vector}
 use Rattle.weights.specs.Ranks.{Ranks, ranks_fit}
-use Rattle.cert_text.specs.Cert.{PoolCert, Cert, pool_cert_fits, cert_fits}
+use Rattle.cert_text.specs.Cert.{PoolCert, Cert, bound_fits, pool_cert_fits, cert_fits}
 use Rattle.job_bodies.specs.declared.limits.TheConstants.{MAX_CERT_BYTES}
 use Rattle.cert_text.specs.declared.version.Version.{Version}
 use Rattle.cert_text.specs.declared.version.Version.TheVariants.{One, Two}
 use Rattle.cert_text.specs.Values.{number_of, elements_of, check_keys}
 use Rattle.cert_text.specs.Version.{version_of}
 use Rattle.cert_text.specs.Vectors.{numbers_of, class_points, client_points, class_rows, client_rows, vector_of}
-use Rattle.cert_text.specs.Shape.{standing_of, lifetime_of, pool_of, pools_of, ranks_of, shape_of}
-use Rattle.cert_text.specs.Sizes.{pool_has_small_numbers, ranks_have_small_numbers, cert_has_small_numbers}
+use Rattle.cert_text.specs.Shape.{standing_of, lifetime_of, no_bound_of, pool_of, pools_of, ranks_of, shape_of}
+use Rattle.cert_text.specs.Sizes.{bound_has_small_numbers, pool_has_small_numbers, ranks_have_small_numbers, cert_has_small_numbers}
 use Rattle.cert_text.specs.CertOf.{document_of, cert_of_value, cert_of}
-use Rattle.cert_text.specs.CertText.{number_data, list_data, numbers_data, rows_data, vector_data, bounded_data, pool_data, ranks_data, cert_data}
+use Rattle.cert_text.specs.CertText.{number_data, list_data, numbers_data, rows_data, vector_data, bounded_data, pool_data, ranks_data, is_standing, cert_data}
 use Rattle.cert_text.proofs.Lists.{elements-items_of, list_all_place, list_all_enumerated_place}
 
 elements_back : (count : ℕ) (values : List Data) → length values ≡ count → elements_of count (list_data values) ≡ Ok values
@@ -83,39 +83,40 @@ vector_back plan v shaped =
     let clients_read = client_rows_back plan v.clients client_count (rows_long (λ (client : Client). length client.body + 1) no_client plan.clients v.clients client_count clients.1) in
     rw (workers_read, classes_read, clients_read) refl
 
--- a pool's part is read from its own data in version 2, which allows both kinds of bound
-bounded_back_two : (plan : Plan) (bound : Bound) (blocked : Vector) → has_shape plan (bound_vector bound) ≡ true → has_shape plan blocked ≡ true → pool_of Two plan (bounded_data (vector_data blocked) bound) ≡ Ok (record { bound = bound; blocked = blocked })
-unfolding pool_of check_keys standing_of lifetime_of bounded_data
-bounded_back_two plan (Standing v) blocked first second = rw (vector_back plan v first, vector_back plan blocked second) refl
-bounded_back_two plan (Lifetime v) blocked first second = rw (vector_back plan v first, vector_back plan blocked second) refl
+vector_shape : (plan : Plan) (v : Vector) → vector_fits plan v ≡ true → has_shape plan v ≡ true
+vector_shape plan v fits = (and_parts (has_shape plan v) _ fits).0
 
--- a pool's part without a lifetime vector is read from its own data in version 1
-bounded_back_one : (plan : Plan) (bound : Bound) (blocked : Vector) → is_lifetime bound ≡ false → has_shape plan (bound_vector bound) ≡ true → has_shape plan blocked ≡ true
-    → pool_of One plan (bounded_data (vector_data blocked) bound) ≡ Ok (record { bound = bound; blocked = blocked })
+-- a pool's part is read from its own data in version 2, which allows both kinds of vectors, and no vector if the pool may reject jobs
+bounded_back_two : (plan : Plan) (p : ℕ) (bound : Option Bound) (blocked : Vector) → bound_fits plan p bound ≡ true → vector_fits plan blocked ≡ true
+    → pool_of Two plan p (bounded_data (vector_data blocked) bound) ≡ Ok (record { bound = bound; blocked = blocked })
+unfolding pool_of check_keys standing_of lifetime_of no_bound_of bounded_data
+bounded_back_two plan p None blocked first second = rw (first, vector_back plan blocked (vector_shape plan blocked second)) refl
+bounded_back_two plan p (Some (Standing v)) blocked first second = rw (vector_back plan v (vector_shape plan v first), vector_back plan blocked (vector_shape plan blocked second)) refl
+bounded_back_two plan p (Some (Lifetime v)) blocked first second = rw (vector_back plan v (vector_shape plan v first), vector_back plan blocked (vector_shape plan blocked second)) refl
+
+-- a pool's part with a standing vector is read from its own data in version 1
+bounded_back_one : (plan : Plan) (p : ℕ) (bound : Option Bound) (blocked : Vector) → is_standing bound ≡ true → bound_fits plan p bound ≡ true → vector_fits plan blocked ≡ true
+    → pool_of One plan p (bounded_data (vector_data blocked) bound) ≡ Ok (record { bound = bound; blocked = blocked })
 unfolding pool_of check_keys standing_of bounded_data
-bounded_back_one plan (Standing v) blocked stands first second = rw (vector_back plan v first, vector_back plan blocked second) refl
-bounded_back_one plan (Lifetime v) blocked stands first second = absurd cc
+bounded_back_one plan p None blocked stands first second = absurd cc
+bounded_back_one plan p (Some (Standing v)) blocked stands first second = rw (vector_back plan v (vector_shape plan v first), vector_back plan blocked (vector_shape plan blocked second)) refl
+bounded_back_one plan p (Some (Lifetime v)) blocked stands first second = absurd cc
 
-pool_shapes : (plan : Plan) (pool : PoolCert) → pool_cert_fits plan pool ≡ true → (has_shape plan (bound_vector pool.bound) ≡ true) × (has_shape plan pool.blocked ≡ true)
-pool_shapes plan pool fits =
-    let both = and_parts (vector_fits plan (bound_vector pool.bound)) _ fits in
-    ((and_parts (has_shape plan (bound_vector pool.bound)) _ both.0).0, (and_parts (has_shape plan pool.blocked) _ both.1).0)
-
-pools_back : (version : Version) (plan : Plan) (pools : List PoolCert) → length pools ≡ length plan.pools → EachPlace pools (λ p pool. pool_of version plan (pool_data pool) ≡ Ok pool) → pools_of version plan (list_data (map pool_data pools)) ≡ Ok pools
+pools_back : (version : Version) (plan : Plan) (pools : List PoolCert) → length pools ≡ length plan.pools → EachPlace pools (λ p pool. pool_of version plan p (pool_data pool) ≡ Ok pool) → pools_of version plan (list_data (map pool_data pools)) ≡ Ok pools
 unfolding pools_of
-pools_back version plan pools long back = rw (elements_back (length plan.pools) (map pool_data pools) (length-map pools pool_data ∙ long)) (each_back (λ _. pool_of version plan) pool_data pools back)
+pools_back version plan pools long back = rw (elements_back (length plan.pools) (map pool_data pools) (length-map pools pool_data ∙ long)) (each_back (pool_of version plan) pool_data pools back)
 
 -- the parts of `cert_fits`
 record FitsByParts (plan : Plan) (cert : Cert) : Type 0 where
   count : length cert.pools ≡ length plan.pools
   ranks : ranks_fit plan cert.ranks ≡ true
-  pools : EachPlace cert.pools (λ p pool. pool_cert_fits plan pool ≡ true)
+  pools : EachPlace cert.pools (λ p pool. pool_cert_fits plan p pool ≡ true)
 
 by_parts : (plan : Plan) (cert : Cert) → cert_fits plan cert ≡ true → FitsByParts plan cert
 by_parts plan cert fits =
     let outer = and_parts (length cert.pools == length plan.pools && ranks_fit plan cert.ranks) _ fits in
     let inner = and_parts (length cert.pools == length plan.pools) _ outer.0 in
-    record { count = eqb-true _ _ inner.0; ranks = inner.1; pools = list_all_place (pool_cert_fits plan) cert.pools outer.1 }
+    record { count = eqb-true _ _ inner.0; ranks = inner.1; pools = list_all_enumerated_place (λ entry. pool_cert_fits plan entry.0 entry.1) cert.pools outer.1 }
 
 -- the parts of `ranks_fit`
 record RanksByParts (plan : Plan) (ranks : Ranks) : Type 0 where
@@ -139,41 +140,47 @@ unfolding ranks_of ranks_data check_keys
 ranks_back plan ranks fit =
     rw (numbers_back (length plan.pools) ranks.pools fit.pools, numbers_back (length plan.classes) ranks.reach fit.reach, numbers_back (length plan.classes) ranks.levels fit.levels) refl
 
-shape_back : (version : Version) (plan : Plan) (cert : Cert) → FitsByParts plan cert → EachPlace cert.pools (λ p pool. pool_of version plan (pool_data pool) ≡ Ok pool) → shape_of version plan (cert_data cert) ≡ Ok cert
+shape_back : (version : Version) (plan : Plan) (cert : Cert) → FitsByParts plan cert → EachPlace cert.pools (λ p pool. pool_of version plan p (pool_data pool) ≡ Ok pool) → shape_of version plan (cert_data cert) ≡ Ok cert
 unfolding shape_of cert_data check_keys
 shape_back version plan cert fit back = rw (pools_back version plan cert.pools fit.count back, ranks_back plan cert.ranks (ranks_by_parts plan cert.ranks fit.ranks)) refl
+
+bound_small : (plan : Plan) (p : ℕ) (bound : Option Bound) → bound_fits plan p bound ≡ true → bound_has_small_numbers bound ≡ true
+bound_small plan p None fits = refl
+bound_small plan p (Some bound) fits = (and_parts (has_shape plan (bound_vector bound)) _ fits).1
 
 pub fits_small : (plan : Plan) (cert : Cert) → cert_fits plan cert ≡ true → cert_has_small_numbers cert ≡ true
 unfolding cert_has_small_numbers
 fits_small plan cert fits =
     let fit = by_parts plan cert fits in
-    and_from _ _ (list_all_from pool_has_small_numbers cert.pools (λ p pool here. small pool (fit.pools p pool here))) (ranks_by_parts plan cert.ranks fit.ranks).small
+    and_from _ _ (list_all_from pool_has_small_numbers cert.pools (λ p pool here. small p pool (fit.pools p pool here))) (ranks_by_parts plan cert.ranks fit.ranks).small
   where
-    small : (pool : PoolCert) → pool_cert_fits plan pool ≡ true → pool_has_small_numbers pool ≡ true
-    small pool fits =
-        let both = and_parts (vector_fits plan (bound_vector pool.bound)) _ fits in
-        and_from _ _ (and_parts (has_shape plan (bound_vector pool.bound)) _ both.0).1 (and_parts (has_shape plan pool.blocked) _ both.1).1
+    small : (p : ℕ) (pool : PoolCert) → pool_cert_fits plan p pool ≡ true → pool_has_small_numbers pool ≡ true
+    small p pool fits =
+        let both = and_parts (bound_fits plan p pool.bound) _ fits in
+        and_from _ _ (bound_small plan p pool.bound both.0) (and_parts (has_shape plan pool.blocked) _ both.1).1
 
-version_two : (cert : Cert) → list_any (λ (pool : PoolCert). is_lifetime pool.bound) cert.pools ≡ true → version_of (cert_data cert) ≡ Ok Two
-unfolding version_of cert_data
-version_two cert e = rw e refl
-
-version_one : (cert : Cert) → list_any (λ (pool : PoolCert). is_lifetime pool.bound) cert.pools ≡ false → version_of (cert_data cert) ≡ Ok One
+version_one : (cert : Cert) → list_all (λ (pool : PoolCert). is_standing pool.bound) cert.pools ≡ true → version_of (cert_data cert) ≡ Ok One
 unfolding version_of cert_data
 version_one cert e = rw e refl
 
--- a certificate that fits is read from its own data, whether or not a pool has a lifetime vector
-value_back : (some : Bool) (plan : Plan) (cert : Cert) → list_any (λ (pool : PoolCert). is_lifetime pool.bound) cert.pools ≡ some → cert_fits plan cert ≡ true → cert_of_value (cert_data cert) plan ≡ Ok cert
+version_two : (cert : Cert) → list_all (λ (pool : PoolCert). is_standing pool.bound) cert.pools ≡ false → version_of (cert_data cert) ≡ Ok Two
+unfolding version_of cert_data
+version_two cert e = rw e refl
+
+-- a certificate that fits is read from its own data, whether or not each pool has a standing vector
+value_back : (all : Bool) (plan : Plan) (cert : Cert) → list_all (λ (pool : PoolCert). is_standing pool.bound) cert.pools ≡ all → cert_fits plan cert ≡ true → cert_of_value (cert_data cert) plan ≡ Ok cert
 unfolding cert_of_value
 value_back true plan cert e fits =
     let fit = by_parts plan cert fits in
-    let back = shape_back Two plan cert fit (λ p pool here. let shapes = pool_shapes plan pool (fit.pools p pool here) in bounded_back_two plan pool.bound pool.blocked shapes.0 shapes.1) in
-    rw (version_two cert e, back, fits_small plan cert fits) refl
+    let standing = list_all_place (λ (pool : PoolCert). is_standing pool.bound) cert.pools e in
+    let back = shape_back One plan cert fit
+    (λ p pool here. let both = and_parts (bound_fits plan p pool.bound) _ (fit.pools p pool here) in bounded_back_one plan p pool.bound pool.blocked (standing p pool here) both.0 both.1) in
+    rw (version_one cert e, back, fits_small plan cert fits) refl
 value_back false plan cert e fits =
     let fit = by_parts plan cert fits in
-    let back = shape_back One plan cert fit
-    (λ p pool here. let shapes = pool_shapes plan pool (fit.pools p pool here) in bounded_back_one plan pool.bound pool.blocked (list_any_get (λ (pool : PoolCert). is_lifetime pool.bound) cert.pools e p pool here) shapes.0 shapes.1) in
-    rw (version_one cert e, back, fits_small plan cert fits) refl
+    let back = shape_back Two plan cert fit
+    (λ p pool here. let both = and_parts (bound_fits plan p pool.bound) _ (fit.pools p pool here) in bounded_back_two plan p pool.bound pool.blocked both.0 both.1) in
+    rw (version_two cert e, back, fits_small plan cert fits) refl
 
 -- a text that is JSON for the data of a certificate is read as that certificate
 pub cert_back : (text : List ℕ) (plan : Plan) (cert : Cert) → is_utf8 text ≡ true → read text ≡ Some (cert_data cert) → cert_fits plan cert ≡ true → length text ≤ MAX_CERT_BYTES → cert_of text plan ≡ Ok cert

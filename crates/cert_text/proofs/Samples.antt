@@ -1,5 +1,5 @@
 -- Texts whose certificate or fault is computed from the definitions, and certificates whose text is.
-use Rattle.std.proofs.Common.{◌≡◌, ℕ, List, [], ◌∷◌, ◌++◌, true, false, Ok, Err, codes, refl}
+use Rattle.std.proofs.Common.{◌≡◌, ℕ, List, [], ◌∷◌, ◌++◌, true, false, Some, None, Ok, Err, codes, refl}
 use Rattle.job_bodies.specs.declared.action.Action.TheVariants.{Work, Submit, Get}
 use Rattle.job_bodies.specs.Plan.{Plan}
 use Rattle.weights.specs.declared.bound.Bound.TheVariants.{Standing, Lifetime}
@@ -14,7 +14,7 @@ use Rattle.cert_text.proofs.OnLiterals.{cert_on_literals}
 -- a plan of one pool, one class and one client kind
 abbrev plan : Plan
 plan = record {
-  pools = record { name = codes "p"; core = 1; max = 1; queue = 2; prestart = false } ∷ [];
+  pools = record { name = codes "p"; core = 1; max = 1; queue = 2; prestart = false; may_reject = false } ∷ [];
   classes = record { name = codes "a"; pool = 0; body = Work 1 ∷ [] } ∷ [];
   clients = record { name = codes "c"; count = 2; repeat = true; body = Submit 0 ∷ Get 0 ∷ [] } ∷ [];
 }
@@ -28,7 +28,7 @@ ranks = record { pools = 0 ∷ []; reach = 0 ∷ []; levels = 0 ∷ [] }
 -- a certificate with a standing vector: each client has at most one job at a time
 abbrev standing : Cert
 standing = record {
-  pools = record { bound = Standing (record { workers = 0 ∷ []; classes = (1 ∷ 1 ∷ 1 ∷ 1 ∷ []) ∷ []; clients = (1 ∷ 0 ∷ 1 ∷ []) ∷ [] }); blocked = nothing_blocked } ∷ [];
+  pools = record { bound = Some (Standing (record { workers = 0 ∷ []; classes = (1 ∷ 1 ∷ 1 ∷ 1 ∷ []) ∷ []; clients = (1 ∷ 0 ∷ 1 ∷ []) ∷ [] })); blocked = nothing_blocked } ∷ [];
   ranks = ranks;
 }
 
@@ -46,7 +46,7 @@ reads_standing = refl
 -- a certificate with a lifetime vector: each client submits one job
 abbrev lifetime : Cert
 lifetime = record {
-  pools = record { bound = Lifetime (record { workers = 0 ∷ []; classes = (1 ∷ 1 ∷ 1 ∷ 1 ∷ []) ∷ []; clients = (1 ∷ 0 ∷ 0 ∷ []) ∷ [] }); blocked = nothing_blocked } ∷ [];
+  pools = record { bound = Some (Lifetime (record { workers = 0 ∷ []; classes = (1 ∷ 1 ∷ 1 ∷ 1 ∷ []) ∷ []; clients = (1 ∷ 0 ∷ 0 ∷ []) ∷ [] })); blocked = nothing_blocked } ∷ [];
   ranks = ranks;
 }
 
@@ -61,9 +61,46 @@ reads_lifetime : cert_of lifetime_text plan ≡ Ok lifetime
 unfolding cert_on_literals
 reads_lifetime = refl
 
+-- the plan, but its pool may reject jobs
+abbrev rejecting_plan : Plan
+rejecting_plan = record plan { pools = record { name = codes "p"; core = 1; max = 1; queue = 2; prestart = false; may_reject = true } ∷ [] }
+
+-- a certificate without a bound
+abbrev unbounded : Cert
+unbounded = record { pools = record { bound = None; blocked = nothing_blocked } ∷ []; ranks = ranks }
+
+abbrev unbounded_text : List ℕ
+unbounded_text = codes "{\"pools\":[{\"blocked\":{\"classes\":[[0,0,0,0]],\"clients\":[[0,0,0]],\"workers\":[0]}}],\"ranks\":{\"levels\":[0],\"pools\":[0],\"reach\":[0]},\"version\":2}"
+
+writes_unbounded : cert_text unbounded ≡ unbounded_text
+unfolding cert_on_literals
+writes_unbounded = refl
+
+reads_unbounded : cert_of unbounded_text rejecting_plan ≡ Ok unbounded
+unfolding cert_on_literals
+reads_unbounded = refl
+
+-- a pool that must not reject jobs needs a bound
+unbounded_must_not_reject : cert_of unbounded_text plan ≡ Err (fault 31)
+unfolding cert_on_literals
+unbounded_must_not_reject = refl
+
+-- a pool that may reject jobs may also have a bound
+standing_may_reject : cert_of standing_text rejecting_plan ≡ Ok standing
+unfolding cert_on_literals
+standing_may_reject = refl
+
+lifetime_may_reject : cert_of lifetime_text rejecting_plan ≡ Ok lifetime
+unfolding cert_on_literals
+lifetime_may_reject = refl
+
 -- ---- faults, for a plan of one pool without classes and client kinds
 abbrev pool : Plan
 pool = record { pools = plan.pools; classes = []; clients = [] }
+
+-- the plan, but its pool may reject jobs
+abbrev rejecting_pool : Plan
+rejecting_pool = record { pools = rejecting_plan.pools; classes = []; clients = [] }
 
 -- the text of a vector with this number for the workers of the pool
 abbrev vector : List ℕ → List ℕ
@@ -81,7 +118,7 @@ lifetime_of number = codes "\"lifetime\":" ++ vector number ++ codes ","
 
 abbrev cert_of_number : ℕ → Cert
 cert_of_number number = record {
-  pools = record { bound = Standing (record { workers = number ∷ []; classes = []; clients = [] }); blocked = record { workers = 0 ∷ []; classes = []; clients = [] } } ∷ [];
+  pools = record { bound = Some (Standing (record { workers = number ∷ []; classes = []; clients = [] })); blocked = record { workers = 0 ∷ []; classes = []; clients = [] } } ∷ [];
   ranks = record { pools = 0 ∷ []; reach = []; levels = [] };
 }
 
@@ -123,6 +160,23 @@ both_bounds = refl
 no_bound : cert_of (text (codes "2") []) pool ≡ Err (fault 31)
 unfolding cert_on_literals
 no_bound = refl
+
+no_bound_in_version_1 : cert_of (text (codes "1") []) rejecting_pool ≡ Err (fault 31)
+unfolding cert_on_literals
+no_bound_in_version_1 = refl
+
+unknown_key_without_bound : cert_of (text (codes "2") (codes "\"note\":0,")) rejecting_pool ≡ Err (fault 31)
+unfolding cert_on_literals
+unknown_key_without_bound = refl
+
+-- a bound at its key must have the plan's shape also if the pool may reject jobs
+wrong_standing_may_reject : cert_of (text (codes "2") (standing_of (codes "7,8"))) rejecting_pool ≡ Err (fault 31)
+unfolding cert_on_literals
+wrong_standing_may_reject = refl
+
+both_bounds_may_reject : cert_of (text (codes "2") (standing_of (codes "7") ++ lifetime_of (codes "7"))) rejecting_pool ≡ Err (fault 31)
+unfolding cert_on_literals
+both_bounds_may_reject = refl
 
 unknown_key : cert_of (text (codes "1") (standing_of (codes "7") ++ codes "\"note\":0,")) pool ≡ Err (fault 31)
 unfolding cert_on_literals

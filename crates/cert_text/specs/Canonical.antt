@@ -1,5 +1,5 @@
 -- Certificates in canonical form, the form that is written. Each part is parsed at the start of a text, and the rest of the text remains.
-use Rattle.std.specs.Prelude.{◌≡◌, ℕ, ◌≤◌, true, List, ◌++◌, length, slice_get, Some, codes, decimal, IsTrue}
+use Rattle.std.specs.Prelude.{◌≡◌, ℕ, ◌≤◌, true, List, [], ◌++◌, length, slice_get, Option, Some, None, codes, decimal, IsTrue}
 use Rattle.std.specs.List.{list_all}
 use Rattle.json.specs.Word.{is_space}
 use Rattle.serde_json.specs.Data.{Data}
@@ -19,10 +19,11 @@ BeginsAs text value rest = text ≡ compact_text value ++ rest
 abbrev pub AreRows : ℕ → (ℕ → ℕ) → List (List ℕ) → Type 0
 AreRows count points rows = (length rows ≡ count) × ((place : ℕ) (row : List ℕ) → slice_get rows place ≡ Some row → length row ≡ points place)
 
--- the key and the vector of a pool's bound, with the comma that separates them from the blocked vector
-abbrev pub bound_text : Bound → List ℕ
-bound_text (Standing v) = codes ",\"standing\":" ++ compact_text (vector_data v)
-bound_text (Lifetime v) = codes ",\"lifetime\":" ++ compact_text (vector_data v)
+-- the key and the vector of a pool's bound, with the comma that separates them from the blocked vector; nothing if there is no bound
+abbrev pub bound_text : Option Bound → List ℕ
+bound_text None = []
+bound_text (Some (Standing v)) = codes ",\"standing\":" ++ compact_text (vector_data v)
+bound_text (Some (Lifetime v)) = codes ",\"lifetime\":" ++ compact_text (vector_data v)
 
 -- the end of the text of a certificate after its ranks: the key `version`, the version and the closing brace
 abbrev pub version_text : Cert → List ℕ

@@ -1,13 +1,12 @@
 -- The text of a certificate: compact JSON, with the keys of each object in ascending order of their bytes.
-use Rattle.std.specs.Prelude.{ℕ, Bool, nat_eq, if◌then◌else◌, List, map, codes}
-use Rattle.std.specs.List.{list_any}
+use Rattle.std.specs.Prelude.{ℕ, Bool, true, false, nat_eq, if◌then◌else◌, List, map, codes, Option, Some, None}
+use Rattle.std.specs.List.{list_all, list_any}
 use Rattle.serde_json.specs.Data.{Data, number, unsigned, array, object, member, no_members}
 use Rattle.serde_json.specs.View.{items_of}
 use Rattle.serde_json.specs.Written.{compact_text}
 use Rattle.weights.specs.declared.bound.Bound.{Bound}
 use Rattle.weights.specs.declared.bound.Bound.TheVariants.{Standing, Lifetime}
 use Rattle.weights.specs.Vector.{Vector}
-use Rattle.weights.specs.Bound.{is_lifetime}
 use Rattle.weights.specs.Ranks.{Ranks}
 use Rattle.cert_text.specs.Cert.{PoolCert, Cert}
 
@@ -30,9 +29,10 @@ vector_data v =
     (member (codes "workers") (numbers_data v.workers) no_members)))
 
 -- the object of a pool's part, with its blocked vector and this bound
-unfoldable pub bounded_data : Data → Bound → Data
-bounded_data blocked (Standing v) = object (member (codes "blocked") blocked (member (codes "standing") (vector_data v) no_members))
-bounded_data blocked (Lifetime v) = object (member (codes "blocked") blocked (member (codes "lifetime") (vector_data v) no_members))
+unfoldable pub bounded_data : Data → Option Bound → Data
+bounded_data blocked None = object (member (codes "blocked") blocked no_members)
+bounded_data blocked (Some (Standing v)) = object (member (codes "blocked") blocked (member (codes "standing") (vector_data v) no_members))
+bounded_data blocked (Some (Lifetime v)) = object (member (codes "blocked") blocked (member (codes "lifetime") (vector_data v) no_members))
 
 abbrev pub pool_data : PoolCert → Data
 pool_data pool = bounded_data (vector_data pool.blocked) pool.bound
@@ -43,9 +43,14 @@ ranks_data ranks =
     (member (codes "pools") (numbers_data ranks.pools)
     (member (codes "reach") (numbers_data ranks.reach) no_members)))
 
--- the lowest version that can represent the certificate: 2 if a pool has a lifetime vector, and otherwise 1
+-- whether the bound is a standing vector, the only bound that version 1 can represent
+abbrev pub is_standing : Option Bound → Bool
+is_standing (Some (Standing v)) = true
+is_standing _ = false
+
+-- the lowest version that can represent the certificate: 1 if each pool has a standing vector, and otherwise 2
 abbrev pub version_number : Cert → ℕ
-version_number cert = if list_any (λ pool. is_lifetime pool.bound) cert.pools then 2 else 1
+version_number cert = if list_all (λ pool. is_standing pool.bound) cert.pools then 1 else 2
 
 unfoldable pub cert_data : Cert → Data
 cert_data cert =

@@ -1,9 +1,9 @@
 -- The shape of the JSON value of a certificate, in each version: the value at each key, and the length of each list.
-use Rattle.std.specs.Prelude.{List, length, codes, Option, Some, None, Result, Ok}
+use Rattle.std.specs.Prelude.{ℕ, List, length, codes, Option, Some, None, Result, Ok}
 use Rattle.serde_json.specs.Data.{Data}
 use Rattle.serde_json.specs.Find.{get}
-use Rattle.support.specs.Reading.{◌>>=◌, read_each}
-use Rattle.job_bodies.specs.Plan.{Plan}
+use Rattle.support.specs.Reading.{◌>>=◌, ensure, read_each}
+use Rattle.job_bodies.specs.Plan.{Plan, pool_at}
 use Rattle.weights.specs.declared.bound.Bound.{Bound}
 use Rattle.weights.specs.declared.bound.Bound.TheVariants.{Standing, Lifetime}
 use Rattle.weights.specs.Ranks.{Ranks}
@@ -11,37 +11,47 @@ use Rattle.cert_text.specs.Cert.{PoolCert, Cert}
 use Rattle.cert_text.specs.declared.fault.CertFault.{CertFault}
 use Rattle.cert_text.specs.declared.version.Version.{Version}
 use Rattle.cert_text.specs.declared.version.Version.TheVariants.{One, Two}
-use Rattle.cert_text.specs.Values.{elements_of, check_keys, value_at}
+use Rattle.cert_text.specs.Values.{wrong_shape, elements_of, check_keys, value_at}
 use Rattle.cert_text.specs.Vectors.{numbers_of, vector_of}
 
--- the standing vector of a pool's object
-unfoldable pub standing_of : Plan → Data → Result Bound CertFault
-standing_of plan pool = value_at (codes "standing") pool >>= λ value. vector_of plan value >>= λ vector. Ok (Standing vector)
+-- the value as a standing vector
+unfoldable pub standing_of : Plan → Data → Result (Option Bound) CertFault
+standing_of plan value = vector_of plan value >>= λ vector. Ok (Some (Standing vector))
 
 -- the value as a lifetime vector
-unfoldable pub lifetime_of : Plan → Data → Result Bound CertFault
-lifetime_of plan value = vector_of plan value >>= λ vector. Ok (Lifetime vector)
+unfoldable pub lifetime_of : Plan → Data → Result (Option Bound) CertFault
+lifetime_of plan value = vector_of plan value >>= λ vector. Ok (Some (Lifetime vector))
 
--- the lifetime vector if its key is present, and otherwise the standing vector of the pool's object
-abbrev pub lifetime_or_standing : Plan → Data → Option Data → Result Bound CertFault
-lifetime_or_standing plan pool (Some value) = lifetime_of plan value
-lifetime_or_standing plan pool None = standing_of plan pool
+-- no bound for pool p; a fault if the pool must not reject jobs
+unfoldable pub no_bound_of : Plan → ℕ → Result (Option Bound) CertFault
+no_bound_of plan p = ensure (pool_at plan p).may_reject wrong_shape >>= λ _. Ok None
 
--- the vector that bounds the queue of a pool, from the pool's object
-abbrev pub bound_of : Version → Plan → Data → Result Bound CertFault
-bound_of One plan pool = standing_of plan pool
-bound_of Two plan pool = lifetime_or_standing plan pool (get (codes "lifetime") pool)
+-- the bound of pool p from the values at the keys `lifetime` and `standing`: the first of them that is present, or no bound
+abbrev pub either_of : Plan → ℕ → Option Data → Option Data → Result (Option Bound) CertFault
+either_of plan p (Some value) standing = lifetime_of plan value
+either_of plan p None (Some value) = standing_of plan value
+either_of plan p None None = no_bound_of plan p
 
--- the part of a pool, from its object; a fault if the object has other keys than those of the two vectors
-unfoldable pub pool_of : Version → Plan → Data → Result PoolCert CertFault
-pool_of version plan pool =
-    check_keys 2 pool >>= λ _.
-    bound_of version plan pool >>= λ bound.
+-- the vector that bounds the queue of pool p, from the pool's object
+abbrev pub bound_of : Version → Plan → ℕ → Data → Result (Option Bound) CertFault
+bound_of One plan p pool = value_at (codes "standing") pool >>= λ value. standing_of plan value
+bound_of Two plan p pool = either_of plan p (get (codes "lifetime") pool) (get (codes "standing") pool)
+
+-- the number of keys of the object of a pool with this bound
+abbrev pub keys_with : Option Bound → ℕ
+keys_with None = 1
+keys_with (Some bound) = 2
+
+-- the part of pool p, from its object; a fault if the object has other keys than those of its vectors
+unfoldable pub pool_of : Version → Plan → ℕ → Data → Result PoolCert CertFault
+pool_of version plan p pool =
+    bound_of version plan p pool >>= λ bound.
+    check_keys (keys_with bound) pool >>= λ _.
     value_at (codes "blocked") pool >>= λ blocked. vector_of plan blocked >>= λ blocked.
     Ok (record { bound = bound; blocked = blocked })
 
 unfoldable pub pools_of : Version → Plan → Data → Result (List PoolCert) CertFault
-pools_of version plan value = elements_of (length plan.pools) value >>= λ pools. read_each (λ _. pool_of version plan) 0 pools
+pools_of version plan value = elements_of (length plan.pools) value >>= λ pools. read_each (pool_of version plan) 0 pools
 
 unfoldable pub ranks_of : Plan → Data → Result Ranks CertFault
 ranks_of plan value =

@@ -1,18 +1,17 @@
 //! A fast parser of certificates in *canonical form*: exactly the form that
 //! [`write_cert`](crate::write_cert) writes. It builds no JSON tree. The part of a certificate for
 //! a pool has two vectors of numbers: the blocked vector, which bounds the pool's jobs that wait
-//! for other jobs, and then the bound of the pool's queue.
+//! for other jobs, and then the bound of the pool's queue, which a pool that may reject jobs need
+//! not have.
 //!
 //! Nearly every text has this form. Any other text is an error here, and the caller then parses it
 //! as JSON.
 
 ghost use Rattle.std.specs.Prelude.{◌≡◌, ◌++◌, IfOk, IsTrue, length, map};
-ghost use Rattle.std.specs.List.{list_all};
+ghost use Rattle.std.specs.List.{list_all, enumerate_from};
 ghost use Rattle.json.specs.Word.{is_space};
-ghost use Rattle.weights.specs.Vector.{vector_fits};
-ghost use Rattle.weights.specs.Bound.{bound_vector};
 ghost use Rattle.weights.specs.Ranks.{ranks_fit};
-ghost use Rattle.cert_text.specs.Cert.{pool_cert_fits, cert_fits};
+ghost use Rattle.cert_text.specs.Cert.{bound_fits, pool_cert_fits, cert_fits};
 ghost use Rattle.cert_text.specs.CertText as spec;
 ghost use Rattle.cert_text.specs.Canonical.{BeginsAs, bound_text, version_text, IsCanonical};
 
@@ -21,42 +20,53 @@ use crate::canonical_numbers::{
     strip_bytes, strip_comma,
 };
 use crate::canonical_vectors::parse_vector;
+use crate::cert::may_reject;
 use crate::version::version_number;
 use crate::{Cert, PoolCert};
 use job_bodies::{MAX_CERT_BYTES, Plan};
 use std::alloc::Global;
 use weights::{Bound, Ranks};
 
-/// Parses the bound of a pool's queue at the start of a text, which begins with the comma after the
-/// blocked vector. Returns the bound and the rest of the text.
+/// Parses the bound of the queue of the pool with this index, at the start of a text, which begins
+/// with the comma after the blocked vector. Returns the bound and the rest of the text. If the text
+/// has no bound there, it is an error, unless the pool may reject jobs.
 fn parse_bound<'a>(
     alloc: Global,
     plan: &Plan,
+    pool: usize,
     text: &'a [u8],
-) -> Result<(Bound, &'a [u8]), CanonicalError>
+) -> Result<(Option<Bound>, &'a [u8]), CanonicalError>
     ensures text { IfOk result (λ read. text.now ≡ bound_text read.0 ++ read.1.now) }
-    ensures fits { IfOk result (λ read. IsTrue (vector_fits plan.now (bound_vector read.0))) }
+    ensures fits { IfOk result (λ read. IsTrue (bound_fits plan.now pool read.0)) }
 {
     if let Ok(rest) = strip_bytes(text, b",\"standing\":") {
         let (vector, rest) = parse_vector(alloc, plan, rest)?;
-        return Ok((Bound::Standing(vector), rest));
+        return Ok((Some(Bound::Standing(vector)), rest));
     }
-    let rest = strip_bytes(text, b",\"lifetime\":")?;
-    let (vector, rest) = parse_vector(alloc, plan, rest)?;
-    Ok((Bound::Lifetime(vector), rest))
+    if let Ok(rest) = strip_bytes(text, b",\"lifetime\":") {
+        let (vector, rest) = parse_vector(alloc, plan, rest)?;
+        return Ok((Some(Bound::Lifetime(vector)), rest));
+    }
+    if !may_reject(plan, pool) {
+        return Err(non_canonical_error());
+    }
+    Ok((None, text))
 }
 
+/// Parses the part for the pool with this index at the start of a text, and returns it with the
+/// rest of the text.
 fn parse_pool<'a>(
     alloc: Global,
     plan: &Plan,
+    pool: usize,
     text: &'a [u8],
 ) -> Result<(PoolCert, &'a [u8]), CanonicalError>
     ensures text { IfOk result (λ read. BeginsAs text.now (spec.pool_data read.0) read.1.now) }
-    ensures fits { IfOk result (λ read. IsTrue (pool_cert_fits plan.now read.0)) }
+    ensures fits { IfOk result (λ read. IsTrue (pool_cert_fits plan.now pool read.0)) }
 {
     let rest = strip_bytes(text, b"{\"blocked\":")?;
     let (blocked, rest) = parse_vector(alloc, plan, rest)?;
-    let (bound, rest) = parse_bound(alloc, plan, rest)?;
+    let (bound, rest) = parse_bound(alloc, plan, pool, rest)?;
     let rest = strip_byte(rest, b'}')?;
     Ok((PoolCert { bound, blocked }, rest))
 }
@@ -69,14 +79,16 @@ fn parse_pools<'a>(
     ensures text { IfOk result
         (λ read. BeginsAs text.now (spec.list_data (map spec.pool_data read.0.items)) read.1.now) }
     ensures count { IfOk result (λ read. length read.0.items ≡ length plan.now.pools) }
-    ensures fit { IfOk result (λ read. IsTrue (list_all (pool_cert_fits plan.now) read.0.items)) }
+    ensures fit { IfOk result (λ read.
+        IsTrue (list_all (λ entry. pool_cert_fits plan.now entry.0 entry.1)
+        (enumerate_from 0 read.0.items))) }
 {
     let count = plan.pools().len();
     let mut pools = list_with_capacity(alloc, count, text)?;
     let mut rest = strip_byte(text, b'[')?;
     for place in 0..count {
         let element = strip_comma(rest, place)?;
-        let (pool, remaining) = parse_pool(alloc, plan, element)?;
+        let (pool, remaining) = parse_pool(alloc, plan, place, element)?;
         pools.push(pool)?;
         rest = remaining;
     }

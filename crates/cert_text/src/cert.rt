@@ -1,8 +1,9 @@
-//! Certificates: numbers for a plan that show that no pool refuses a job and that no jobs wait
-//! forever for each other.
+//! Certificates: numbers for a plan that show that no pool that must not reject jobs refuses one,
+//! and that no jobs wait forever for each other.
 
 ghost use Rattle.std.specs.Prelude.{◌≡◌, ◌<◌, length};
-ghost use Rattle.std.specs.List.{list_all};
+ghost use Rattle.std.specs.List.{list_all, enumerate_from};
+ghost use Rattle.job_bodies.specs.Plan.{pool_at};
 ghost use Rattle.cert_text.specs.Cert as spec;
 
 use job_bodies::Plan;
@@ -12,8 +13,9 @@ use weights::{Bound, Ranks, Vector};
 /// The part of a certificate for one pool.
 #[derive(Debug, Drop)]
 pub struct PoolCert {
-    /// The vector that shows that the pool never refuses a job.
-    pub bound: Bound,
+    /// The vector that shows that the pool never refuses a job, or `None` if the pool may reject
+    /// jobs and has no such vector.
+    pub bound: Option<Bound>,
     /// The vector that shows that the number of the pool's jobs that wait at counted gets is always
     /// below its core size. A counted get can block a thread that other jobs need.
     pub blocked: Vector,
@@ -26,12 +28,33 @@ impl Model for PoolCert {
 }
 
 impl PoolCert {
-    /// Returns whether both vectors have the shape of the plan, and no number in them is above
-    /// [`MAX_WEIGHT`](job_bodies::MAX_WEIGHT).
-    fn fits(&self, plan: &Plan) -> bool
-        ensures { result ≡ spec.pool_cert_fits plan.now self.now }
+    /// Returns whether the vectors have the shape of the plan, and no number in them is above
+    /// [`MAX_WEIGHT`](job_bodies::MAX_WEIGHT). Without a bound, the part fits only a pool that may
+    /// reject jobs.
+    fn fits(&self, plan: &Plan, pool: usize) -> bool
+        ensures { result ≡ spec.pool_cert_fits plan.now pool self.now }
     {
-        self.bound.vector().fits(plan) && self.blocked.fits(plan)
+        bound_fits(&self.bound, plan, pool) && self.blocked.fits(plan)
+    }
+}
+
+fn bound_fits(bound: &Option<Bound>, plan: &Plan, pool: usize) -> bool
+    ensures { result ≡ spec.bound_fits plan.now pool bound.now }
+{
+    match bound {
+        Some(bound) => bound.vector().fits(plan),
+        None => may_reject(plan, pool),
+    }
+}
+
+/// Returns whether the pool with this index may reject jobs. Returns `false` if the plan has no
+/// pool with this index.
+pub fn may_reject(plan: &Plan, pool: usize) -> bool
+    ensures { result ≡ (pool_at plan.now pool).may_reject }
+{
+    match plan.pool_at(pool) {
+        Some(pool) => pool.may_reject,
+        None => false,
     }
 }
 
@@ -58,8 +81,8 @@ impl Cert {
     }
 
     /// Returns whether the certificate has a part for each pool, each of its lists has the plan's
-    /// shape, and each number is at most [`MAX_WEIGHT`](job_bodies::MAX_WEIGHT). Allocates no
-    /// memory.
+    /// shape, and each number is at most [`MAX_WEIGHT`](job_bodies::MAX_WEIGHT). Each pool that
+    /// must not reject jobs needs a bound. Allocates no memory.
     pub fn fits(&self, plan: &Plan) -> bool
         ensures { result ≡ spec.cert_fits plan.now self.now }
     {
@@ -70,10 +93,12 @@ impl Cert {
 }
 
 fn all_fit(pools: &[PoolCert], plan: &Plan) -> bool
-    ensures { result ≡ list_all (spec.pool_cert_fits plan.now) pools.now }
+    ensures { result
+        ≡ list_all (λ entry. spec.pool_cert_fits plan.now entry.0 entry.1)
+        (enumerate_from 0 pools.now) }
 {
-    for pool in pools {
-        if !pool.fits(plan) {
+    for (number, pool) in pools.iter().enumerate() {
+        if !pool.fits(plan, number) {
             return false;
         }
     }

@@ -1,8 +1,9 @@
 //! Writers of the parts of a certificate. They append to a text and build no JSON tree. The part
 //! for a pool has two vectors of numbers: the blocked vector, which bounds the pool's jobs that
-//! wait for other jobs, and then the bound of the pool's queue.
+//! wait for other jobs, and then the bound of the pool's queue, which a pool that may reject jobs
+//! need not have.
 
-ghost use Rattle.std.specs.Prelude.{◌≡◌, ◌++◌, map, codes};
+ghost use Rattle.std.specs.Prelude.{◌≡◌, ◌++◌, map, codes, Some};
 ghost use Rattle.serde_json.specs.Written.{comma_if, compact_text};
 ghost use Rattle.support.specs.Pushed.{Pushes};
 ghost use Rattle.cert_text.specs.CertText as spec;
@@ -63,7 +64,7 @@ fn push_vector(text: &mut String, vector: &Vector) -> Result<(), AllocError>
 /// Appends the key and the vector of a pool's bound, after a comma that separates them from the
 /// blocked vector.
 fn push_bound(text: &mut String, bound: &Bound) -> Result<(), AllocError>
-    ensures { Pushes result text.old text.new (bound_text bound.now) }
+    ensures { Pushes result text.old text.new (bound_text (Some bound.now)) }
 {
     match bound {
         Bound::Standing(vector) => {
@@ -77,12 +78,22 @@ fn push_bound(text: &mut String, bound: &Bound) -> Result<(), AllocError>
     }
 }
 
+/// Appends the bound of a pool, or nothing if the pool has none.
+fn push_bound_if_any(text: &mut String, bound: &Option<Bound>) -> Result<(), AllocError>
+    ensures { Pushes result text.old text.new (bound_text bound.now) }
+{
+    match bound {
+        Some(bound) => push_bound(text, bound),
+        None => Ok(()),
+    }
+}
+
 fn push_pool(text: &mut String, pool: &PoolCert) -> Result<(), AllocError>
     ensures { Pushes result text.old text.new (compact_text (spec.pool_data pool.now)) }
 {
     text.push_str("{\"blocked\":")?;
     push_vector(text, &pool.blocked)?;
-    push_bound(text, &pool.bound)?;
+    push_bound_if_any(text, &pool.bound)?;
     text.push('}')
 }
 

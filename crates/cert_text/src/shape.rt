@@ -1,12 +1,13 @@
 //! The shape of a certificate's JSON value in each version: its keys, and the length of each list.
 
-ghost use Rattle.std.specs.Prelude.{map, option_map};
+ghost use Rattle.std.specs.Prelude.{◌≡◌, map, option_map};
 ghost use Rattle.support.specs.Reading.{read_each};
 ghost use Rattle.support.specs.Results.{Gives};
 ghost use Rattle.serde_json.specs.View.{view};
 ghost use Rattle.cert_text.specs.Shape as spec;
 
-use crate::fault::CertError;
+use crate::cert::may_reject;
+use crate::fault::{CertError, wrong_shape};
 use crate::values::{check_keys, elements_of, value_at};
 use crate::vectors::{numbers_of, vector_of};
 use crate::version::Version;
@@ -17,46 +18,83 @@ use std::alloc::Global;
 use weights::{Bound, Ranks};
 
 #[tactic(auto, unfolding(crate::specs::Shape::standing_of))]
-fn standing_of(alloc: Global, plan: &Plan, pool: &Value) -> Result<Bound, CertError>
-    ensures { Gives (λ bound. bound) result (spec.standing_of plan.now (view pool.now)) }
+fn standing_of(alloc: Global, plan: &Plan, value: &Value) -> Result<Option<Bound>, CertError>
+    ensures { Gives (λ bound. bound) result (spec.standing_of plan.now (view value.now)) }
 {
-    let value = value_at(pool, "standing")?;
     let vector = vector_of(alloc, plan, value)?;
-    Ok(Bound::Standing(vector))
+    Ok(Some(Bound::Standing(vector)))
 }
 
 #[tactic(auto, unfolding(crate::specs::Shape::lifetime_of))]
-fn lifetime_of(alloc: Global, plan: &Plan, value: &Value) -> Result<Bound, CertError>
+fn lifetime_of(alloc: Global, plan: &Plan, value: &Value) -> Result<Option<Bound>, CertError>
     ensures { Gives (λ bound. bound) result (spec.lifetime_of plan.now (view value.now)) }
 {
     let vector = vector_of(alloc, plan, value)?;
-    Ok(Bound::Lifetime(vector))
+    Ok(Some(Bound::Lifetime(vector)))
 }
 
-fn lifetime_or_standing(
+/// Returns no bound for the pool with this index. It is a fault if the pool must not reject jobs.
+#[tactic(auto, unfolding(crate::specs::Shape::no_bound_of))]
+fn no_bound_of(plan: &Plan, pool: usize) -> Result<Option<Bound>, CertError>
+    ensures { Gives (λ bound. bound) result (spec.no_bound_of plan.now pool) }
+{
+    if !may_reject(plan, pool) {
+        return Err(wrong_shape());
+    }
+    Ok(None)
+}
+
+/// Reads the bound of the pool with this index from the values at the keys `lifetime` and
+/// `standing`. If both are there, reads the lifetime vector.
+fn either_of(
     alloc: Global,
     plan: &Plan,
-    pool: &Value,
+    pool: usize,
     lifetime: Option<&Value>,
-) -> Result<Bound, CertError>
+    standing: Option<&Value>,
+) -> Result<Option<Bound>, CertError>
     ensures { Gives (λ bound. bound) result
-        (spec.lifetime_or_standing plan.now (view pool.now)
-        (option_map (λ value. view value.now) lifetime.entry)) }
+        (spec.either_of plan.now pool (option_map (λ value. view value.now) lifetime.entry)
+        (option_map (λ value. view value.now) standing.entry)) }
 {
-    match lifetime {
-        Some(value) => lifetime_of(alloc, plan, value),
-        None => standing_of(alloc, plan, pool),
+    match (lifetime, standing) {
+        (Some(value), _) => lifetime_of(alloc, plan, value),
+        (None, Some(value)) => standing_of(alloc, plan, value),
+        (None, None) => no_bound_of(plan, pool),
     }
 }
 
-/// Reads the vector that bounds the queue of a pool. `version` determines which kinds of vectors
-/// the pool may have.
-fn bound_of(alloc: Global, version: Version, plan: &Plan, pool: &Value) -> Result<Bound, CertError>
-    ensures { Gives (λ bound. bound) result (spec.bound_of version plan.now (view pool.now)) }
+/// Reads the bound of the queue of the pool with this index from the pool's object. `version`
+/// determines which kinds of bounds the pool may have.
+fn bound_of(
+    alloc: Global,
+    version: Version,
+    plan: &Plan,
+    pool: usize,
+    value: &Value,
+) -> Result<Option<Bound>, CertError>
+    ensures { Gives (λ bound. bound) result
+        (spec.bound_of version plan.now pool (view value.now)) }
 {
     match version {
-        Version::One => standing_of(alloc, plan, pool),
-        Version::Two => lifetime_or_standing(alloc, plan, pool, pool.get("lifetime")),
+        Version::One => standing_of(alloc, plan, value_at(value, "standing")?),
+        Version::Two => either_of(
+            alloc,
+            plan,
+            pool,
+            value.get("lifetime"),
+            value.get("standing"),
+        ),
+    }
+}
+
+/// Returns the number of keys of the object of a pool with this bound: one for each vector.
+fn keys_with(bound: &Option<Bound>) -> usize
+    ensures { result ≡ spec.keys_with bound.now }
+{
+    match bound {
+        Some(_) => 2,
+        None => 1,
     }
 }
 
@@ -65,13 +103,14 @@ fn pool_of(
     alloc: Global,
     version: Version,
     plan: &Plan,
-    pool: &Value,
+    pool: usize,
+    value: &Value,
 ) -> Result<PoolCert, CertError>
-    ensures { Gives (λ pool. pool) result (spec.pool_of version plan.now (view pool.now)) }
+    ensures { Gives (λ part. part) result (spec.pool_of version plan.now pool (view value.now)) }
 {
-    check_keys(pool, 2)?;
-    let bound = bound_of(alloc, version, plan, pool)?;
-    let blocked = value_at(pool, "blocked")?;
+    let bound = bound_of(alloc, version, plan, pool, value)?;
+    check_keys(value, keys_with(&bound))?;
+    let blocked = value_at(value, "blocked")?;
     let blocked = vector_of(alloc, plan, blocked)?;
     Ok(PoolCert { bound, blocked })
 }
@@ -83,12 +122,12 @@ fn pools_in(
     values: &[Value],
 ) -> Result<Vec<PoolCert>, CertError>
     ensures { Gives (λ pools. pools.items) result
-        (read_each (λ _. spec.pool_of version plan.now) 0 (map view values.now)) }
+        (read_each (spec.pool_of version plan.now) 0 (map view values.now)) }
 {
     let mut pools = Vec::with_capacity(alloc, values.len())?;
-    for value in values {
-        let pool = pool_of(alloc, version, plan, value)?;
-        pools.push(pool)?;
+    for (pool, value) in values.iter().enumerate() {
+        let part = pool_of(alloc, version, plan, pool, value)?;
+        pools.push(part)?;
     }
     Ok(pools)
 }

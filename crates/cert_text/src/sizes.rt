@@ -5,12 +5,21 @@ ghost use Rattle.std.specs.List.{list_all};
 ghost use Rattle.cert_text.specs.Sizes as spec;
 
 use crate::{Cert, PoolCert};
-use weights::{Ranks, are_small};
+use weights::{Bound, Ranks, are_small};
+
+fn bound_is_small(bound: &Option<Bound>) -> bool
+    ensures { result ≡ spec.bound_has_small_numbers bound.now }
+{
+    match bound {
+        Some(bound) => bound.vector().has_small_numbers(),
+        None => true,
+    }
+}
 
 fn pool_is_small(pool: &PoolCert) -> bool
     ensures { result ≡ spec.pool_has_small_numbers pool.now }
 {
-    pool.bound.vector().has_small_numbers() && pool.blocked.has_small_numbers()
+    bound_is_small(&pool.bound) && pool.blocked.has_small_numbers()
 }
 
 fn pools_are_small(pools: &[PoolCert]) -> bool

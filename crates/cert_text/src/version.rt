@@ -1,11 +1,10 @@
 //! The version of the text of a certificate.
 
 ghost use Rattle.std.specs.Prelude.{◌≡◌};
-ghost use Rattle.std.specs.List.{list_any};
+ghost use Rattle.std.specs.List.{list_all};
 ghost use Rattle.support.specs.Results.{Gives};
 ghost use Rattle.serde_json.specs.View.{view};
-ghost use Rattle.weights.specs.Bound.{is_lifetime};
-ghost use Rattle.cert_text.specs.CertText.{version_number};
+ghost use Rattle.cert_text.specs.CertText.{is_standing, version_number};
 ghost use Rattle.cert_text.specs.Version as spec;
 
 use crate::fault::{CertError, fault};
@@ -13,14 +12,15 @@ use crate::values::{number_of, value_at};
 use crate::{Cert, PoolCert};
 use serde_json::Value;
 use support::number::VERSION;
+use weights::Bound;
 
 /// A supported version of the text of a certificate.
 #[derive(Clone, Copy, PartialEq, Eq)]
 pub enum Version {
     /// Each pool has a standing vector, which bounds the number of its queued jobs.
     One,
-    /// Each pool has a standing or a lifetime vector. A lifetime vector bounds the number of all
-    /// jobs that are ever submitted to the pool.
+    /// Each pool has a standing or a lifetime vector, or no vector if it may reject jobs. A
+    /// lifetime vector bounds the number of all jobs that are ever submitted to the pool.
     Two,
 }
 
@@ -45,16 +45,22 @@ pub fn version_of(value: &Value) -> Result<Version, CertError>
     version_numbered(number)
 }
 
-fn has_lifetime(pools: &[PoolCert]) -> bool
-    ensures { result ≡ list_any (λ pool. is_lifetime pool.bound) pools.now }
+fn is_standing(bound: &Option<Bound>) -> bool
+    ensures { result ≡ is_standing bound.now }
 {
-    pools.iter().any(|pool| pool.bound.is_lifetime())
+    matches!(bound, Some(Bound::Standing(_)))
 }
 
-/// Returns the lowest version that can represent the certificate: 2 if a pool has a lifetime
-/// vector, and otherwise 1.
+fn all_are_standing(pools: &[PoolCert]) -> bool
+    ensures { result ≡ list_all (λ pool. is_standing pool.bound) pools.now }
+{
+    pools.iter().all(|pool| is_standing(&pool.bound))
+}
+
+/// Returns the lowest version that can represent the certificate: 1 if each pool has a standing
+/// vector, and otherwise 2.
 pub fn version_number(cert: &Cert) -> u64
     ensures { result ≡ version_number cert.now }
 {
-    if has_lifetime(&cert.pools) { 2 } else { 1 }
+    if all_are_standing(&cert.pools) { 1 } else { 2 }
 }

@@ -16,7 +16,7 @@ use std::alloc::{AllocError, Global};
 use support::push_number;
 
 /// Writes a certificate as compact JSON. The keys of each object are in ascending order, and the
-/// text has no newline. The version is 2 if a pool has a lifetime vector, and otherwise 1.
+/// text has no newline. The version is 1 if each pool has a standing vector, and otherwise 2.
 ///
 /// If the certificate fits a plan, [`read_cert`](crate::read_cert) parses the text as the
 /// certificate for that plan, also with a newline after it. The text, with this newline, must have

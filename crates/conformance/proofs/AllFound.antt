@@ -18,10 +18,14 @@ use Rattle.conformance.specs.Description.{IsDeviatingStep}
 use Rattle.conformance.specs.Description as steps
 use Rattle.conformance.specs.FirstKinds.{AreFirstKinds}
 use Rattle.conformance.specs.Findings.{AreFindingsOf, is_classless_in}
-use Rattle.conformance.specs.CollectedFindings.{AreCollected, AreMismatchesOf, IsMismatchFinding, all_findings}
+use Rattle.conformance.specs.CollectedFindings.{AreCollected, AreMismatchesOf, AreInvalidationsOf, IsMismatchFinding, all_findings}
 use Rattle.conformance.specs.CollectedFindings as made
 use Rattle.conformance.specs.JobSet.{has_job}
+use Rattle.recordings.specs.declared.invalidation.Invalidation.{Invalidation}
+use Rattle.conformance.specs.declared.rejections.Rejections.{Rejections}
+use Rattle.conformance.specs.Rejections.{AreRejectionsOf}
 use Rattle.conformance.specs.Survey.{IsSurveyOf}
+use Rattle.conformance.proofs.NoInvalidation.{counted_is}
 
 -- ---- equal tests describe the same step
 same_step : (plan : Plan) (lines : List RecordedLine) (one other : ℕ → Bool) → ((job : ℕ) → one job ≡ other job) → (path : List RecordedStep) (excess : Option OpenExcess) (did : Option JobStep) (found : DeviatingStep) → IsDeviatingStep plan lines one path excess did found → IsDeviatingStep plan lines other path excess did found
@@ -50,10 +54,10 @@ same_mismatches plan lines one other same (first ∷ reported) [] all = absurd a
 same_mismatches plan lines one other same (first ∷ reported) (mismatch ∷ found) all = (same_reported plan lines one other same first mismatch all.0, same_mismatches plan lines one other same reported found all.1)
 
 -- ---- all findings
-pub all_found : (plan : Plan) (lines : List RecordedLine) (survey : Survey) (kinds : List (Option ℕ)) (excesses : List RoundExcess) (collect_findings findings : List Finding)
-    → (so : IsSurveyOf plan lines survey) → AreFirstKinds plan lines so.actor_survey.reported kinds → excesses ≡ excesses_by_lines plan kinds lines → AreCollected plan lines survey excesses collect_findings → IsPermutation collect_findings findings
+pub all_found : (plan : Plan) (lines : List RecordedLine) (survey : Survey) (kinds : List (Option ℕ)) (excesses : List RoundExcess) (rejections : Option Rejections) (collect_findings findings : List Finding)
+    → (so : IsSurveyOf plan lines survey) → AreFirstKinds plan lines so.actor_survey.reported kinds → excesses ≡ excesses_by_lines plan kinds lines → AreRejectionsOf plan lines rejections → AreCollected plan lines survey excesses rejections collect_findings → IsPermutation collect_findings findings
     → AreFindingsOf plan lines findings
-all_found plan lines survey kinds excesses collect_findings findings so first excess_tracker are moved =
+all_found plan lines survey kinds excesses rejections collect_findings findings so first excess_tracker are_rejections are moved =
     let verdicts = survey.actor_survey.verdicts in
     let found = survey.line_survey in
     let as_counted = ap (λ (rounds : List RoundExcess). all_findings found.deviations.items found.unplanned.found.items are.mismatches verdicts.undecided.actors.items rounds are.foreign are.invalidations) excess_tracker in
@@ -75,6 +79,6 @@ all_found plan lines survey kinds excesses collect_findings findings so first ex
       foreign = are.foreign;
       foreign_so = are.foreign_so;
       invalidations = are.invalidations;
-      invalidations_so = are.invalidations_so;
+      invalidations_so = subst (λ (counted : List Invalidation). AreInvalidationsOf lines counted are.invalidations) (counted_is plan lines rejections are_rejections) are.invalidations_so;
       all = subst (λ (xs : List Finding). IsPermutation xs findings) (are.all ∙ as_counted) moved;
     }

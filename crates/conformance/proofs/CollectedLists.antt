@@ -1,14 +1,17 @@
 -- Lists that are built element by element.
-use Rattle.std.proofs.Common.{◌≡◌, Bool, true, false, cond, List, [], ◌∷◌, ◌++◌, filter, string_bytes, refl, ap, sym, subst, ◌∙◌, append_assoc}
+use Rattle.std.proofs.Common.{◌≡◌, Bool, true, false, cond, List, [], ◌∷◌, ◌++◌, filter, string_bytes, is_some, Option, refl, ap, sym, subst, ◌∙◌, append_assoc}
 use Rattle.std.specs.List.{AllZip}
+use Rattle.std.specs.Option.{option_to_list}
 use Rattle.std.proofs.lemmas.List.{append-nil}
 use Rattle.std.proofs.lemmas.List.Elements.{filter-append}
 use Rattle.recordings.specs.RecordingLine.{RecordedLine}
 use Rattle.recordings.specs.declared.invalidation.Invalidation.{Invalidation}
+use Rattle.recordings.specs.Invalidations.{invalidations_of}
+use Rattle.conformance.specs.declared.rejections.Rejections.{Rejections}
 use Rattle.conformance.specs.declared.actor_label.ActorLabel.{ActorLabel}
 use Rattle.conformance.specs.declared.finding.Finding.{Finding}
 use Rattle.conformance.specs.declared.finding.Finding.TheVariants as finding
-use Rattle.conformance.specs.CollectedFindings.{Adds, AreInvalidationsOf, IsInvalidationFinding, invalidates, IsSubject, is_path_independent}
+use Rattle.conformance.specs.CollectedFindings.{Adds, AreInvalidationsOf, IsInvalidationFinding, invalidates, IsSubject, is_counted, first_refusal_in, counted_with}
 
 pub zip_push : {X Y : Type 0} (R : X → Y → Type 0) (xs : List X) (ys : List Y) (x : X) (y : Y) → AllZip R xs ys → R x y → AllZip R (xs ++ x ∷ []) (ys ++ y ∷ [])
 zip_push R [] [] x y all one = (one, tt)
@@ -23,14 +26,18 @@ zip_append R (a ∷ xs) [] us vs all more = absurd all
 zip_append R (a ∷ xs) (b ∷ ys) us vs all more = (all.0, zip_append R xs ys us vs all.1 more)
 
 -- The findings of one more event.
-pub events_more : (lines : List RecordedLine) (old mid new : List Finding) (front : List Invalidation) (one : Invalidation) → Adds old (AreInvalidationsOf lines (filter is_path_independent front)) mid → Adds mid (AreInvalidationsOf lines (filter is_path_independent (one ∷ []))) new
-    → Adds old (AreInvalidationsOf lines (filter is_path_independent (front ++ one ∷ []))) new
-events_more lines old mid new front one a b = record {
+pub events_both : (lines : List RecordedLine) (old mid new : List Finding) (front back : List Invalidation) → Adds old (AreInvalidationsOf lines front) mid → Adds mid (AreInvalidationsOf lines back) new → Adds old (AreInvalidationsOf lines (front ++ back)) new
+events_both lines old mid new front back a b = record {
   more = a.more ++ b.more;
   after = b.after ∙ (ap (λ (xs : List Finding). xs ++ b.more) a.after ∙ append_assoc old a.more b.more);
-  so = subst (λ (xs : List Invalidation). AreInvalidationsOf lines xs (a.more ++ b.more)) (sym (filter-append is_path_independent front (one ∷ [])))
-      (zip_append (IsInvalidationFinding lines) (filter is_path_independent front) a.more (filter is_path_independent (one ∷ [])) b.more a.so b.so);
+  so = zip_append (IsInvalidationFinding lines) front a.more back b.more a.so b.so;
 }
+
+pub events_more : (lines : List RecordedLine) (without : Bool) (old mid new : List Finding) (front : List Invalidation) (one : Invalidation) → Adds old (AreInvalidationsOf lines (filter (is_counted without) front)) mid
+    → Adds mid (AreInvalidationsOf lines (filter (is_counted without) (one ∷ []))) new → Adds old (AreInvalidationsOf lines (filter (is_counted without) (front ++ one ∷ []))) new
+events_more lines without old mid new front one a b =
+    subst (λ (xs : List Invalidation). Adds old (AreInvalidationsOf lines xs) new) (sym (filter-append (is_counted without) front (one ∷ [])))
+    (events_both lines old mid new (filter (is_counted without) front) (filter (is_counted without) (one ∷ [])) a b)
 
 kept_by : (independent : Bool) (one : Invalidation) → independent ≡ true → cond independent (one ∷ []) [] ≡ one ∷ []
 kept_by true one h = refl
@@ -40,17 +47,25 @@ left_by : (independent : Bool) (one : Invalidation) → independent ≡ false �
 left_by true one h = absurd (let e : true ≡ false = h in cc)
 left_by false one h = refl
 
-pub event_added : (lines : List RecordedLine) (old new : List Finding) (one : Invalidation) (label : ActorLabel) → is_path_independent one ≡ true → IsSubject lines one.event (string_bytes label.name) (string_bytes label.pool) → new ≡ old ++ finding.Invalidation one label ∷ []
-    → Adds old (AreInvalidationsOf lines (filter is_path_independent (one ∷ []))) new
-event_added lines old new one label independent so after = record {
-  more = finding.Invalidation one label ∷ [];
-  after = after;
-  so = subst (λ (xs : List Invalidation). AreInvalidationsOf lines xs (finding.Invalidation one label ∷ [])) (sym (kept_by (is_path_independent one) one independent)) (invalidates label so, tt);
-}
+pub event_pushed : (lines : List RecordedLine) (old new : List Finding) (one : Invalidation) (label : ActorLabel) → IsSubject lines one.event (string_bytes label.name) (string_bytes label.pool) → new ≡ old ++ finding.Invalidation one label ∷ []
+    → Adds old (AreInvalidationsOf lines (one ∷ [])) new
+event_pushed lines old new one label so after = record { more = finding.Invalidation one label ∷ []; after = after; so = (invalidates label so, tt) }
 
-pub event_left : (lines : List RecordedLine) (old : List Finding) (one : Invalidation) → is_path_independent one ≡ false → Adds old (AreInvalidationsOf lines (filter is_path_independent (one ∷ []))) old
-event_left lines old one dependent = record {
-  more = [];
-  after = sym (append-nil old);
-  so = subst (λ (xs : List Invalidation). AreInvalidationsOf lines xs []) (sym (left_by (is_path_independent one) one dependent)) tt;
-}
+pub event_added : (lines : List RecordedLine) (without : Bool) (old new : List Finding) (one : Invalidation) → is_counted without one ≡ true → Adds old (AreInvalidationsOf lines (one ∷ [])) new → Adds old (AreInvalidationsOf lines (filter (is_counted without) (one ∷ []))) new
+event_added lines without old new one counted adds = subst (λ (xs : List Invalidation). Adds old (AreInvalidationsOf lines xs) new) (sym (kept_by (is_counted without one) one counted)) adds
+
+pub no_events_added : (lines : List RecordedLine) (old : List Finding) → Adds old (AreInvalidationsOf lines []) old
+no_events_added lines old = record { more = []; after = sym (append-nil old); so = tt }
+
+pub event_left : (lines : List RecordedLine) (without : Bool) (old : List Finding) (one : Invalidation) → is_counted without one ≡ false → Adds old (AreInvalidationsOf lines (filter (is_counted without) (one ∷ []))) old
+event_left lines without old one uncounted = subst (λ (xs : List Invalidation). Adds old (AreInvalidationsOf lines xs) old) (sym (left_by (is_counted without one) one uncounted)) (no_events_added lines old)
+
+-- The findings of all events that count.
+pub events_counted : (lines : List RecordedLine) (refusals : Option Rejections) (old mid new : List Finding) (without : Bool) (all : List Invalidation) (first : Option Invalidation) → without ≡ is_some refusals → all ≡ invalidations_of lines → first ≡ first_refusal_in refusals
+    → Adds old (AreInvalidationsOf lines (filter (is_counted without) all)) mid → Adds mid (AreInvalidationsOf lines (option_to_list first)) new → Adds old (AreInvalidationsOf lines (counted_with refusals lines)) new
+events_counted lines refusals old mid new without all first e1 e2 e3 a b =
+    subst (λ (xs : List Invalidation). Adds old (AreInvalidationsOf lines xs) new)
+    (ap (λ (w : Bool). filter (is_counted w) all ++ option_to_list first) e1
+    ∙ ap (λ (xs : List Invalidation). filter (is_counted (is_some refusals)) xs ++ option_to_list first) e2
+    ∙ ap (λ (o : Option Invalidation). filter (is_counted (is_some refusals)) (invalidations_of lines) ++ option_to_list o) e3)
+    (events_both lines old mid new (filter (is_counted without) all) (option_to_list first) a b)

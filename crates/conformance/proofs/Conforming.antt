@@ -1,6 +1,5 @@
 -- If there are no findings, the recording conforms.
 use Rattle.std.proofs.Common.{◌≡◌, ℕ, Bool, true, false, if◌then◌else◌, List, [], ◌∷◌, ◌++◌, length, map, Contains, Option, Some, None, refl, ap, sym, subst, ◌∙◌, arith}
-use Rattle.std.specs.Prelude.{filter}
 use Rattle.std.specs.List.{list_any}
 use Rattle.std.specs.Option.{option_and_then}
 use Rattle.std.proofs.lemmas.List.Elements.{All-contains}
@@ -22,7 +21,6 @@ use Rattle.conformance.specs.RoundExcesses.{excesses_by_lines}
 use Rattle.conformance.specs.ComparisonLaws.{PoolsAreAsPlanned, PoolsAreRecorded, RoundsAreWithinPlan}
 use Rattle.recordings.specs.declared.foreign_get.ForeignGet.{ForeignGet}
 use Rattle.recordings.specs.declared.invalidation.Invalidation.{Invalidation}
-use Rattle.recordings.specs.Invalidations.{invalidations_of}
 use Rattle.conformance.specs.declared.classified_actor.ClassifiedActor.{ClassifiedActor}
 use Rattle.conformance.specs.ClassifiedActor.{IsCorrectResult, AreAllResultsOf, CanBe, is_reported}
 use Rattle.conformance.specs.declared.finding.Finding.{Finding}
@@ -30,15 +28,17 @@ use Rattle.conformance.specs.declared.finding.Finding.TheVariants as finding
 use Rattle.conformance.specs.declared.survey.Survey.{Survey}
 use Rattle.conformance.specs.declared.unplanned.NotPlanned.{NotPlanned}
 use Rattle.conformance.specs.Conforms.{Conforms, DoAsPlanned, HasNoInvalidation, IsOfAClass, IsOfAKind, HasItsKind}
-use Rattle.conformance.specs.Findings.{is_of_actors}
+use Rattle.conformance.specs.Findings.{is_of_actors, counted_invalidations}
 use Rattle.conformance.specs.FirstKinds.{AreFirstKinds, has_kind, has_no_kind, round_and_kind}
-use Rattle.conformance.specs.CollectedFindings.{AreCollected, AreMismatchesOf, AreForeign, not_decided, is_path_independent}
+use Rattle.conformance.specs.CollectedFindings.{AreCollected, AreMismatchesOf, AreForeign, not_decided}
 use Rattle.conformance.specs.CollectedFindings as made
 use Rattle.conformance.specs.JobSet.{has_job}
+use Rattle.conformance.specs.declared.rejections.Rejections.{Rejections}
+use Rattle.conformance.specs.Rejections.{AreRejectionsOf}
 use Rattle.conformance.specs.Survey.{IsSurveyOf}
 use Rattle.conformance.specs.Verdicts.{is_empty}
 use Rattle.conformance.proofs.Among.{here, passing, both_none, map_none}
-use Rattle.conformance.proofs.NoInvalidation.{not_invalidation}
+use Rattle.conformance.proofs.NoInvalidation.{not_invalidation, counted_is}
 use Rattle.conformance.proofs.Times.{none_of_both}
 use Rattle.conformance.proofs.ConformingActors.{IsWellFormed, all_good}
 
@@ -171,10 +171,10 @@ none_before xs ys moved none = empty_if xs (sym (length_permutation xs ys moved)
 
 -- ---- all findings
 -- If no finding concerns an actor, the actors behave as planned.
-pub actors_do : (plan : Plan) (lines : List RecordedLine) (survey : Survey) (kinds : List (Option ℕ)) (excesses : List RoundExcess) (found : List Finding)
-    → RoundsAreWithinPlan → (so : IsSurveyOf plan lines survey) → AreFirstKinds plan lines so.actor_survey.reported kinds → excesses ≡ excesses_by_lines plan kinds lines → AreCollected plan lines survey excesses found
+pub actors_do : (plan : Plan) (lines : List RecordedLine) (survey : Survey) (kinds : List (Option ℕ)) (excesses : List RoundExcess) (rejections : Option Rejections) (found : List Finding)
+    → RoundsAreWithinPlan → (so : IsSurveyOf plan lines survey) → AreFirstKinds plan lines so.actor_survey.reported kinds → excesses ≡ excesses_by_lines plan kinds lines → AreCollected plan lines survey excesses rejections found
     → list_any is_of_actors found ≡ false → DoAsPlanned plan lines
-actors_do plan lines survey kinds excesses found are_within so first excess_tracker collect_findings none =
+actors_do plan lines survey kinds excesses rejections found are_within so first excess_tracker collect_findings none =
     let parts = none_in_parts survey.line_survey.deviations.items survey.line_survey.unplanned.found.items collect_findings.mismatches survey.actor_survey.verdicts.undecided.actors.items excesses collect_findings.foreign collect_findings.invalidations
     (ap (list_any is_of_actors) (sym collect_findings.all) ∙ none) in
     let no_mismatches = none_reported plan lines (has_job survey.actor_survey.verdicts.classless) survey.actor_survey.verdicts.mismatches.actors.items collect_findings.mismatches collect_findings.mismatches_so parts.astray_none in
@@ -193,11 +193,11 @@ actors_do plan lines survey kinds excesses found are_within so first excess_trac
       };
     }
 
-pub conforms : (plan : Plan) (lines : List RecordedLine) (survey : Survey) (kinds : List (Option ℕ)) (excesses : List RoundExcess) (found : List Finding)
+pub conforms : (plan : Plan) (lines : List RecordedLine) (survey : Survey) (kinds : List (Option ℕ)) (excesses : List RoundExcess) (rejections : Option Rejections) (found : List Finding)
     → PoolsAreAsPlanned → PoolsAreRecorded → RoundsAreWithinPlan
-    → (so : IsSurveyOf plan lines survey) → AreFirstKinds plan lines so.actor_survey.reported kinds → excesses ≡ excesses_by_lines plan kinds lines → AreCollected plan lines survey excesses found → found ≡ []
-    → Conforms plan lines × HasNoInvalidation lines
-conforms plan lines survey kinds excesses found as_planned are_recorded are_within so first excess_tracker collect_findings none =
+    → (so : IsSurveyOf plan lines survey) → AreFirstKinds plan lines so.actor_survey.reported kinds → excesses ≡ excesses_by_lines plan kinds lines → AreRejectionsOf plan lines rejections → AreCollected plan lines survey excesses rejections found → found ≡ []
+    → Conforms plan lines × HasNoInvalidation plan lines
+conforms plan lines survey kinds excesses rejections found as_planned are_recorded are_within so first excess_tracker are_rejections collect_findings none =
     let p6 = both_none _ _ (sym collect_findings.all ∙ none) in
     let p5 = both_none _ _ p6.0 in
     let p4 = both_none _ _ p5.0 in
@@ -205,13 +205,13 @@ conforms plan lines survey kinds excesses found as_planned are_recorded are_with
     let p2 = both_none _ _ p3.0 in
     let p1 = both_none _ _ p2.0 in
     let no_deviations = map_none finding.Pool _ p1.0 in
-    let no_invalidations : filter is_path_independent (invalidations_of lines) ≡ [] = no_events lines _ _ collect_findings.invalidations_so p6.1 in
+    let no_invalidations : counted_invalidations plan lines ≡ [] = sym (counted_is plan lines rejections are_rejections) ∙ no_events lines _ _ collect_findings.invalidations_so p6.1 in
     let pools = both_none (deviations_by_lines plan lines) (deviations_at_end plan lines) (sym so.line_survey.deviations ∙ ap (map deviation_seen) no_deviations) in (
       record {
         pools = as_planned plan lines pools.0;
         recorded = λ closed. are_recorded plan lines closed pools.1;
-        actors = actors_do plan lines survey kinds excesses found are_within so first excess_tracker collect_findings (ap (list_any is_of_actors) none);
+        actors = actors_do plan lines survey kinds excesses rejections found are_within so first excess_tracker collect_findings (ap (list_any is_of_actors) none);
         gets = no_foreign lines _ _ collect_findings.foreign_so p5.1;
       },
-      not_invalidation lines no_invalidations,
+      not_invalidation plan lines no_invalidations,
     )

@@ -11,8 +11,10 @@ use Rattle.job_bodies.specs.Plan.{Plan, pool_at}
 use Rattle.job_bodies.proofs.Bodies.{HasValidBodies, ordered}
 use Rattle.pool_machine.specs.declared.offer.Offer.TheVariants as offer
 use Rattle.written_machine.specs.declared.parent.Parent.{Parent}
+use Rattle.written_machine.specs.declared.event.Outcome.{Outcome}
+use Rattle.written_machine.specs.declared.event.Outcome.TheVariants as outcome
 use Rattle.written_machine.specs.State.{Stage, State, CreatedJob, no_job, pool_of, pool_part, threads}
-use Rattle.written_machine.specs.Step.{moved_jobs, moved_clients, with_position, with_job, new_job}
+use Rattle.written_machine.specs.Step.{moved_jobs, moved_clients, with_position, with_job, new_job, skipped}
 use Rattle.written_machine.specs.Reach.{start}
 use Rattle.written_machine.proofs.Stages.{length-moved}
 use Rattle.written_machine.proofs.Actors.{point_same}
@@ -22,7 +24,7 @@ use Rattle.soundness.specs.Execute.{Call, JavaState, is_calling, without_calls, 
 use Rattle.soundness.specs.Skipping.{choice_step, event_of_actor}
 use Rattle.soundness.specs.Skipping.Choice.{Acts}
 use Rattle.soundness.proofs.CertLaws.{CertLaws, cert_laws}
-use Rattle.soundness.proofs.JavaEvents.{call_of_others}
+use Rattle.soundness.proofs.JavaEvents.{ends_with, call_of_others}
 use Rattle.soundness.proofs.JavaTheorem.{JavaSound, java_sound_start}
 use Rattle.soundness.proofs.Choices.{choices_keep}
 use Rattle.soundness.proofs.Skipping.{choice_keeps}
@@ -39,14 +41,14 @@ use Rattle.conformance.specs.LaggingRun.{MachineJob, is_open, open_job, without_
 use Rattle.conformance.proofs.MachineJobs.{as_open, is_open_job, without-as, push-as, open_push, open_last, still_open, In-without}
 use Rattle.conformance.proofs.OpenSubmits.{open_below}
 use Rattle.conformance.proofs.OpenCounts.{within_without}
-use Rattle.conformance.proofs.Undisturbed.{KeepsJobs, at_not_claimed, Stands, stands_moved, stands_pushed}
+use Rattle.conformance.proofs.Undisturbed.{KeepsJobs, at_not_claimed, done_not_claimed, Stands, stands_moved, stands_pushed}
 use Rattle.conformance.proofs.OthersAct.{IsQuiet, IsUndisturbed, same_machine, choice_other}
 use Rattle.conformance.proofs.Lagging.{HasSlot, IsOwn, Lags, slot_kept, own_kept, undisturbed_lags, others_lag}
 use Rattle.conformance.proofs.LaggingSteps.{submission_of_actor, slot_new, keeps_submit, HasReached, reaches}
 use Rattle.conformance.proofs.TakenJobs.{taken_within}
 
 -- ---- the end of a submit
--- The pool has taken the job: a thread runs it, or it is queued. The call of the actor is over.
+-- The submit has ended: a thread runs the job, or it is queued, or the pool rejected it and it is done. The call of the actor is over.
 record IsTaken (a : Parent) (i k : ℕ) (s s' : JavaState) : Type 0 where
   stage : Stage
   unclaimed : stage ≢ Stage.Claimed
@@ -64,6 +66,9 @@ taken_started plan a i k s = record { stage = Stage.At 0; unclaimed = at_not_cla
 taken_queued : (plan : Plan) (a : Parent) (i k : ℕ) (s : JavaState) → IsTaken a i k s (answers plan s a i k offer.Queued)
 taken_queued plan a i k s = record { stage = Stage.Queued; unclaimed = queued_not_claimed; jobs = refl; clients = refl; offering = refl; requesting = refl }
 
+taken_rejected : (plan : Plan) (a : Parent) (i k : ℕ) (s : JavaState) → IsTaken a i k s (ends_with s a (skipped s.machine a i k))
+taken_rejected plan a i k s = record { stage = Stage.Done; unclaimed = done_not_claimed; jobs = refl; clients = refl; offering = refl; requesting = refl }
+
 -- The number of jobs grows.
 abbrev Grows : JavaState → JavaState → Type 0
 Grows s s' = length s'.machine.jobs ≡ suc (length s.machine.jobs)
@@ -71,9 +76,17 @@ Grows s s' = length s'.machine.jobs ≡ suc (length s.machine.jobs)
 no_growth : (n : ℕ) → n ≡ suc n → ⊥
 no_growth n e = omega (arith, e)
 
+-- The state after the third step finds max threads.
+abbrev declined : Plan → Parent → ℕ → ℕ → JavaState → Bool → JavaState
+declined plan a i k s may = let x : State × Outcome = cond may (skipped s.machine a i k, outcome.Rejected (pool_of plan k) (length s.machine.jobs)) (record s.machine { refusals = s.machine.refusals + 1 }, outcome.Refused (pool_of plan k)) in ends_with s a x.0
+
+taken_declined : (plan : Plan) (a : Parent) (i k : ℕ) (s : JavaState) (may : Bool) → Grows s (declined plan a i k s may) → IsTaken a i k s (declined plan a i k s may)
+taken_declined plan a i k s true grows = taken_rejected plan a i k s
+taken_declined plan a i k s false grows = absurd (no_growth (length s.machine.jobs) grows)
+
 taken_requested : (plan : Plan) (a : Parent) (i k : ℕ) (s : JavaState) (below : Bool) → Grows s (answers plan s a i k (cond below offer.Started offer.Refused)) → IsTaken a i k s (answers plan s a i k (cond below offer.Started offer.Refused))
 taken_requested plan a i k s true grows = taken_started plan a i k s
-taken_requested plan a i k s false grows = absurd (no_growth (length s.machine.jobs) grows)
+taken_requested plan a i k s false grows = taken_declined plan a i k s (pool_at plan (pool_of plan k)).may_reject grows
 
 taken_offered : (plan : Plan) (a : Parent) (i k : ℕ) (s other : JavaState) (room : Bool) → other.machine ≡ s.machine → Grows s (cond room (answers plan s a i k offer.Queued) other) → IsTaken a i k s (cond room (answers plan s a i k offer.Queued) other)
 taken_offered plan a i k s other true same grows = taken_queued plan a i k s
@@ -115,7 +128,7 @@ may_get_from actor_kind.Job body m q class le has = record { get = has.get; subm
 may_get_from actor_kind.Round body m q class le has = has
 
 module _ (plan : Plan) (cert : Cert) (a : Parent) (body : List Action) (is_ordered : HasValidBodies plan) (laws : CertLaws plan cert) where
-  -- The relation after the job is taken.
+  -- The relation after the pool takes or rejects the job.
   taken_lags : (jobs : List MachineJob) (p q k : ℕ) (s s' : JavaState) → Lags plan cert a body jobs q q s → slice_get body q ≡ Some (action.Submit k) → choice_step plan s (Acts (event_of_actor a)) ≡ Some s' → IsTaken a q k s s'
       → IsWithin (map as_open (jobs ++ record { job = p; class = k; number = length s.machine.jobs } ∷ [])) body (suc q)
       → Lags plan cert a body (jobs ++ record { job = p; class = k; number = length s.machine.jobs } ∷ []) (suc q) (suc q) s' × IsQuiet a s'

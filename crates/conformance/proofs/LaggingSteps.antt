@@ -16,7 +16,7 @@ use Rattle.written_machine.specs.declared.parent.Parent.TheVariants as parent
 use Rattle.written_machine.specs.declared.event.Outcome.{Outcome}
 use Rattle.written_machine.specs.declared.event.Outcome.TheVariants as outcome
 use Rattle.written_machine.specs.State.{Stage, State, CreatedJob, no_job, is_made_by, job_at, pool_of}
-use Rattle.written_machine.specs.Step.{point, moved_jobs, with_position, with_stage, new_job, got, got_child, step_action, step_at_point, step}
+use Rattle.written_machine.specs.Step.{point, moved_jobs, with_position, with_stage, new_job, skipped, got, got_child, step_action, step_at_point, step}
 use Rattle.written_machine.proofs.Stages.{staged, length-staged, get_or-staged_other, child-stage, child-moved}
 use Rattle.written_machine.proofs.Positions.{valid_point}
 use Rattle.written_machine.proofs.Children.{one_child, made_by_maker, not_at_slot}
@@ -27,7 +27,6 @@ use Rattle.soundness.specs.Skipping.{Choice, choice_step, skip_submit, event_of_
 use Rattle.soundness.specs.Skipping.Choice.{Acts, Skips, Exchanges}
 use Rattle.soundness.proofs.CertLaws.{CertLaws}
 use Rattle.soundness.proofs.Skipping.{choice_keeps}
-use Rattle.soundness.proofs.SkippedSubmits.{left}
 use Rattle.soundness.proofs.ExchangedJobs.{exchanges_swap_two_gets, point-exchanged}
 use Rattle.conformance.specs.Path.{open_after_action, open_in_body}
 use Rattle.conformance.specs.LaggingRun.{MachineJob, is_open, Passes, arrives, works, skips, gets, exchanges}
@@ -56,13 +55,13 @@ acts_step plan a body m s there after o stands is_there no_submit stepped =
 
 -- At a submit that has not begun, the actor can skip it.
 skip_step : (plan : Plan) (a : Parent) (body : List Action) (m k : ℕ) (s : JavaState) → Stands plan s.machine a body m → slice_get body m ≡ Some (action.Submit k) → IsQuiet a s
-    → choice_step plan s (Skips (event_of_actor a)) ≡ Some (record s { machine = left s.machine a m k })
+    → choice_step plan s (Skips (event_of_actor a)) ≡ Some (record s { machine = skipped s.machine a m k })
 skip_step plan a body m k s stands e quiet =
     let found = submission_of_actor plan s.machine a ∙ ap (submission_of a) stands ∙ ap (submission_at a m) e in
     let p = pool_of plan k in
     let not_offering = false_from_ne_true (is_calling s.offering a p) (quiet p).0 in
     let not_requesting = false_from_ne_true (is_calling s.requesting a p) (quiet p).1 in
-    ap (skip_submit plan s) found ∙ ap₂ (λ (x y : Bool). cond (x || y) None (Some (record s { machine = left s.machine a m k }))) not_offering not_requesting
+    ap (skip_submit plan s) found ∙ ap₂ (λ (x y : Bool). cond (x || y) None (Some (record s { machine = skipped s.machine a m k }))) not_offering not_requesting
 
 not_is_claimed : (stage : Stage) → stage ≢ Stage.Claimed → not (is_claimed stage) ≡ true
 not_is_claimed Stage.Queued other = refl
@@ -161,7 +160,7 @@ module _ (plan : Plan) (cert : Cert) (a : Parent) (body : List Action) (ordered 
 
   pass_submit : (jobs : List MachineJob) (m q k : ℕ) (s : JavaState) → Lags plan cert a body jobs m q s → IsQuiet a s → m < q → slice_get body m ≡ Some (action.Submit k) → HasPassed jobs m q s
   pass_submit jobs m q k s lags quiet lt e =
-      let after : JavaState = record s { machine = left s.machine a m k } in
+      let after : JavaState = record s { machine = skipped s.machine a m k } in
       let moved : State = with_position a (m + 1) s.machine in
       let stepped = skip_step plan a body m k s lags.stands e quiet in
       let keeps = keeps_submit plan a body m k Stage.Done s.machine lags.stands in

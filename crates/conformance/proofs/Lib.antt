@@ -85,6 +85,11 @@ pub mod KindsByResults
 pub mod OtherKindResults
 pub mod OpenAfter
 pub mod LineSurveyAfter
+pub mod RefusalsAfter
+pub mod RejectionRules
+pub mod RejectionCounts
+pub mod RejectionsAllowed
+mod WorkedRejections
 pub mod ExcessTrackerAfter
 pub mod CollectedLists
 pub mod Steps

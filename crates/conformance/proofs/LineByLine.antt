@@ -41,7 +41,7 @@ filter_map_more h [] x = cons_none (h x)
 filter_map_more h (y ∷ ys) x = ap (cons_option (h y)) (filter_map_more h ys x) ∙ cons_append (h y) (filter_map h ys) (option_to_list (h x))
 
 -- ---- each line, with those before it
-lines_before_more : (before : List RecordedLine) (line : RecordedLine) → with_lines_before (before ++ line ∷ []) ≡ with_lines_before before ++ (before, line) ∷ []
+pub lines_before_more : (before : List RecordedLine) (line : RecordedLine) → with_lines_before (before ++ line ∷ []) ≡ with_lines_before before ++ (before, line) ∷ []
 lines_before_more [] line = refl
 lines_before_more (first ∷ before) line =
     let after : List RecordedLine × RecordedLine → List RecordedLine × RecordedLine = λ p. (first ∷ p.0, p.1) in

@@ -1,5 +1,5 @@
 -- A loop over a list.
-use Rattle.std.proofs.Common.{◌≡◌, ℕ, zero, suc, ◌+◌, ◌≤◌, List, [], ◌∷◌, ◌++◌, length, take, drop, slice_get, Some, refl, ap, sym, ◌∙◌, add-one, length-take, arith}
+use Rattle.std.proofs.Common.{◌≡◌, ℕ, zero, suc, ◌+◌, ◌≤◌, List, [], ◌∷◌, ◌++◌, length, take, drop, slice_get, Some, refl, ap, sym, ◌∙◌, add-one, length-take, append_assoc, append-nil, arith}
 
 there : {X : Type 0} (xs rest : List X) (n : ℕ) (x : X) → drop n xs ≡ x ∷ rest → slice_get xs n ≡ Some x
 there [] rest zero x h = grind (arith, h)
@@ -61,3 +61,12 @@ all_taken xs n h = all_there xs n h
 
 pub number_next : {X : Type 0} (xs rest : List X) (n : ℕ) (x : X) → drop n xs ≡ x ∷ rest → n + 1 ≡ length (take n xs) + 1
 number_next xs rest n x h = omega (arith, within_there xs rest n x h, length-take n xs)
+
+-- ---- the elements read, without their number
+-- One more element is read.
+pub one_read : {X : Type 0} (all read rest rest' : List X) (x : X) → read ++ rest ≡ all → rest ≡ x ∷ rest' → (read ++ x ∷ []) ++ rest' ≡ all
+one_read all read rest rest' x is next = append_assoc read (x ∷ []) rest' ∙ ap (λ more. read ++ more) (sym next) ∙ is
+
+-- All elements are read.
+pub all_read : {X : Type 0} (all read rest : List X) → read ++ rest ≡ all → rest ≡ [] → read ≡ all
+all_read all read rest is none = sym (append-nil read) ∙ ap (λ more. read ++ more) (sym none) ∙ is

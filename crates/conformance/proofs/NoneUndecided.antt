@@ -14,13 +14,12 @@ use Rattle.conformance.specs.declared.classified_actor.ClassifiedActor.{Classifi
 use Rattle.conformance.specs.declared.finding.Finding.{Finding}
 use Rattle.conformance.specs.declared.finding.Finding.TheVariants as finding
 use Rattle.conformance.specs.ClassifiedActor.{IsCorrectResult}
-use Rattle.conformance.specs.CollectedFindings.{AreMismatchesOf, IsMismatchFinding, AreForeign, AreInvalidationsOf, IsInvalidationFinding, is_path_independent, not_decided}
+use Rattle.conformance.specs.CollectedFindings.{AreMismatchesOf, IsMismatchFinding, AreForeign, AreInvalidationsOf, IsInvalidationFinding, not_decided}
 use Rattle.conformance.specs.CollectedFindings as made
 use Rattle.conformance.specs.FirstActors.{AreFirstActorsOf}
-use Rattle.conformance.specs.Findings.{AreFindingsOf, is_not_decided, is_classless_in}
+use Rattle.conformance.specs.Findings.{AreFindingsOf, counted_invalidations, is_not_decided, is_classless_in}
 use Rattle.conformance.specs.RoundExcesses.{excesses_by_lines}
 use Rattle.recordings.specs.ForeignGets.{first_foreign_get}
-use Rattle.recordings.specs.Invalidations.{invalidations_of}
 use Rattle.conformance.specs.Verdicts.{is_undecided}
 use Rattle.conformance.proofs.Among.{is_among_none}
 
@@ -91,5 +90,5 @@ none_undecided plan lines findings are none =
     let actors = both_false (d ++ l ++ are.mismatches) u paths (ap (λ (xs : List ClassifiedActor). list_any is_not_decided (map not_decided xs)) nobody) in
     let rounds = both_false (d ++ l ++ are.mismatches ++ u) e actors (none_mapped finding.TooMany (excesses_by_lines plan are.kinds lines) (λ x. refl)) in
     let gets = both_false (d ++ l ++ are.mismatches ++ u ++ e) are.foreign rounds (foreign_none lines (first_foreign_get lines) are.foreign are.foreign_so) in
-    let all = both_false (d ++ l ++ are.mismatches ++ u ++ e ++ are.foreign) are.invalidations gets (events_none lines (filter is_path_independent (invalidations_of lines)) are.invalidations are.invalidations_so) in
+    let all = both_false (d ++ l ++ are.mismatches ++ u ++ e ++ are.foreign) are.invalidations gets (events_none lines (counted_invalidations plan lines) are.invalidations are.invalidations_so) in
     sym (list_any-IsPermutation is_not_decided (d ++ l ++ are.mismatches ++ u ++ e ++ are.foreign ++ are.invalidations) findings are.all) ∙ all

@@ -11,7 +11,7 @@ use Rattle.written_machine.specs.declared.event.Event.{Event}
 use Rattle.written_machine.specs.declared.event.Outcome.{Outcome}
 use Rattle.written_machine.specs.State.{Stage, State, no_job, same_parent, job_at, pool_of, child}
 use Rattle.written_machine.specs.Step.{moved_jobs, with_position, with_stage, with_job, new_job, finished_job}
-use Rattle.written_machine.proofs.Events.{event_of, queued_state, with_part, Happens, works, starts, queues, is_refused, gets, finishes, loops, takes, retires}
+use Rattle.written_machine.proofs.Events.{event_of, queued_state, with_part, Happens, works, starts, queues, is_refused, is_rejected, gets, finishes, loops, takes, retires}
 use Rattle.written_machine.proofs.StateInvariant.{StateInvariant}
 use Rattle.written_machine.proofs.Stages.{staged}
 use Rattle.written_machine.proofs.Actors.{point_same}
@@ -87,10 +87,11 @@ happens_other plan a body i m s s' o kept other stands (starts b bd k c at room)
 happens_other plan a body i m s s' o kept other stands (queues b bd k c at core room) =
     let submits = other_submits plan a b body bd i m k c Stage.Queued s (other_actor a b other) stands at.stands in
     record { stands = point_same plan (with_job (new_job c b k Stage.Queued) (with_position b (k + 1) s)) (queued_state plan s b k c) a refl refl ∙ submits.stands; jobs = submits.jobs }
-happens_other plan a body i m s s' o kept other stands (is_refused b bd k c at full all) = record {
+happens_other plan a body i m s s' o kept other stands (is_refused b bd k c at must full all) = record {
   stands = point_same plan s (record s { refusals = s.refusals + 1 }) a refl refl ∙ stands;
   jobs = keeps_same a m s.jobs;
 }
+happens_other plan a body i m s s' o kept other stands (is_rejected b bd k c at may) = other_submits plan a b body bd i m k c Stage.Done s (other_actor a b other) stands at.stands
 happens_other plan a body i m s s' o kept other stands (gets b bd k t j at is_child done) = other_gets plan a b body bd i m k t j s (other_actor a b other) stands at.stands is_child done
 happens_other plan a body i m s s' o kept other stands (finishes j bd k at) = record {
   stands = point_same plan (with_stage j Stage.Done s) (finished_job plan s j (pool_of plan (job_at s j).class)) a refl refl
@@ -143,7 +144,7 @@ java_other plan a body i m s s' kept other stands (finds_full b bd k c at no_req
   undisturbed = same_machine plan a body i m s.machine stands;
   quiet = λ quiet p. (still_none a b s.offering (λ q. (quiet q).0) p, none_more a (record { actor = b; pool = pool_of plan c }) s.requesting (different a b (other_actor a b other)) (λ q. (quiet q).1) p);
 }
-java_other plan a body i m s s' kept other stands (finds_all b bd k c at request all) = record {
+java_other plan a body i m s s' kept other stands (finds_all b bd k c at must request all) = record {
   undisturbed = record { stands = point_same plan s.machine (record s.machine { refusals = s.machine.refusals + 1 }) a refl refl ∙ stands; jobs = keeps_same a m s.machine.jobs };
   quiet = λ quiet p. (still_none a b s.offering (λ q. (quiet q).0) p, still_none a b s.requesting (λ q. (quiet q).1) p);
 }

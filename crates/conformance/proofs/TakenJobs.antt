@@ -1,4 +1,4 @@
--- The pool takes the job of a submit that an actor has reached, within three events of the actor.
+-- The pool takes the job of a submit that an actor has reached, or rejects it if it may, within three events of the actor.
 use Rattle.std.proofs.Common.{◌≡◌, ℕ, suc, ◌+◌, inl, inr, Bool, true, false, cond, ltb, eqb, ◌&&◌, ◌||◌, not, List, [], ◌∷◌, ◌++◌, length, slice_get, Some, refl, sym, ap, ap₂, subst, ◌∙◌, arith}
 use Rattle.std.proofs.lemmas.Bool.{and_from, eq-eqb, false_from_ne_true}
 use Rattle.std.proofs.lemmas.List.{length_push}
@@ -9,8 +9,10 @@ use Rattle.job_bodies.proofs.Bodies.{HasValidBodies}
 use Rattle.pool_machine.specs.declared.offer.Offer.TheVariants as offer
 use Rattle.written_machine.specs.declared.event.Event.{Event}
 use Rattle.written_machine.specs.declared.parent.Parent.{Parent}
-use Rattle.written_machine.specs.State.{Stage, same_parent, pool_of, pool_part, threads}
-use Rattle.written_machine.specs.Step.{moved_jobs, new_job}
+use Rattle.written_machine.specs.declared.event.Outcome.{Outcome}
+use Rattle.written_machine.specs.declared.event.Outcome.TheVariants as outcome
+use Rattle.written_machine.specs.State.{Stage, State, same_parent, pool_of, pool_part, threads}
+use Rattle.written_machine.specs.Step.{moved_jobs, new_job, skipped}
 use Rattle.written_machine.proofs.Stages.{length-moved}
 use Rattle.written_machine.proofs.Children.{same_actor_true, same_actor_refl}
 use Rattle.cert_text.specs.Cert.{Cert}
@@ -19,7 +21,7 @@ use Rattle.soundness.specs.Skipping.{Choice, choice_step, event_of_actor}
 use Rattle.soundness.specs.Skipping.Choice.{Acts, Skips, Exchanges}
 use Rattle.soundness.proofs.CertLaws.{CertLaws}
 use Rattle.soundness.proofs.Theorem.{sound_safe}
-use Rattle.soundness.proofs.JavaEvents.{JavaHappens, is_atomic, ends, finds_core, finds_full, finds_all, java_happens}
+use Rattle.soundness.proofs.JavaEvents.{ends_with, JavaHappens, is_atomic, ends, finds_core, finds_full, finds_all, java_happens}
 use Rattle.soundness.proofs.JavaTheorem.{JavaSound}
 use Rattle.soundness.proofs.Choices.{IsSkipped, leaves, is_skipped}
 use Rattle.soundness.proofs.ExchangedJobs.{is_exchange}
@@ -52,7 +54,7 @@ java_calls plan a s s' other (is_atomic e after o none happened) = λ p. (refl, 
 java_calls plan a s s' other (ends b bd k c after o at happened) = λ p. (without_others a b s.offering p (other_actor a b other), without_others a b s.requesting p (other_actor a b other))
 java_calls plan a s s' other (finds_core b bd k c at no_request no_offer core) = λ p. (beside a (record { actor = b; pool = pool_of plan c }) s.offering p (other_actor a b other), refl)
 java_calls plan a s s' other (finds_full b bd k c at no_request full) = λ p. (without_others a b s.offering p (other_actor a b other), beside a (record { actor = b; pool = pool_of plan c }) s.requesting p (other_actor a b other))
-java_calls plan a s s' other (finds_all b bd k c at request all) = λ p. (without_others a b s.offering p (other_actor a b other), without_others a b s.requesting p (other_actor a b other))
+java_calls plan a s s' other (finds_all b bd k c at must request all) = λ p. (without_others a b s.offering p (other_actor a b other), without_others a b s.requesting p (other_actor a b other))
 
 skip_calls : (plan : Plan) (a : Parent) (s s' : JavaState) {e : Event} → IsSkipped plan s e s' → HasSameCalls a s s'
 skip_calls plan a s s' (leaves b bd k c at no_offer no_request) = λ p. (refl, refl)
@@ -98,7 +100,20 @@ module _ (plan : Plan) (cert : Cert) (a : Parent) (body : List Action) (q k : �
       let long = length-moved s.machine a (q + 1) in
       omega (arith, grown, long)
 
-  -- The third step. The pool does not refuse the job, because the state after a refusal is not safe.
+  -- The state after the third step finds max threads.
+  abbrev declined : JavaState → Bool → JavaState
+  declined s may = let x : State × Outcome = cond may (skipped s.machine a q k, outcome.Rejected (pool_of plan k) (length s.machine.jobs)) (record s.machine { refusals = s.machine.refusals + 1 }, outcome.Refused (pool_of plan k)) in ends_with s a x.0
+
+  -- The third step finds max threads. If the pool may not reject the job, this is not possible, because the state after a refusal is
+  -- not safe.
+  decline : (later : JavaState → Type 0) (s : JavaState) → IsAtSubmit s → (may : Bool) → choice_step plan s (Acts (event_of_actor a)) ≡ Some (declined s may) → NextOfSubmit plan a s later
+  decline later s at true stepped = record { next = declined s true; is_next = stepped; onward = inl (one_more_job s Stage.Done) }
+  decline later s at false stepped =
+      let sound = choice_keeps plan cert is_ordered laws s (Acts (event_of_actor a)) (declined s false) at.sound stepped in
+      let none : s.machine.refusals + 1 ≡ 0 = (sound_safe plan cert (declined s false).machine is_ordered laws sound.sound).none_refused in
+      absurd (omega (arith, none))
+
+  -- The third step.
   request : (later : JavaState → Type 0) (s : JavaState) → IsAtSubmit s → is_calling s.requesting a (pool_of plan k) ≡ true → (below : Bool) → ltb (threads plan s.machine (pool_of plan k)) (pool_at plan (pool_of plan k)).max ≡ below → NextOfSubmit plan a s later
   request later s at is_requesting true is_below = record {
     next = answers plan s a q k offer.Started;
@@ -106,11 +121,8 @@ module _ (plan : Plan) (cert : Cert) (a : Parent) (body : List Action) (q k : �
     onward = inl (one_more_job s (Stage.At 0));
   }
   request later s at is_requesting false is_below =
-      let stepped : choice_step plan s (Acts (event_of_actor a)) ≡ Some (answers plan s a q k offer.Refused) =
-      executed s at true (is_calling s.offering a (pool_of plan k)) is_requesting refl ∙ ap (λ (b : Bool). Some (answers plan s a q k (cond b offer.Started offer.Refused))) is_below in
-      let sound = choice_keeps plan cert is_ordered laws s (Acts (event_of_actor a)) (answers plan s a q k offer.Refused) at.sound stepped in
-      let none : s.machine.refusals + 1 ≡ 0 = (sound_safe plan cert (answers plan s a q k offer.Refused).machine is_ordered laws sound.sound).none_refused in
-      absurd (omega (arith, none))
+      decline later s at (pool_at plan (pool_of plan k)).may_reject
+      (executed s at true (is_calling s.offering a (pool_of plan k)) is_requesting refl ∙ ap (λ (b : Bool). Some (answers plan s a q k (cond b offer.Started offer.Refused))) is_below)
 
   -- The call finds the queue full.
   abbrev finds_no_room : JavaState → JavaState
@@ -164,7 +176,7 @@ module _ (plan : Plan) (cert : Cert) (a : Parent) (body : List Action) (q k : �
         );
       }
 
-  -- The pool takes the job within three events.
+  -- The pool takes or rejects the job within three events.
   pub taken_within : (s : JavaState) → JavaSound plan cert s → Stands plan s.machine a body q → IsQuiet a s → IsTakenWithin 3 plan a s
   taken_within s sound stands quiet = λ s' others.
       let p = pool_of plan k in

@@ -1,6 +1,7 @@
 -- All findings, collected from the parts of a survey.
-use Rattle.std.specs.Prelude.{◌≡◌, ◌++◌, ℕ, Bool, true, false, List, [], ◌∷◌, map, filter, string_bytes, Option, Some, None}
+use Rattle.std.specs.Prelude.{◌≡◌, ◌++◌, ◌&&◌, not, ℕ, Bool, true, false, List, [], ◌∷◌, map, filter, string_bytes, is_some, Option, Some, None}
 use Rattle.std.specs.List.{AllZip}
+use Rattle.std.specs.Option.{option_to_list}
 use Rattle.job_bodies.specs.Plan.{Plan}
 use Rattle.recordings.specs.declared.recording_line.RecordedActor.TheVariants.{Job}
 use Rattle.recordings.specs.RecordingLine.{RecordedLine}
@@ -17,6 +18,7 @@ use Rattle.recordings.specs.Invalidations.{invalidations_of}
 use Rattle.conformance.specs.declared.finding.Finding.{Finding}
 use Rattle.conformance.specs.declared.finding.Finding.TheVariants as finding
 use Rattle.conformance.specs.declared.mismatch.PathMismatch.{PathMismatch}
+use Rattle.conformance.specs.declared.rejections.Rejections.{Rejections}
 use Rattle.conformance.specs.declared.survey.Survey.{Survey}
 use Rattle.conformance.specs.declared.unplanned.NotPlanned.{NotPlanned}
 use Rattle.conformance.specs.declared.verdicts.Verdicts.{Verdicts}
@@ -53,8 +55,23 @@ is_path_independent_event (event.TimedOut actor job) = false
 is_path_independent_event (event.Interrupted actor job) = false
 is_path_independent_event event = true
 
-abbrev pub is_path_independent : Invalidation → Bool
-is_path_independent invalidation = is_path_independent_event invalidation.event
+abbrev pub is_refusal : InvalidatingEvent → Bool
+is_refusal (event.Refused actor job) = true
+is_refusal event = false
+
+-- The event invalidates the result even if the actor's path matches a body, and it is no refusal if refusals do not count.
+abbrev pub is_counted : Bool → Invalidation → Bool
+is_counted without_refusals invalidation = not (without_refusals && is_refusal invalidation.event) && is_path_independent_event invalidation.event
+
+-- The first refusal that is no allowed rejection, if some pool of the plan may reject jobs.
+abbrev pub first_refusal_in : Option Rejections → Option Invalidation
+first_refusal_in None = None
+first_refusal_in (Some rejections) = rejections.first_refusal
+
+-- The first event of each type that invalidates the result even if the actor's path matches a body. If some pool of the plan may reject
+-- jobs, the rejections that the plan allows do not count, and the first other refusal comes last.
+abbrev pub counted_with : Option Rejections → List RecordedLine → List Invalidation
+counted_with rejections lines = filter (is_counted (is_some rejections)) (invalidations_of lines) ++ option_to_list (first_refusal_in rejections)
 
 -- The class and the pool of the job of the event. For a call of `invokeAny`, the label of the actor and the pool of the call; for
 -- jobs without lines, their pool alone.
@@ -82,11 +99,11 @@ pub record AddsActorSurvey (plan : Plan) (lines : List RecordedLine) (verdicts :
   pub after : new ≡ old ++ mismatches ++ map not_decided verdicts.undecided.actors.items
 
 -- The list is extended by the first get of another actor's job, and by the first line of each invalidating event type.
-pub record AddsNotes (lines : List RecordedLine) (old new : List Finding) : Type 0 where
+pub record AddsNotes (lines : List RecordedLine) (rejections : Option Rejections) (old new : List Finding) : Type 0 where
   pub foreign : List Finding
   pub foreign_so : AreForeign lines (first_foreign_get lines) foreign
   pub invalidations : List Finding
-  pub invalidations_so : AreInvalidationsOf lines (filter is_path_independent (invalidations_of lines)) invalidations
+  pub invalidations_so : AreInvalidationsOf lines (counted_with rejections lines) invalidations
   pub after : new ≡ old ++ foreign ++ invalidations
 
 -- All findings, in the order of their types.
@@ -95,11 +112,11 @@ all_findings deviations labels mismatched undecided excesses gets invalidations 
     map finding.Pool deviations ++ map finding.NotPlanned labels ++ mismatched ++ map not_decided undecided ++ map finding.TooMany excesses ++ gets ++ invalidations
 
 -- The findings of a survey whose notes are those of `lines`.
-pub record AreCollected (plan : Plan) (lines : List RecordedLine) (survey : Survey) (excesses : List RoundExcess) (found : List Finding) : Type 0 where
+pub record AreCollected (plan : Plan) (lines : List RecordedLine) (survey : Survey) (excesses : List RoundExcess) (rejections : Option Rejections) (found : List Finding) : Type 0 where
   pub mismatches : List Finding
   pub foreign : List Finding
   pub invalidations : List Finding
   pub mismatches_so : AreMismatchesOf plan lines (has_job survey.actor_survey.verdicts.classless) survey.actor_survey.verdicts.mismatches.actors.items mismatches
   pub foreign_so : AreForeign lines (first_foreign_get lines) foreign
-  pub invalidations_so : AreInvalidationsOf lines (filter is_path_independent (invalidations_of lines)) invalidations
+  pub invalidations_so : AreInvalidationsOf lines (counted_with rejections lines) invalidations
   pub all : found ≡ all_findings survey.line_survey.deviations.items survey.line_survey.unplanned.found.items mismatches survey.actor_survey.verdicts.undecided.actors.items excesses foreign invalidations

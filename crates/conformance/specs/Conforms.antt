@@ -10,6 +10,7 @@ use Rattle.recordings.specs.ForeignGets.{first_foreign_get}
 use Rattle.conformance.specs.Rounds.{IsWithinPlan}
 use Rattle.conformance.specs.RoundExcesses as rounds
 use Rattle.conformance.specs.ComparisonLaws.{IsPlannedPool}
+use Rattle.conformance.specs.RejectionRule.{is_allowed_rejection}
 
 -- ---- conforming
 -- There are classes of the plan that the job can belong to.
@@ -62,5 +63,6 @@ invalidates (JobThrew job) = true
 invalidates (Unseen pool jobs) = true
 invalidates line = false
 
-abbrev pub HasNoInvalidation : List RecordedLine → Type 0
-HasNoInvalidation lines = (line : RecordedLine) → Contains lines line → invalidates line ≡ false
+-- Each line that invalidates a SAFE answer is a rejection that the plan allows. Without a pool that may reject jobs there are none.
+abbrev pub HasNoInvalidation : Plan → List RecordedLine → Type 0
+HasNoInvalidation plan lines = (before after : List RecordedLine) (line : RecordedLine) → before ++ line ∷ after ≡ lines → invalidates line ≡ true → is_allowed_rejection plan lines before line ≡ true

@@ -1,6 +1,7 @@
 -- The findings for a recording, compared with a plan.
-use Rattle.std.specs.Prelude.{◌≡◌, ◌++◌, ℕ, Bool, true, false, List, map, filter, Option}
+use Rattle.std.specs.Prelude.{◌≡◌, ◌++◌, ℕ, Bool, true, false, if◌then◌else◌, List, [], map, filter, Option}
 use Rattle.std.specs.List.{list_any}
+use Rattle.std.specs.Option.{option_to_list}
 use Rattle.std.specs.List.Sorted.{IsPermutation}
 use Rattle.job_bodies.specs.Plan.{Plan}
 use Rattle.recordings.specs.RecordingLine.{RecordedLine}
@@ -8,6 +9,7 @@ use Rattle.conformance.specs.declared.classified_actor.ClassifiedActor.{Classifi
 use Rattle.conformance.specs.ClassifiedActor.{AreAllResultsOf}
 use Rattle.recordings.specs.ForeignGets.{first_foreign_get}
 use Rattle.recordings.specs.Invalidations.{invalidations_of}
+use Rattle.recordings.specs.declared.invalidation.Invalidation.{Invalidation}
 use Rattle.conformance.specs.declared.pool_comparison.PoolDeviation.{PoolDeviation}
 use Rattle.conformance.specs.PoolDeviations.{deviation_seen, deviations_by_lines, deviations_at_end}
 use Rattle.conformance.specs.RoundExcesses.{excesses_by_lines}
@@ -16,7 +18,8 @@ use Rattle.conformance.specs.declared.finding.Finding.TheVariants as finding
 use Rattle.conformance.specs.declared.unplanned.NotPlanned.{NotPlanned}
 use Rattle.conformance.specs.FirstKinds.{AreFirstKinds}
 use Rattle.conformance.specs.FirstActors.{AreFirstActorsOf}
-use Rattle.conformance.specs.CollectedFindings.{AreMismatchesOf, AreForeign, AreInvalidationsOf, is_path_independent, all_findings}
+use Rattle.conformance.specs.CollectedFindings.{AreMismatchesOf, AreForeign, AreInvalidationsOf, is_counted, all_findings}
+use Rattle.conformance.specs.RejectionRule.{has_rejecting_pool, first_refusal}
 use Rattle.conformance.specs.UnplannedLabels.{AreNotPlanned}
 use Rattle.conformance.specs.Verdicts.{is_mismatch, is_undecided, is_classless_job}
 
@@ -40,6 +43,11 @@ is_not_decided (finding.Pool deviation) = false
 is_not_decided (finding.ForeignGet get label job) = false
 is_not_decided (finding.Invalidation invalidation label) = false
 
+-- The first event of each type that invalidates a SAFE answer, whatever the paths are. If some pool of the plan may reject jobs, the
+-- rejections that the plan allows do not count, and the first other refusal comes last.
+abbrev pub counted_invalidations : Plan → List RecordedLine → List Invalidation
+counted_invalidations plan lines = filter (is_counted (has_rejecting_pool plan)) (invalidations_of lines) ++ (if has_rejecting_pool plan then option_to_list (first_refusal plan lines) else [])
+
 -- The job is one of the classified jobs whose path matches no class.
 abbrev pub is_classless_in : List ClassifiedActor → ℕ → Bool
 is_classless_in reported job = list_any (is_classless_job job) reported
@@ -48,7 +56,7 @@ is_classless_in reported job = list_any (is_classless_job job) reported
 -- differs, with the first line that shows it; each pool that the recording lacks; each label that is not in the plan; for
 -- each label of the plan, the first actor whose path matches no body and the first one for which this is undecided; the
 -- first line at which each kind has too many rounds; the first get of another actor's job; and the first line of each event
--- type that invalidates a SAFE answer.
+-- type that invalidates a SAFE answer, other than the rejections that the plan allows.
 pub record AreFindingsOf (plan : Plan) (lines : List RecordedLine) (findings : List Finding) : Type 0 where
   pub reported : List ClassifiedActor
   pub all_reported : AreAllResultsOf plan lines reported
@@ -67,5 +75,5 @@ pub record AreFindingsOf (plan : Plan) (lines : List RecordedLine) (findings : L
   pub foreign : List Finding
   pub foreign_so : AreForeign lines (first_foreign_get lines) foreign
   pub invalidations : List Finding
-  pub invalidations_so : AreInvalidationsOf lines (filter is_path_independent (invalidations_of lines)) invalidations
+  pub invalidations_so : AreInvalidationsOf lines (counted_invalidations plan lines) invalidations
   pub all : IsPermutation (all_findings deviations labels mismatches undecided (excesses_by_lines plan kinds lines) foreign invalidations) findings

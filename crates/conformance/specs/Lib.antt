@@ -48,7 +48,13 @@ pub mod ExcessTracker
 pub mod Survey
 pub mod Description
 pub mod Conforms
+pub mod RejectionLaws
 pub mod FollowedActors
+pub mod RejectionRule
+pub mod Handlers
+pub mod RefusedJobs
+pub mod RefusalFacts
+pub mod Rejections
 pub mod CollectedFindings
 pub mod Findings
 pub mod Outcome

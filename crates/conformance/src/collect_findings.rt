@@ -1,9 +1,9 @@
 //! All findings, collected from the parts of a survey.
 
 ghost use Rattle.std.specs.Prelude.{◌≡◌, ◌++◌, ◌∷◌, [], map, filter, OnOk, IfOk, string_bytes};
+ghost use Rattle.std.specs.Option.{option_to_list};
 ghost use Rattle.recordings.specs.NotesOfLines.{IsNotesOf};
 ghost use Rattle.recordings.specs.ForeignGets.{first_foreign_get};
-ghost use Rattle.recordings.specs.Invalidations.{invalidations_of};
 ghost use Rattle.conformance.specs.CollectedFindings as spec;
 ghost use Rattle.conformance.specs.JobSet.{has_job};
 ghost use Rattle.conformance.specs.Lines.{lines_of};
@@ -15,6 +15,7 @@ use crate::finding::Finding;
 use crate::first_lines::FirstLines;
 use crate::job_set::JobSet;
 use crate::line_query::LineQuery;
+use crate::rejections::Rejections;
 use crate::survey::{ActorSurvey, LineSurvey, Survey};
 use crate::unplanned::{NotPlanned, UnplannedLabels};
 use crate::verdicts::Verdicts;
@@ -23,7 +24,7 @@ use job_bodies::Plan;
 use recordings::{InvalidatingEvent, Invalidation, RecordedActor, RecordedNotes};
 use std::alloc::{AllocError, Global};
 
-/// Returns the findings of the survey and those for `excesses`, unsorted.
+/// Returns the findings of the survey and those for `excesses` and `refusals`, unsorted.
 ///
 /// # Errors
 ///
@@ -34,10 +35,11 @@ pub(crate) fn collect_findings(
     recording: &[u8],
     survey: Survey,
     excesses: Vec<RoundExcess>,
+    refusals: &Option<Rejections>,
 ) -> Result<Vec<Finding>, AllocError>
     ensures { IsNotesOf survey.line_survey.notes (lines_of recording.now)
         → IfOk result
-        (λ found. spec.AreCollected plan.now (lines_of recording.now) survey excesses.items found.items) }
+        (λ found. spec.AreCollected plan.now (lines_of recording.now) survey excesses.items refusals.now found.items) }
 {
     let Survey {
         line_survey,
@@ -54,7 +56,7 @@ pub(crate) fn collect_findings(
     push_plan_differences(&mut findings, deviations, unplanned)?;
     push_actor_survey(&mut findings, alloc, plan, recording, actor_survey)?;
     push_excesses(&mut findings, &excesses)?;
-    push_notes(&mut findings, alloc, recording, &notes)?;
+    push_notes(&mut findings, alloc, recording, &notes, refusals)?;
     Ok(findings)
 }
 
@@ -109,13 +111,15 @@ fn push_notes(
     alloc: Global,
     recording: &[u8],
     notes: &RecordedNotes,
+    refusals: &Option<Rejections>,
 ) -> Result<(), AllocError>
     ensures { IsNotesOf notes.now (lines_of recording.now)
         → OnOk result
-        (spec.AddsNotes (lines_of recording.now) findings.old.items findings.new.items) }
+        (spec.AddsNotes (lines_of recording.now) refusals.now findings.old.items
+        findings.new.items) }
 {
     push_foreign_get(findings, alloc, recording, notes)?;
-    push_invalidations(findings, alloc, recording, notes)
+    push_invalidations(findings, alloc, recording, notes, refusals)
 }
 
 fn push_pools(findings: &mut Vec<Finding>, deviations: Vec<PoolDeviation>) -> Result<(), AllocError>
@@ -240,38 +244,95 @@ fn push_invalidations(
     alloc: Global,
     recording: &[u8],
     notes: &RecordedNotes,
+    refusals: &Option<Rejections>,
 ) -> Result<(), AllocError>
     ensures { IsNotesOf notes.now (lines_of recording.now)
         → OnOk result
         (spec.Adds findings.old.items
         (spec.AreInvalidationsOf (lines_of recording.now)
-        (filter spec.is_path_independent (invalidations_of (lines_of recording.now))))
+        (spec.counted_with refusals.now (lines_of recording.now)))
         findings.new.items) }
 {
     let invalidations = notes.invalidations(alloc)?;
-    push_path_independent(findings, alloc, recording, &invalidations)
+    push_counted(
+        findings,
+        alloc,
+        recording,
+        refusals.is_some(),
+        &invalidations,
+    )?;
+    push_refusal(findings, alloc, recording, first_refusal_in(refusals))
 }
 
-fn push_path_independent(
+/// Returns the first refusal that is no allowed rejection, if some pool of the plan may reject
+/// jobs.
+fn first_refusal_in(refusals: &Option<Rejections>) -> Option<Invalidation>
+    ensures { result ≡ spec.first_refusal_in refusals.now }
+{
+    match refusals {
+        Some(refusals) => refusals.first_refusal,
+        None => None,
+    }
+}
+
+fn push_refusal(
     findings: &mut Vec<Finding>,
     alloc: Global,
     recording: &[u8],
+    refusal: Option<Invalidation>,
+) -> Result<(), AllocError>
+    ensures { OnOk result
+        (spec.Adds findings.old.items
+        (spec.AreInvalidationsOf (lines_of recording.now) (option_to_list refusal))
+        findings.new.items) }
+{
+    match refusal {
+        Some(refusal) => push_event(findings, alloc, recording, refusal),
+        None => Ok(()),
+    }
+}
+
+fn push_counted(
+    findings: &mut Vec<Finding>,
+    alloc: Global,
+    recording: &[u8],
+    without_refusals: bool,
     invalidations: &[Invalidation],
 ) -> Result<(), AllocError>
     ensures { OnOk result
         (spec.Adds findings.old.items
         (spec.AreInvalidationsOf (lines_of recording.now)
-        (filter spec.is_path_independent invalidations.now))
+        (filter (spec.is_counted without_refusals) invalidations.now))
         findings.new.items) }
 {
     for invalidation in invalidations {
-        push_invalidation(findings, alloc, recording, *invalidation)?;
+        push_invalidation(findings, alloc, recording, without_refusals, *invalidation)?;
     }
     Ok(())
 }
 
-// Appends the finding for the event, unless it depends on the actor's path.
+// Appends the finding for the event, unless it depends on the actor's path, or it is a refusal and
+// refusals do not count.
 fn push_invalidation(
+    findings: &mut Vec<Finding>,
+    alloc: Global,
+    recording: &[u8],
+    without_refusals: bool,
+    invalidation: Invalidation,
+) -> Result<(), AllocError>
+    ensures { OnOk result
+        (spec.Adds findings.old.items
+        (spec.AreInvalidationsOf (lines_of recording.now)
+        (filter (spec.is_counted without_refusals) (invalidation ∷ [])))
+        findings.new.items) }
+{
+    if is_counted(without_refusals, invalidation) {
+        push_event(findings, alloc, recording, invalidation)?;
+    }
+    Ok(())
+}
+
+fn push_event(
     findings: &mut Vec<Finding>,
     alloc: Global,
     recording: &[u8],
@@ -279,17 +340,14 @@ fn push_invalidation(
 ) -> Result<(), AllocError>
     ensures { OnOk result
         (spec.Adds findings.old.items
-        (spec.AreInvalidationsOf (lines_of recording.now)
-        (filter spec.is_path_independent (invalidation ∷ [])))
+        (spec.AreInvalidationsOf (lines_of recording.now) (invalidation ∷ []))
         findings.new.items) }
 {
-    if is_path_independent(invalidation) {
-        let label = subject_of(alloc, recording, invalidation.event)?;
-        findings.push(Finding::Invalidation {
-            invalidation,
-            label,
-        })?;
-    }
+    let label = subject_of(alloc, recording, invalidation.event)?;
+    findings.push(Finding::Invalidation {
+        invalidation,
+        label,
+    })?;
     Ok(())
 }
 
@@ -326,12 +384,14 @@ fn subject_of(
     }
 }
 
-/// Returns true if the event invalidates a SAFE answer even if the actor's path matches a body.
-fn is_path_independent(invalidation: Invalidation) -> bool
-    ensures { result ≡ spec.is_path_independent invalidation }
+/// Returns true if the event invalidates a SAFE answer even if the actor's path matches a body, and
+/// it is no refusal if `without_refusals` is true.
+fn is_counted(without_refusals: bool, invalidation: Invalidation) -> bool
+    ensures { result ≡ spec.is_counted without_refusals invalidation }
 {
-    !matches!(
-        invalidation.event,
-        InvalidatingEvent::TimedOut { .. } | InvalidatingEvent::Interrupted { .. }
-    )
+    match invalidation.event {
+        InvalidatingEvent::Refused { .. } => !without_refusals,
+        InvalidatingEvent::TimedOut { .. } | InvalidatingEvent::Interrupted { .. } => false,
+        _ => true,
+    }
 }

@@ -2,7 +2,7 @@
 
 ghost use Rattle.std.specs.Prelude.{◌≡◌, [], ℕ, false, List, Option, IfOk};
 ghost use Rattle.std.specs.List.{list_any};
-ghost use Rattle.recordings.specs.RecordingLine.{lines_read};
+ghost use Rattle.recordings.specs.RecordingLine.{RecordedLine, lines_read};
 ghost use Rattle.recordings.specs.Faults.{IsFirstFault};
 ghost use Rattle.recordings.specs.PathsOfLines.{KeepsRules};
 ghost use Rattle.conformance.specs.RoundExcesses.{excesses_by_lines};
@@ -11,12 +11,14 @@ ghost use Rattle.conformance.specs.Conforms.{Conforms, DoAsPlanned, HasNoInvalid
 ghost use Rattle.conformance.specs.Findings.{AreFindingsOf, is_of_actors, is_not_decided};
 ghost use Rattle.conformance.specs.Family.{HasNoFamilies};
 ghost use Rattle.conformance.specs.FirstKinds.{AreFirstKinds};
+ghost use Rattle.conformance.specs.Rejections.{AreRejectionsOf, rejections_of};
 ghost use Rattle.conformance.specs.Survey.{IsSurveyOf};
 ghost use Rattle.conformance.specs.Outcome as spec;
 
 use crate::collect_findings::collect_findings;
 use crate::excess_tracker::excesses;
 use crate::finding::Finding;
+use crate::rejections::{PoolRejections, Rejections, find_rejections};
 use crate::survey::{Survey, survey_recording};
 use crate::{RoundExcess, pools_are_as_planned, rounds_are_within_plan};
 use job_bodies::Plan;
@@ -28,9 +30,15 @@ use std::alloc::{AllocError, Global};
 pub enum Conformance {
     /// The first invalid line of the recording. No comparison was made.
     Invalid(RecordingFault),
-    /// The findings that [`conform`] lists. They are ordered by line, then by type. Findings
-    /// without a line come last. The recording conforms if the list is empty.
-    Compared(Vec<Finding>),
+    /// The recording was compared with the plan.
+    Compared {
+        /// The findings that [`conform`] lists. They are ordered by line, then by type. Findings
+        /// without a line come last. The recording conforms if the list is empty.
+        findings: Vec<Finding>,
+        /// The number of rejections of each pool that may reject jobs, in the order of the plan.
+        /// Only the rejections that the plan allows count.
+        rejections: Vec<PoolRejections>,
+    },
 }
 
 /// Compares the recording of a service with a plan. If a line of the recording is invalid, returns
@@ -50,6 +58,16 @@ pub enum Conformance {
 ///   in no kind;
 /// - the first get of a job by an actor other than its submitter, before the submitter got the job;
 /// - for each event type that invalidates a SAFE answer, whatever the paths are, its first line.
+///   A rejection that the plan allows does not count.
+///
+/// A `refused` line is a rejection that the plan allows if the pool may reject jobs, and in each
+/// `pool` line of the pool, its handler
+///
+/// - is `abort`;
+/// - is `caller_runs`, and no line has the job as an actor, other than its end. If the recording
+///   has a `shutdown` of the pool, the job must also have a `start` line, and no `shutdown` of the
+///   pool may precede the `refused` line;
+/// - or is `discard` or `discard_oldest`, and no body of the plan gets a job of the pool.
 ///
 /// If no finding concerns a label, a path or a number of rounds, all jobs and rounds behave as
 /// planned, whatever the pools are.
@@ -66,7 +84,8 @@ pub fn conform(alloc: Global, plan: &Plan, recording: &[u8]) -> Result<Conforman
     ensures conforms { IfOk result (λ reported.
         spec.IfCompared reported (λ findings.
         findings ≡ []
-        → Conforms plan.now (lines_of recording.now) × HasNoInvalidation (lines_of recording.now))) }
+        → Conforms plan.now (lines_of recording.now)
+        × HasNoInvalidation plan.now (lines_of recording.now))) }
     ensures actors { IfOk result (λ reported.
         spec.IfCompared reported (λ findings.
         list_any is_of_actors findings ≡ false → DoAsPlanned plan.now (lines_of recording.now))) }
@@ -76,11 +95,19 @@ pub fn conform(alloc: Global, plan: &Plan, recording: &[u8]) -> Result<Conforman
         spec.IfCompared reported (λ findings.
         HasNoFamilies plan.now → list_any is_not_decided findings ≡ false)) }
     ensures ascending { IfOk result (λ reported. spec.IfCompared reported spec.AreInOrder) }
+    ensures rejections { IfOk result (λ reported.
+        spec.IfCounted reported (λ counts. counts ≡ rejections_of plan.now (lines_of recording.now))) }
 {
     match survey_recording(alloc, plan, recording)? {
-        Ok(survey) => Ok(Conformance::Compared(findings_of_survey(
-            alloc, plan, recording, survey,
-        )?)),
+        Ok(survey) => {
+            let refusals = find_rejections(alloc, plan, recording)?;
+            let findings = findings_of_survey(alloc, plan, recording, survey, &refusals)?;
+            let rejections = rejection_counts(alloc, plan, &refusals)?;
+            Ok(Conformance::Compared {
+                findings,
+                rejections,
+            })
+        }
         Err(fault) => Ok(Conformance::Invalid(fault)),
     }
 }
@@ -91,12 +118,15 @@ fn findings_of_survey(
     plan: &Plan,
     recording: &[u8],
     survey: Survey,
+    refusals: &Option<Rejections>,
 ) -> Result<Vec<Finding>, AllocError>
     ensures conforms { KeepsRules (lines_of recording.now)
         → IsSurveyOf plan.now (lines_of recording.now) survey
+        → AreRejectionsOf plan.now (lines_of recording.now) refusals.now
         → IfOk result (λ findings.
         findings.items ≡ []
-        → Conforms plan.now (lines_of recording.now) × HasNoInvalidation (lines_of recording.now)) }
+        → Conforms plan.now (lines_of recording.now)
+        × HasNoInvalidation plan.now (lines_of recording.now)) }
     ensures actors { KeepsRules (lines_of recording.now)
         → IsSurveyOf plan.now (lines_of recording.now) survey
         → IfOk result (λ findings.
@@ -104,10 +134,12 @@ fn findings_of_survey(
         → DoAsPlanned plan.now (lines_of recording.now)) }
     ensures found { KeepsRules (lines_of recording.now)
         → IsSurveyOf plan.now (lines_of recording.now) survey
+        → AreRejectionsOf plan.now (lines_of recording.now) refusals.now
         → IfOk result
         (λ findings. AreFindingsOf plan.now (lines_of recording.now) findings.items) }
     ensures decided { KeepsRules (lines_of recording.now)
         → IsSurveyOf plan.now (lines_of recording.now) survey
+        → AreRejectionsOf plan.now (lines_of recording.now) refusals.now
         → IfOk result (λ findings.
         HasNoFamilies plan.now → list_any is_not_decided findings.items ≡ false) }
     ensures ascending { IfOk result (λ findings. spec.AreInOrder findings.items) }
@@ -115,7 +147,7 @@ fn findings_of_survey(
     pools_are_as_planned();
     rounds_are_within_plan();
     let excesses = round_excesses(alloc, plan, recording, &survey)?;
-    let mut findings = collect_findings(alloc, plan, recording, survey, excesses)?;
+    let mut findings = collect_findings(alloc, plan, recording, survey, excesses, refusals)?;
     findings.sort_by_key(Finding::sort_key)?;
     Ok(findings)
 }
@@ -141,5 +173,21 @@ fn round_excesses(
         excesses(alloc, plan, recording, others)
     } else {
         Vec::from_slice(alloc, &survey.excess_tracker.found)
+    }
+}
+
+// Returns the number of rejections of each pool that may reject jobs.
+fn rejection_counts(
+    alloc: Global,
+    plan: &Plan,
+    refusals: &Option<Rejections>,
+) -> Result<Vec<PoolRejections>, AllocError>
+    ensures { (lines : List RecordedLine)
+        → AreRejectionsOf plan.now lines refusals.now
+        → IfOk result (λ counts. counts.items ≡ rejections_of plan.now lines) }
+{
+    match refusals {
+        Some(refusals) => refusals.counts(alloc, plan),
+        None => Ok(Vec::new(alloc)),
     }
 }

@@ -1,7 +1,8 @@
-//! Laws about the comparisons of pools and rounds. Each law is the contract of a function with an
-//! empty body.
+//! Laws about the comparisons of pools and rounds, and about rejections. Each law is the contract of
+//! a function with an empty body.
 
 ghost use Rattle.conformance.specs.ComparisonLaws.{DeviationsAddUp, ExcessesAddUp, PoolsAreAsPlanned, PoolsAreRecorded, RoundsAreWithinPlan};
+ghost use Rattle.conformance.specs.RejectionLaws.{RejectionsNeedTheKey, WithoutTheKeyAllCount};
 
 /// Proves that the comparison line by line finds all differences between the pools. If there are
 /// none, each recorded pool is in the plan and as planned in each of its lines. The number of
@@ -18,4 +19,11 @@ pub fn pools_are_as_planned()
 pub fn rounds_are_within_plan()
     ensures adds_up { ExcessesAddUp }
     ensures within { RoundsAreWithinPlan }
+{}
+
+/// Proves that the plan allows only rejections by pools that may reject jobs. If no pool of the plan
+/// may reject jobs, every line that invalidates a SAFE answer counts.
+pub fn rejections_need_the_key()
+    ensures need { RejectionsNeedTheKey }
+    ensures all { WithoutTheKeyAllCount }
 {}

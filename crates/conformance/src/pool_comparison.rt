@@ -210,7 +210,7 @@ impl PoolComparison {
 }
 
 /// Returns the number of the plan's pool with this name, if there is one.
-fn pool_named(plan: &Plan, name: &str) -> Option<usize>
+pub(crate) fn pool_named(plan: &Plan, name: &str) -> Option<usize>
     ensures is { result ≡ spec.pool_named plan.now name.now }
     ensures within { IfSome result (λ pool. pool < length plan.now.pools) }
 {

@@ -16,7 +16,7 @@ use Rattle.counterexample.specs.declared.ending.Reason.TheVariants.{PoolsAreFull
 use Rattle.counterexample.specs.Witness.{EndsRefused, IsWitness, WitnessedPlansAreNotAccepted, WitnessedPlansAreNotSafe}
 
 pub refusal_counts : (plan : Plan) (s s' : State) (p : ℕ) {e : Event} → Happens plan s e s' (outcome.Refused p) → s'.refusals ≡ s.refusals + 1
-refusal_counts plan s s' p (is_refused a body i k at within full) = refl
+refusal_counts plan s s' p (is_refused a body i k at must within full) = refl
 
 no_refusal : (plan : Plan) (events : List Event) (p : ℕ) → Safe plan → EndsRefused plan events p → ⊥
 no_refusal plan events p safe ends =

@@ -24,7 +24,7 @@ stays_for : (plan : Plan) (s : State) (members : List ℕ) (standing : List Vect
 stays_for plan s members standing PoolsAreFull waits shown = record { waits = waits; full = shown }
 stays_for plan s members standing PoolsStayAtCore waits shown = record {
   waits = waits;
-  starts_no_thread = λ p j member queued. ⊎_elim (λ (full : IsFull plan s p). inl full) (λ (given : GivenStanding plan standing p). inr (record { vector = given.vector; hold = given.hold })) (shown.1 p j member queued);
+  starts_no_thread = λ p j member queued. ⊎_elim (λ (full : IsFull plan s p). inl full) (λ (given : GivenStanding plan standing p). inr (record { vector = given.vector; hold = given.hold; light = given.light })) (shown.1 p j member queued);
 }
 
 -- if no reason for a permanent wait is proved, some pool with a queued member has fewer threads than its maximum

@@ -50,6 +50,15 @@ outcomes_more plan front rest e s found reached is_step =
     ∙ ap (λ (x : Option State). outcomes plan (Some (start plan)) front ++ outcomes plan x (e ∷ rest)) reached
     ∙ ap (λ (x : Option (State × Outcome)). outcomes plan (Some (start plan)) front ++ outcome_of x ∷ outcomes plan (state_after x) rest) is_step
 
+-- an outcome that none of the events has, and the next event does not have either, is not among the outcomes with that event
+pub none_more : (plan : Plan) (front : List Event) (e : Event) (o other : Outcome) (s s' : State) → ¬ In (Some other) (outcomes plan (Some (start plan)) front) → Reaches plan front s → step plan s e ≡ Some (s', o) → o ≢ other
+    → ¬ In (Some other) (outcomes plan (Some (start plan)) (front ++ e ∷ []))
+none_more plan front e o other s s' none reached is_step differs i =
+    let j = subst (λ (xs : List (Option Outcome)). In (Some other) xs) (outcomes_more plan front [] e s (Some (s', o)) reached is_step) i in
+    ⊎_elim (λ before. none before)
+    (λ behind. ⊎_elim (λ (same : Some other ≡ Some o). differs (sym (same_Some other o same))) (λ later. not_In_nil later) (In-cons_cases behind))
+    (In-append_cases (outcomes plan (Some (start plan)) front) (Some o ∷ []) j)
+
 -- a list consists of the events before index i, the event at index i, and the events after it
 pub split_at : (events : List Event) (i : ℕ) (d : Event) → i < length events → take i events ++ get_or events i d ∷ drop (i + 1) events ≡ events
 split_at events i d inside =
@@ -69,11 +78,7 @@ comes_further plan front view after e o s s' none reached is_step seen no_refusa
   state = s';
   reaches = reaches_more plan front e s reached ∙ ap state_after is_step;
   seen = sym seen;
-  none_refused = λ p i.
-      let j = subst (λ (xs : List (Option Outcome)). In (Some (outcome.Refused p)) xs) (outcomes_more plan front [] e s (Some (s', o)) reached is_step) i in
-      ⊎_elim (λ before. none p before)
-      (λ behind. ⊎_elim (λ (same : Some (outcome.Refused p) ≡ Some o). no_refusal p (sym (same_Some (outcome.Refused p) o same))) (λ later. not_In_nil later) (In-cons_cases behind))
-      (In-append_cases (outcomes plan (Some (start plan)) front) (Some o ∷ []) j);
+  none_refused = λ p. none_more plan front e o (outcome.Refused p) s s' (none p) reached is_step (no_refusal p);
 }
 
 -- the replay stops at an event that is not possible, if no earlier event is a refused submit
@@ -98,7 +103,7 @@ stops_short plan front rest e s none reached is_step = record {
 abbrev pub AnswersAt : Plan → List Event → ℕ → View → Option Outcome → View → Type 0
 AnswersAt plan events i view answer after = (s : State) → IsReached plan s → live_view plan s ≡ view → AnswersAs plan s (get_or events i (event.Client 0)) answer after
 
-answer_here : (plan : Plan) (events : List Event) (i : ℕ) (view after : View) (answer : Option Outcome) → (held : ComesTo plan (take i events) view) → AnswersAt plan events i view answer after
+pub answer_here : (plan : Plan) (events : List Event) (i : ℕ) (view after : View) (answer : Option Outcome) → (held : ComesTo plan (take i events) view) → AnswersAt plan events i view answer after
     → AnswersAs plan held.state (get_or events i (event.Client 0)) answer after
 answer_here plan events i view after answer held answered = answered held.state (take i events, held.reaches) held.seen
 

@@ -3,5 +3,8 @@ pub mod StandingPools
 pub mod PermanentSets
 pub mod Accepted
 pub mod EventReplays
+pub mod RejectionReplays
+pub mod Refusing
+pub mod LightJobs
 pub mod StandingTest
 pub mod Answered

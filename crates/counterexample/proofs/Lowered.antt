@@ -1,5 +1,5 @@
 -- A plan with lower maximums has the same steps, as long as no pool starts a thread above its lowered maximum.
-use Rattle.std.proofs.Common.{◌≡◌, ℕ, zero, suc, ◌+◌, ◌<◌, ◌≤◌, ◌⊎◌, List, [], ◌∷◌, length, map, get_or, Option, Some, None, inl, inr, ⊎_elim, refl, sym, ap, ◌∙◌, arith}
+use Rattle.std.proofs.Common.{◌≡◌, ℕ, zero, suc, ◌+◌, ◌<◌, ◌≤◌, ◌⊎◌, Bool, true, false, cond, List, [], ◌∷◌, length, map, get_or, Option, Some, None, inl, inr, ⊎_elim, refl, sym, ap, ◌∙◌, arith}
 use Rattle.std.specs.List.{enumerate_from}
 use Rattle.std.proofs.lemmas.Option.{same_Some}
 use Rattle.std.proofs.lemmas.Grind.{common_steps}
@@ -17,9 +17,9 @@ use Rattle.written_machine.specs.declared.event.Event.{Event}
 use Rattle.written_machine.specs.declared.event.Outcome.{Outcome}
 use Rattle.written_machine.specs.declared.event.Outcome.TheVariants as outcome
 use Rattle.written_machine.specs.State.{State, PoolPart, pool_of, pool_seen, part_of, threads}
-use Rattle.written_machine.specs.Step.{answered, submitted, step_action, step_at_point, step}
+use Rattle.written_machine.specs.Step.{skipped, answered, submitted, step_action, step_at_point, step}
 use Rattle.written_machine.specs.Reach.{start}
-use Rattle.written_machine.proofs.Events.{IsAtAction, event_of, Happens, works, starts, queues, is_refused, gets, finishes, loops, takes, retires}
+use Rattle.written_machine.proofs.Events.{IsAtAction, event_of, Happens, works, starts, queues, is_refused, is_rejected, gets, finishes, loops, takes, retires}
 use Rattle.written_machine.proofs.StateInvariant.{StateInvariant}
 use Rattle.written_machine.proofs.InvariantSubmits.{class_exists}
 
@@ -50,6 +50,11 @@ queue_from most n [] p = refl
 queue_from most n (x ∷ xs) zero = refl
 queue_from most n (x ∷ xs) (suc p) = queue_from most (n + 1) xs p
 
+may_reject_from : (most : ℕ → ℕ) (n : ℕ) (pools : List Pool) (p : ℕ) → (get_or (map (with_most most) (enumerate_from n pools)) p no_pool).may_reject ≡ (get_or pools p no_pool).may_reject
+may_reject_from most n [] p = refl
+may_reject_from most n (x ∷ xs) zero = refl
+may_reject_from most n (x ∷ xs) (suc p) = may_reject_from most (n + 1) xs p
+
 max_from : (most : ℕ → ℕ) (n : ℕ) (pools : List Pool) (p : ℕ) → p < length pools → (get_or (map (with_most most) (enumerate_from n pools)) p no_pool).max ≡ most (n + p)
 max_from most n [] p inside = absurd (omega arith)
 max_from most n (x ∷ xs) zero inside = ap most (let same : n ≡ n + 0 = omega arith in same)
@@ -67,6 +72,9 @@ core-lowered plan most p = core_from most 0 plan.pools p
 
 pub queue-lowered : (plan : Plan) (most : ℕ → ℕ) (p : ℕ) → (pool_at (lowered plan most) p).queue ≡ (pool_at plan p).queue
 queue-lowered plan most p = queue_from most 0 plan.pools p
+
+may_reject-lowered : (plan : Plan) (most : ℕ → ℕ) (p : ℕ) → (pool_at (lowered plan most) p).may_reject ≡ (pool_at plan p).may_reject
+may_reject-lowered plan most p = may_reject_from most 0 plan.pools p
 
 pub max-lowered : (plan : Plan) (most : ℕ → ℕ) (p : ℕ) → p < length plan.pools → (pool_at (lowered plan most) p).max ≡ most p
 max-lowered plan most p inside = max_from most 0 plan.pools p inside ∙ ap most (let same : 0 + p ≡ p = omega arith in same)
@@ -122,11 +130,18 @@ kept-lowered plan most s kept within = record {
 pub started_when : (pool : PoolView) → answer pool ≡ offer.Started → (pool.threads < pool.core) ⊎ (pool.capacity ≤ length pool.queue)
 started_when pool e = grind (arith, common_steps)
 
+-- the outcome of a submit to a full pool is not `Started`, whether or not the pool may reject jobs
+full_starts_none : (s' : State) (n : ℕ) (may : Bool) (after refused : State) (j p : ℕ) → ◌≡◌ {A = State × Outcome} (cond may (after, outcome.Rejected p j) (refused, outcome.Refused p)) (s', outcome.Started n) → ⊥
+full_starts_none s' n true after refused j p e = let same : outcome.Rejected p j ≡ outcome.Started n = ap (λ (x : State × Outcome). x.1) e in absurd cc
+full_starts_none s' n false after refused j p e = let same : outcome.Refused p ≡ outcome.Started n = ap (λ (x : State × Outcome). x.1) e in absurd cc
+
 -- if the outcome of a submit is `Started`, so is the pool's response
 started_given : (plan : Plan) (s s' : State) (a : Parent) (i k n : ℕ) (given : Offer) → answered plan s a i k given ≡ (s', outcome.Started n) → given ≡ offer.Started
 started_given plan s s' a i k n offer.Started e = refl
 started_given plan s s' a i k n offer.Queued e = let same : outcome.Queued (length s.jobs) ≡ outcome.Started n = ap (λ (x : State × Outcome). x.1) e in absurd cc
-started_given plan s s' a i k n offer.Refused e = let same : outcome.Refused (pool_of plan k) ≡ outcome.Started n = ap (λ (x : State × Outcome). x.1) e in absurd cc
+started_given plan s s' a i k n offer.Refused e =
+    let p = pool_of plan k in
+    absurd (full_starts_none s' n (pool_at plan p).may_reject (skipped s a i k) (record s { refusals = s.refusals + 1 }) (length s.jobs) p e)
 
 step_of : (plan : Plan) (s : State) (a : Parent) (body : List Action) (i k : ℕ) → IsAtAction plan s a body i (Some (action.Submit k)) → step plan s (event_of a) ≡ Some (submitted plan s a i k)
 step_of plan s (parent.Client c) body i k at = ap (step_at_point plan s (parent.Client c)) at.stands ∙ ap (step_action plan s (parent.Client c) i) at.is_there
@@ -156,11 +171,13 @@ happens-lowered plan most s s' e o ordered between below (starts a body i k at r
 happens-lowered plan most s s' e o ordered between below (queues a body i k at at_core room) is_step =
     let q = pool_of plan k in
     queues a body i k (stands-lowered plan most s a body i (Some (action.Submit k)) at) (omega (arith, core-lowered plan most q)) (omega (arith, queue-lowered plan most q))
-happens-lowered plan most s s' e o ordered between below (is_refused a body i k at no_room all_started) is_step =
+happens-lowered plan most s s' e o ordered between below (is_refused a body i k at must no_room all_started) is_step =
     let q = pool_of plan k in
     let inside = ordered.pools k (class_exists plan s a body i k ordered at) in
     let low = (between q inside).1 in
-    is_refused a body i k (stands-lowered plan most s a body i (Some (action.Submit k)) at) (omega (arith, queue-lowered plan most q)) (omega (arith, max-lowered plan most q inside))
+    is_refused a body i k (stands-lowered plan most s a body i (Some (action.Submit k)) at) (may_reject-lowered plan most q ∙ must) (omega (arith, queue-lowered plan most q)) (omega (arith, max-lowered plan most q inside))
+happens-lowered plan most s s' e o ordered between below (is_rejected a body i k at may) is_step =
+    is_rejected a body i k (stands-lowered plan most s a body i (Some (action.Submit k)) at) (may_reject-lowered plan most (pool_of plan k) ∙ may)
 happens-lowered plan most s s' e o ordered between below (gets a body i t j at is_child done) is_step = gets a body i t j (stands-lowered plan most s a body i (Some (action.Get t)) at) is_child done
 happens-lowered plan most s s' e o ordered between below (finishes j body i at) is_step = finishes j body i (stands-lowered plan most s (parent.Job j) body i None at)
 happens-lowered plan most s s' e o ordered between below (loops c client body i at is_client repeats) is_step = loops c client body i (stands-lowered plan most s (parent.Client c) body i None at) is_client repeats

@@ -55,7 +55,7 @@ pub starts_below_core : (plan : Plan) (s : State) (a : Parent) (body : List Acti
 starts_below_core plan s a body i k well_formed reached standing at starts =
     let laws = standing_laws plan (pool_of plan k) standing.vector standing.hold in
     ⊎_elim (λ below. below)
-    (λ full. absurd (standing_refuses_nothing plan standing.vector s a body i k (ordered plan well_formed) laws (kept plan s well_formed reached) (balanced DoneWeight plan standing.vector s well_formed laws.laws reached) at full))
+    (λ full. absurd (standing_refuses_nothing plan standing.vector s a body i k (ordered plan well_formed) laws (kept plan s well_formed reached) (balanced DoneWeight plan standing.vector s well_formed laws.laws standing.light reached) at full))
     (started_when (pool_seen plan s (pool_of plan k)) starts)
 
 -- the lowered maximum of pool q: its core if q is p, and otherwise its maximum

@@ -26,8 +26,9 @@ use Rattle.weights.specs.Row.{first_failing}
 use Rattle.weights.specs.Vector.{Vector, vector_fits}
 use Rattle.weights.specs.Standing.{standing_rows}
 use Rattle.soundness.proofs.Faults.{all_hold, none_fails}
-use Rattle.counterexample.specs.NoThreadStarts.{is_full, has_standing, pool_starts_no_thread, class_starts_no_thread, job_starts_no_thread, all_start_no_thread}
+use Rattle.counterexample.specs.NoThreadStarts.{is_full, rejected_are_light, has_standing, pool_starts_no_thread, class_starts_no_thread, job_starts_no_thread, all_start_no_thread}
 use Rattle.counterexample.specs.Confirmed.{GivenStanding, AreFull, AreFullOrStanding}
+use Rattle.counterexample.proofs.LightJobs.{light_from_test, test_of_light}
 
 -- ---- one pool
 
@@ -46,14 +47,23 @@ none_there (Some x) h = absurd (false≢true h)
 standing_given : (plan : Plan) (standing : List Vector) (p : ℕ) (found : Option Vector) → slice_get standing p ≡ found → has_standing plan p found ≡ true → GivenStanding plan standing p
 standing_given plan standing p None there passes = absurd (false≢true passes)
 standing_given plan standing p (Some v) there passes =
-    let parts = and_parts (vector_fits plan v) (not (is_some (first_failing (standing_rows plan p v)))) passes in
-    record { vector = v; given = there; fits = parts.0; hold = all_hold (standing_rows plan p v) (none_there (first_failing (standing_rows plan p v)) parts.1) }
+    let parts = and_parts (vector_fits plan v && not (is_some (first_failing (standing_rows plan p v)))) (rejected_are_light plan v) passes in
+    let front = and_parts (vector_fits plan v) (not (is_some (first_failing (standing_rows plan p v)))) parts.0 in
+    record {
+      vector = v;
+      given = there;
+      fits = front.0;
+      hold = all_hold (standing_rows plan p v) (none_there (first_failing (standing_rows plan p v)) front.1);
+      light = light_from_test plan v parts.1;
+    }
 
 given_stands : (plan : Plan) (standing : List Vector) (p : ℕ) → GivenStanding plan standing p → has_standing plan p (slice_get standing p) ≡ true
 given_stands plan standing p given =
     ap (has_standing plan p) given.given
-    ∙ and_from (vector_fits plan given.vector) (not (is_some (first_failing (standing_rows plan p given.vector)))) given.fits
-    (ap (λ (found : Option Row). not (is_some found)) (none_fails (standing_rows plan p given.vector) given.hold))
+    ∙ and_from (vector_fits plan given.vector && not (is_some (first_failing (standing_rows plan p given.vector)))) (rejected_are_light plan given.vector)
+    (and_from (vector_fits plan given.vector) (not (is_some (first_failing (standing_rows plan p given.vector)))) given.fits
+    (ap (λ (found : Option Row). not (is_some found)) (none_fails (standing_rows plan p given.vector) given.hold)))
+    (test_of_light plan given.vector given.light)
 
 full_seen : (plan : Plan) (s : State) (p : ℕ) → p < length plan.pools → is_full (live_view plan s) p ≡ eqb (threads plan s p) (pool_at plan p).max
 full_seen plan s p inside = ap (λ (pool : PoolView). eqb pool.threads pool.max) (pool_at_view plan s p inside)

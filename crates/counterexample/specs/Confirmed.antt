@@ -8,6 +8,7 @@ use Rattle.written_machine.specs.FullWaitingSets.{WhereMembersQueue, IsFull}
 use Rattle.weights.specs.Row.{AllHold}
 use Rattle.weights.specs.Vector.{Vector, vector_fits}
 use Rattle.weights.specs.Standing.{standing_rows}
+use Rattle.soundness.specs.WeightLaws.{RejectedAreLight}
 use Rattle.counterexample.specs.declared.ending.Ending.{Ending}
 use Rattle.counterexample.specs.declared.ending.Ending.TheVariants.{Refused, StuckForever, StuckNow}
 use Rattle.counterexample.specs.declared.ending.Reason.{Reason}
@@ -18,12 +19,14 @@ use Rattle.counterexample.specs.Witness.{LeadsTo, NoneRefused, EndsRefused}
 
 -- ---- the reasons for a permanent wait
 
--- `standing` has a vector for the pool that satisfies the conditions of a standing vector
+-- `standing` has a vector for the pool that satisfies the conditions of a standing vector, and a rejected job does not increase the weight
+-- of a state
 pub record GivenStanding (plan : Plan) (standing : List Vector) (p : ℕ) : Type 0 where
   pub vector : Vector
   pub given : slice_get standing p ≡ Some vector
   pub fits : IsTrue (vector_fits plan vector)
   pub hold : AllHold (standing_rows plan p vector)
+  pub light : RejectedAreLight plan vector
 
 -- each pool with a queued member has all its threads
 abbrev pub AreFull : Plan → State → List ℕ → Type 0

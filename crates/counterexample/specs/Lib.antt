@@ -5,3 +5,4 @@ pub mod ReplayResult
 pub mod NoThreadStarts
 pub mod Confirmed
 pub mod EventLines
+pub mod Rejection

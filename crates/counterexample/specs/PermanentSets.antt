@@ -10,11 +10,14 @@ use Rattle.written_machine.specs.FullWaitingSets.{WhereMembersQueue, IsFull}
 use Rattle.weights.specs.Row.{AllHold}
 use Rattle.weights.specs.Vector.{Vector}
 use Rattle.weights.specs.Standing.{standing_rows}
+use Rattle.soundness.specs.WeightLaws.{RejectedAreLight}
 
--- some vector satisfies the conditions of a standing vector of the pool
+-- some vector satisfies the conditions of a standing vector of the pool, and a rejected job does not increase the weight of a state.
+-- Where no pool may reject jobs, the conditions are enough
 pub record HasStanding (plan : Plan) (p : ℕ) : Type 0 where
   pub vector : Vector
   pub hold : AllHold (standing_rows plan p vector)
+  pub light : RejectedAreLight plan vector
 
 -- a pool with a standing vector never has more than core threads, whatever the other pools do
 abbrev pub StandingPoolsStayAtCore : Type 0

@@ -1,7 +1,7 @@
 //! A best-first search for a violation. To expand a state is to visit its successors. Several
 //! measures take turns in selecting the next state to expand: the weight that was lost under a
-//! vector, the number of threads that do not wait, and the room of the pool with the least room. A
-//! violation is permanent if it is a refused submit, or if jobs wait only for each other and no
+//! vector, the number of threads that do not wait, and the least room of a pool that must not reject
+//! jobs. A violation is permanent if it is a refused submit, or if jobs wait only for each other and no
 //! later event ends the wait.
 
 use crate::branches::Branch;
@@ -224,7 +224,7 @@ impl<'a> BestFirst<'a> {
         match walk.choose(branch.place, branch.newer)? {
             WalkStep::Refused => return Ok(Some(Violation::Refused)),
             WalkStep::Nothing => return Ok(None),
-            WalkStep::Advanced => {}
+            WalkStep::Advanced | WalkStep::Rejected => {}
         }
         let print = walk.fingerprint(self.alloc)?;
         if !self.seen.insert(print)? {

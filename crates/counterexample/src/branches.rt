@@ -23,8 +23,8 @@ pub(crate) struct Branch {
 }
 
 impl<'a> Walk<'a> {
-    /// Returns a copy of the walk in the same state, with an empty script and with `has_blocked`
-    /// cleared.
+    /// Returns a copy of the walk in the same state, with an empty script and with `rejected` and
+    /// `has_blocked` cleared.
     pub(crate) fn try_clone(&self, alloc: Global) -> Result<Walk<'a>, AllocError> {
         let mut ready = Vec::with_capacity(alloc, self.ready.len())?;
         for actors in &self.ready {
@@ -36,6 +36,7 @@ impl<'a> Walk<'a> {
             script: Script::new(alloc),
             ready,
             begun: Vec::from_slice(alloc, &self.begun)?,
+            rejected: Vec::new(alloc),
             has_blocked: false,
         })
     }
@@ -100,13 +101,15 @@ impl<'a> Walk<'a> {
         threads.saturating_sub(waiting)
     }
 
-    /// Returns the least room of a pool. The room is the number of further jobs that the pool
-    /// accepts if no thread takes a job from its queue before that. Returns `u64::MAX` if there are
-    /// no pools.
+    /// Returns the least room of a pool that must not reject jobs. The room is the number of
+    /// further jobs that the pool accepts if no thread takes a job from its queue before that.
+    /// Returns `u64::MAX` if there are no such pools.
     pub(crate) fn least_room(&self) -> u64 {
         let mut least = u64::MAX;
         for pool in &self.machine.pools {
-            least = least.min(pool.room());
+            if !pool.may_reject() {
+                least = least.min(pool.room());
+            }
         }
         least
     }

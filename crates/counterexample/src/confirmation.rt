@@ -24,13 +24,15 @@ use weights::Vector;
 /// `members` are the numbers of the jobs that wait only for each other after the events, in
 /// ascending order and without duplicates. `standing` is empty or has one vector for each pool. A
 /// vector that satisfies all conditions of a standing vector proves that its pool never has more
-/// than `core` threads. Any other vector proves nothing.
+/// than `core` threads, if a done job of each class whose pool may reject jobs weighs at most as
+/// much as a queued job. Any other vector proves nothing.
 ///
 /// The arguments are not trusted. The events are replayed in order. The replay stops at the first
 /// event that is a refused submit or that is not possible. If that event is a refused submit, the
 /// witness ends with it, and later events are removed. If that event is not possible, returns
 /// `None`. If all events are possible and none is a refused submit, returns `None` unless there are
-/// members, in ascending order, that wait only for each other after the last event.
+/// members, in ascending order, that wait only for each other after the last event. A submit that
+/// is rejected, as the plan allows, is an ordinary event.
 ///
 /// # Errors
 ///

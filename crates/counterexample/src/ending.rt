@@ -3,7 +3,8 @@
 /// The ending of a witness: a refused submit, or jobs that wait only for each other.
 #[derive(Debug, Drop)]
 pub enum Ending {
-    /// The last event is a submit that the pool with this number refuses.
+    /// The last event is a submit that the pool with this number refuses. The pool must not reject
+    /// jobs.
     Refused(usize),
     /// After the last event, the jobs with these numbers wait only for each other. The second field
     /// is the reason why no later event ends the wait.

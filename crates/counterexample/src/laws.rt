@@ -15,16 +15,17 @@ pub fn witnessed_plans_are_not_safe()
 {}
 
 /// Proves that a pool never has more than `core` threads if some vector satisfies the conditions of
-/// a standing vector of the pool. Nothing is assumed about the other pools, which may even refuse
-/// submits.
+/// a standing vector of the pool, and if a done job of each class whose pool may reject jobs weighs
+/// at most as much as a queued job. Nothing else is assumed about the other pools, which may even
+/// refuse submits.
 pub fn standing_pools_stay_at_core()
     ensures { StandingPoolsStayAtCore }
 {}
 
 /// Proves that a permanent waiting set lasts: after every list of events it is still a waiting set,
 /// and none of its jobs has moved. A waiting set is a set of jobs that wait only for each other. It
-/// is permanent if each pool with a queued member has `max` threads, or has a standing vector whose
-/// conditions hold.
+/// is permanent if each pool with a queued member has `max` threads, or has a vector as in
+/// [`standing_pools_stay_at_core`].
 pub fn permanent_waiting_sets_stay()
     ensures { PermanentWaitingSetsStay }
 {}

@@ -4,6 +4,9 @@
 //! A [`Witness`] is a list of events. Either its last event is a refused submit, or some jobs wait
 //! only for each other after it. The search is not trusted: [`confirmed`] replays the events that
 //! the search finds.
+//!
+//! A pool that may reject jobs, as the plan allows, refuses none: a submit that it rejects is an
+//! ordinary event of a witness. [`find_rejection`] searches for events that lead to a rejection.
 #![tactic(auto)]
 
 mod best_first;
@@ -19,6 +22,7 @@ mod machine;
 mod no_thread_starts;
 mod orders;
 mod pools;
+mod rejections;
 mod replaying;
 mod replays;
 mod rising;
@@ -38,6 +42,7 @@ pub use laws::{
     permanent_waiting_sets_stay, standing_pools_stay_at_core, witnessed_plans_are_not_accepted,
     witnessed_plans_are_not_safe,
 };
+pub use rejections::find_rejection;
 pub use search::{CandidateWitness, SearchResult, search_witness};
 pub use weights::Vector;
 pub use witness::Witness;

@@ -144,8 +144,8 @@ impl<'a> Losses<'a> {
     }
 
     /// Returns the loss of the submit at position `at`, by an actor that is now at position `from`
-    /// and performs only work in between. A refused submit loses nothing. Returns `None` if there
-    /// is no submit at `at`.
+    /// and performs only work in between. A refused submit loses nothing. A rejected submit creates
+    /// a done job. Returns `None` if there is no submit at `at`.
     fn of_submit(&self, weighted: &WeightedBody, from: usize, at: usize) -> Option<u64> {
         let Action::Submit(class) = *weighted.body.get(at)? else {
             return None;
@@ -155,6 +155,10 @@ impl<'a> Losses<'a> {
         let (after, _) = weighted.settled(at.saturating_add(1));
         match self.machine.pools.get(pool)?.answer() {
             Admission::Refused => Some(0),
+            Admission::Rejected => {
+                let after = after.saturating_add(self.done(class));
+                Some(before.saturating_sub(after))
+            }
             Admission::Queued => {
                 let after = after.saturating_add(self.queued(class));
                 Some(before.saturating_sub(after))

@@ -49,10 +49,23 @@ pub(crate) enum StepOutcome {
     /// The job with this number was created. `started` is `true` if a new thread runs it, and
     /// `false` if it is queued.
     Created { job: usize, started: bool },
+    /// The pool rejected the job, as the plan allows. The submit was skipped: the job with this
+    /// number was created as a done job.
+    Rejected(usize),
     /// The pool refused the job.
     Refused,
     /// The job reached the end of its body and is done. The value is the job's parent.
     Finished(Parent),
+}
+
+impl StepOutcome {
+    /// Returns the number of the job that the step created, or `None` if it created none.
+    pub(crate) fn created(self) -> Option<usize> {
+        match self {
+            StepOutcome::Created { job, .. } | StepOutcome::Rejected(job) => Some(job),
+            _ => None,
+        }
+    }
 }
 
 /// A state of the lightweight machine: the pools, the jobs, and the clients that have moved.
@@ -239,6 +252,7 @@ impl<'a> Machine<'a> {
         let phase = match admission.offer(number)? {
             Admission::Started => Phase::At(0),
             Admission::Queued => Phase::Queued,
+            Admission::Rejected => Phase::Done,
             Admission::Refused => return Ok(StepOutcome::Refused),
         };
         let before = self.newest(actor);
@@ -253,6 +267,9 @@ impl<'a> Machine<'a> {
         })?;
         self.set_newest(actor, Some(number));
         self.go_to(actor, position.saturating_add(1));
+        if phase == Phase::Done {
+            return Ok(StepOutcome::Rejected(number));
+        }
         Ok(StepOutcome::Created {
             job: number,
             started: phase != Phase::Queued,

@@ -1,13 +1,15 @@
 //! The check that no pool with a queued member of a waiting set starts a further thread. A waiting
 //! set is a set of jobs that wait only for each other.
 
-ghost use Rattle.std.specs.Prelude.{◌≡◌, ◌<◌, length, slice_get};
+ghost use Rattle.std.specs.Prelude.{◌≡◌, ◌<◌, IsTrue, Some, length, slice_get};
+ghost use Rattle.job_bodies.specs.Plan.{pool_at};
 ghost use Rattle.interleaving.specs.ViewStep.{live_job};
 ghost use Rattle.interleaving.specs.OfPlan.{IsReachableView};
+ghost use Rattle.weights.specs.Vector.{vector_fits};
 ghost use Rattle.counterexample.specs.NoThreadStarts as spec;
 
 use interleaving::{Phase, World};
-use job_bodies::Plan;
+use job_bodies::{Class, Plan};
 use weights::Vector;
 
 /// Returns `true` if no pool that has a member in its queue can start a thread. A pool counts as
@@ -69,13 +71,54 @@ fn is_full(world: &World, pool: usize) -> bool
 }
 
 /// Returns `true` if `standing` has a vector for the pool that satisfies all conditions of a
-/// standing vector.
+/// standing vector, and under which a rejected job does not increase the weight of a state.
 fn has_standing(plan: &Plan, pool: usize, standing: &[Vector]) -> bool
     requires { pool < length plan.now.pools }
     ensures { result ≡ spec.has_standing plan.now pool (slice_get standing.now pool) }
 {
     match standing.get(pool) {
-        Some(vector) => vector.fits(plan) && vector.standing_fault(plan, pool).is_none(),
+        Some(vector) => {
+            vector.fits(plan)
+                && vector.standing_fault(plan, pool).is_none()
+                && rejected_are_light(plan, vector)
+        }
         None => false,
     }
+}
+
+/// Returns `true` if, in each class of a pool that may reject jobs, a done job weighs at most as
+/// much as a queued job. A rejected job then does not increase the weight of a state.
+fn rejected_are_light(plan: &Plan, vector: &Vector) -> bool
+    requires { IsTrue (vector_fits plan.now vector.now) }
+    ensures { result ≡ spec.rejected_are_light plan.now vector.now }
+{
+    for (number, class) in plan.classes().iter().enumerate() {
+        if !is_light(plan, vector, number, class) {
+            return false;
+        }
+    }
+    true
+}
+
+/// Returns `true` if the pool of class `number` must not reject jobs, or a done job of the class
+/// weighs at most as much as a queued job.
+fn is_light(plan: &Plan, vector: &Vector, number: usize, class: &Class) -> bool
+    requires fits { IsTrue (vector_fits plan.now vector.now) }
+    requires class { slice_get plan.now.classes number ≡ Some class.now }
+    ensures { result ≡ spec.is_light plan.now vector.now (number, class.now) }
+{
+    if !may_reject(plan, class.pool) {
+        return true;
+    }
+    let weights = vector.class_weights(number);
+    let queued = weights[0];
+    let done = weights[weights.len() - 1];
+    done <= queued
+}
+
+/// Returns `true` if the plan allows the pool to reject jobs.
+pub(crate) fn may_reject(plan: &Plan, pool: usize) -> bool
+    ensures { result ≡ (pool_at plan.now pool).may_reject }
+{
+    plan.pool_at(pool).is_some_and(|pool| pool.may_reject)
 }

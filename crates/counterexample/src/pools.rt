@@ -4,11 +4,13 @@ use job_bodies::Pool;
 use std::alloc::{AllocError, Global};
 use std::collections::VecDeque;
 
-/// The response of a pool to an offered job.
+/// The response of a pool to an offered job. A full pool rejects the job if the plan allows the pool
+/// to reject jobs, and otherwise refuses it.
 #[derive(Clone, Copy, PartialEq, Eq)]
 pub(crate) enum Admission {
     Started,
     Queued,
+    Rejected,
     Refused,
 }
 
@@ -18,6 +20,7 @@ pub(crate) struct SearchPool {
     core: u64,
     max: u64,
     capacity: u64,
+    may_reject: bool,
     threads: u64,
     idle: u64,
     queue: VecDeque<usize>,
@@ -31,6 +34,7 @@ impl SearchPool {
             core: pool.core,
             max: pool.max,
             capacity: pool.queue,
+            may_reject: pool.may_reject,
             threads: first,
             idle: first,
             queue: VecDeque::new(alloc),
@@ -43,6 +47,7 @@ impl SearchPool {
             core: self.core,
             max: self.max,
             capacity: self.capacity,
+            may_reject: self.may_reject,
             threads: self.threads,
             idle: self.idle,
             queue: self.queue.clone()?,
@@ -58,6 +63,8 @@ impl SearchPool {
             Admission::Queued
         } else if self.threads < self.max {
             Admission::Started
+        } else if self.may_reject {
+            Admission::Rejected
         } else {
             Admission::Refused
         }
@@ -69,7 +76,7 @@ impl SearchPool {
         match answer {
             Admission::Started => self.threads = self.threads.saturating_add(1),
             Admission::Queued => self.queue.push_back(job)?,
-            Admission::Refused => {}
+            Admission::Rejected | Admission::Refused => {}
         }
         Ok(answer)
     }
@@ -111,6 +118,11 @@ impl SearchPool {
     /// threads before it queues a job.
     pub(crate) fn threads_to_come(&self) -> u64 {
         self.threads.max(self.core)
+    }
+
+    /// Returns `true` if the plan allows the pool to reject jobs.
+    pub(crate) fn may_reject(&self) -> bool {
+        self.may_reject
     }
 
     /// Returns the number of further jobs that the pool accepts if no thread takes a job from the

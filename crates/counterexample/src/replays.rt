@@ -115,7 +115,7 @@ impl<'a> Replay<'a> {
         }
         self.script.add(actor, outcome)?;
         self.is_refused = outcome == StepOutcome::Refused;
-        if let StepOutcome::Created { job, .. } = outcome {
+        if let Some(job) = outcome.created() {
             if let Some(place) = made.and_then(|made| self.jobs.get_mut(made)) {
                 *place = Some(Parent::Job(job));
             }

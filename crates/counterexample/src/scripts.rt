@@ -32,10 +32,7 @@ impl Script {
 
     /// Appends the event in which this actor performs a step with this outcome.
     pub(crate) fn add(&mut self, actor: Parent, outcome: StepOutcome) -> Result<(), AllocError> {
-        let made = match outcome {
-            StepOutcome::Created { job, .. } => Some(job),
-            _ => None,
-        };
+        let made = outcome.created();
         let event = match actor {
             Parent::Client(client) => Event::Client(client),
             Parent::Job(job) => Event::Job(job),

@@ -1,6 +1,6 @@
 //! The vectors whose totals exceed the bounds that the plan's sizes set. The standing vector of a
 //! pool bounds the number of its queued jobs, and its blocked vector bounds the number of its jobs
-//! that wait for other jobs.
+//! that wait for other jobs. A pool that may reject jobs needs no standing vector.
 
 use job_bodies::Plan;
 use least_vectors::{Kind, Levels, ResizedPlan, reach};
@@ -16,8 +16,8 @@ pub(crate) struct Potential {
     pub(crate) clients: Vec<Vec<u64>>,
 }
 
-/// Computes the lightest vectors of each pool, and returns those that are heavier than the plan's
-/// sizes allow. These vectors show where the plan may fail. The list is empty if a class of the
+/// Computes the lightest vectors that each pool needs, and returns those that are heavier than the
+/// plan's sizes allow. These vectors show where the plan may fail. The list is empty if a class of the
 /// plan submits itself, directly or through other classes.
 pub(crate) fn missed_vectors(alloc: Global, plan: &Plan) -> Result<Vec<Potential>, AllocError> {
     let mut vectors = MissedVectors {
@@ -34,7 +34,9 @@ pub(crate) fn missed_vectors(alloc: Global, plan: &Plan) -> Result<Vec<Potential
         maxes: &maxes,
     };
     for (number, pool) in plan.pools().iter().enumerate() {
-        vectors.holds(&growing, number, Kind::Standing, pool.queue)?;
+        if !pool.may_reject {
+            vectors.holds(&growing, number, Kind::Standing, pool.queue)?;
+        }
     }
     let mut ranks = vec![in alloc; None; plan.pools().len()]?;
     for rank in 0..plan.pools().len() as u64 {

@@ -1,5 +1,6 @@
 //! Walks. A walk repeatedly makes a possible choice: the one that comes first in an order, or the
-//! one that loses the least weight under a vector.
+//! one that loses the least weight under a vector. A choice whose submit was just rejected comes
+//! after all others, because an actor may come back to that submit again and again.
 
 use crate::choices::{Choice, Choices};
 use crate::losses::Losses;
@@ -51,12 +52,16 @@ pub(crate) struct WalkResult {
     pub(crate) states: usize,
 }
 
-/// The outcome of a choice: the walk moved to a new state, a submit was refused, or the choice was
-/// not possible.
+/// The outcome of a choice.
 #[derive(Clone, Copy, PartialEq, Eq)]
 pub(crate) enum WalkStep {
+    /// The walk moved to a new state, and no submit was rejected or refused.
     Advanced,
+    /// A submit was rejected, as the plan allows, and the walk moved on.
+    Rejected,
+    /// A submit was refused.
     Refused,
+    /// The choice was not possible.
     Nothing,
 }
 
@@ -71,6 +76,8 @@ pub(crate) struct Walk<'a> {
     pub(crate) ready: Vec<Vec<Parent>>,
     /// For each client kind, the number of its clients that have started their bodies.
     pub(crate) begun: Vec<u64>,
+    /// The choices that ended in a rejected submit since the last choice that did not.
+    pub(crate) rejected: Vec<usize>,
     /// Whether, since this flag was last cleared, a client or a job has stopped at a get that must
     /// wait, or a client at the end of its body.
     pub(crate) has_blocked: bool,
@@ -99,7 +106,7 @@ pub(crate) fn perform_walk<'a>(
             shuffle(&mut rules.keys, rng);
         }
         match walk.step(&rules, potential)? {
-            WalkStep::Advanced => states = states.saturating_add(1),
+            WalkStep::Advanced | WalkStep::Rejected => states = states.saturating_add(1),
             WalkStep::Refused => return Ok(walk.into_result(Some(Violation::Refused), states)),
             WalkStep::Nothing => break,
         }
@@ -140,6 +147,7 @@ impl<'a> Walk<'a> {
             script: Script::new(alloc),
             ready,
             begun: vec![in alloc; 0; plan.clients().len()]?,
+            rejected: Vec::new(alloc),
             has_blocked: false,
         })
     }
@@ -166,18 +174,23 @@ impl<'a> Walk<'a> {
         Ok(if now { Some(Violation::StuckNow) } else { None })
     }
 
-    /// Makes the possible choice that loses the least weight under the vector `potential`, or does
-    /// nothing if no choice is possible. Among equal losses, makes the choice with the least key.
-    /// Without a vector, every loss counts as 0.
+    /// Makes the possible choice that [`first_possible`](Walk::first_possible) returns, or does
+    /// nothing if no choice is possible.
     fn step(
         &mut self,
         rules: &Rules,
         potential: Option<&Potential>,
     ) -> Result<WalkStep, AllocError> {
-        match self.first_possible(rules, potential) {
-            Some(place) => self.choose(place, 0),
-            None => Ok(WalkStep::Nothing),
+        let Some(place) = self.first_possible(rules, potential) else {
+            return Ok(WalkStep::Nothing);
+        };
+        let step = self.choose(place, 0)?;
+        if step != WalkStep::Rejected {
+            self.rejected.clear();
+        } else if !self.rejected.contains(&place) {
+            self.rejected.push(place)?;
         }
+        Ok(step)
     }
 
     /// Makes the choice with this index. If an actor that is ready for the choice makes it, `newer`
@@ -218,10 +231,12 @@ impl<'a> Walk<'a> {
 
     /// Returns the index of the possible choice that loses the least weight under the vector
     /// `potential`, or `None` if no choice is possible. Among equal losses, returns the choice with
-    /// the least key.
+    /// the least key. Without a vector, every loss counts as 0. Returns a choice in `rejected` only
+    /// if no other choice is possible.
     fn first_possible(&self, rules: &Rules, potential: Option<&Potential>) -> Option<usize> {
         let mut best = None;
         let mut least = u64::MAX;
+        let mut least_is_late = true;
         let choices = self.choices.all.iter().zip(&rules.keys).zip(&self.ready);
         for (place, ((choice, key), ready)) in choices.enumerate() {
             if !self.is_possible(rules, *choice, ready) {
@@ -235,8 +250,15 @@ impl<'a> Walk<'a> {
                 None => 0,
             };
             let key = lost.saturating_mul(FOR_A_LOSS).saturating_add(*key);
-            if key < least {
+            let is_late = self.rejected.contains(&place);
+            let is_better = if is_late == least_is_late {
+                key < least
+            } else {
+                least_is_late
+            };
+            if is_better {
                 least = key;
+                least_is_late = is_late;
                 best = Some(place);
             }
         }
@@ -323,10 +345,14 @@ impl<'a> Walk<'a> {
             return Ok(WalkStep::Refused);
         }
         self.settle(actor)?;
-        if let StepOutcome::Created { job, started: true } = outcome {
-            self.settle(Parent::Job(job))?;
+        match outcome {
+            StepOutcome::Rejected(_) => Ok(WalkStep::Rejected),
+            StepOutcome::Created { job, started: true } => {
+                self.settle(Parent::Job(job))?;
+                Ok(WalkStep::Advanced)
+            }
+            _ => Ok(WalkStep::Advanced),
         }
-        Ok(WalkStep::Advanced)
     }
 
     /// Performs all steps of the actor up to its next submit, to a get that must wait, or to its

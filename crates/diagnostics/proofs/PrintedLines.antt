@@ -8,7 +8,8 @@ use Rattle.plan_text.specs.declared.place.TextPlace.{TextPlace}
 use Rattle.diagnostics.specs.declared.diagnostic.Diagnostic.{Diagnostic}
 use Rattle.diagnostics.specs.declared.warnings.Warning.{Warning}
 use Rattle.diagnostics.specs.Lines.{HasNoNewline, IsLines}
-use Rattle.diagnostics.specs.Diagnostic.{place_head, fault_line, diagnostic_line, diagnostic_lines, count_line, omitted_line, faults_text, warning_at, warning_line, warnings_text, HasSingleLine, WarnInSingleLines}
+use Rattle.diagnostics.specs.Lints.{is_note}
+use Rattle.diagnostics.specs.Diagnostic.{place_head, fault_line, diagnostic_line, diagnostic_lines, count_line, omitted_line, faults_text, level_text, warning_at, warning_line, warnings_text, HasSingleLine, WarnInSingleLines}
 use Rattle.diagnostics.specs.PrintedLines.{line_count, EachFaultIsALine, EachWarningIsALine}
 use Rattle.std.specs.List.{All}
 use Rattle.diagnostics.proofs.Single.{Single, joined, checked, number}
@@ -109,17 +110,21 @@ faults_in_lines file faults named single =
 
 -- ---- the lines of warnings
 
-warning : (file : List ℕ) (place : TextPlace) (what : List ℕ) → Single file → Single what → IsLines 1 (warning_at file place what)
-warning file place what so words =
+level : (note : Bool) → Single (level_text note)
+level true = checked (codes "note: ") refl
+level false = checked (codes "warning: ") refl
+
+warning : (file : List ℕ) (place : TextPlace) (note : Bool) (what : List ℕ) → Single file → Single what → IsLines 1 (warning_at file place note what)
+warning file place note what so words =
     let before = place_head file place in
-    let line = before ++ (codes "warning: " ++ what) in
-    let whole : warning_at file place what ≡ line ++ 10 ∷ [] = end_of_three before (codes "warning: ") what (10 ∷ []) in
-    subst (IsLines 1) (sym whole) (one line (joined before (codes "warning: " ++ what) (head file place so) (joined (codes "warning: ") what (checked (codes "warning: ") refl) words)))
+    let line = before ++ (level_text note ++ what) in
+    let whole : warning_at file place note what ≡ line ++ 10 ∷ [] = end_of_three before (level_text note) what (10 ∷ []) in
+    subst (IsLines 1) (sym whole) (one line (joined before (level_text note ++ what) (head file place so) (joined (level_text note) what (level note) words)))
 
 each_warning : (file : List ℕ) (all : List Warning) → Single file → WarnInSingleLines all → IsLines (length all) (warnings_text file all)
 each_warning file [] so all = no_lines
 each_warning file (w ∷ ws) so all =
-    let first = warning file w.place (string_bytes w.what) so (record { each = All-head (λ (x : Warning). HasNoNewline (string_bytes x.what)) w ws all }) in
+    let first = warning file w.place (is_note w.lint) (string_bytes w.what) so (record { each = All-head (λ (x : Warning). HasNoNewline (string_bytes x.what)) w ws all }) in
     let others = each_warning file ws so (All-tail (λ (x : Warning). HasNoNewline (string_bytes x.what)) w ws all) in
     counts (1 + length ws) (length (w ∷ ws)) (warnings_text file (w ∷ ws)) (omega arith) (both 1 (length ws) (warning_line file w) (warnings_text file ws) first others)
 

@@ -1,11 +1,12 @@
 -- The lines that report the faults and the warnings of a plan's text.
-use Rattle.std.specs.Prelude.{ℕ, ◌==◌, if◌then◌else◌, List, [], ◌∷◌, ◌++◌, codes, decimal, string_bytes}
+use Rattle.std.specs.Prelude.{ℕ, Bool, ◌==◌, if◌then◌else◌, List, [], ◌∷◌, ◌++◌, codes, decimal, string_bytes}
 use Rattle.std.specs.List.{All, flat_map}
 use Rattle.plan_text.specs.declared.place.TextPlace.{TextPlace}
 use Rattle.diagnostics.specs.declared.diagnostic.Diagnostic.{Diagnostic}
 use Rattle.diagnostics.specs.declared.diagnostic.Faults.{Faults}
 use Rattle.diagnostics.specs.declared.warnings.Warning.{Warning}
 use Rattle.diagnostics.specs.Lines.{HasNoNewline}
+use Rattle.diagnostics.specs.Lints.{is_note}
 
 -- a place in the file of this name, as `FILE:LINE:COLUMN: `
 abbrev pub place_head : List ℕ → TextPlace → List ℕ
@@ -48,12 +49,16 @@ pub record HaveSingleLines (faults : Faults) : Type 0 where
   pub first : HasSingleLine faults.first
   pub others : All HasSingleLine faults.others.items
 
--- the line of a warning: its place and its message
-abbrev pub warning_at : List ℕ → TextPlace → List ℕ → List ℕ
-warning_at file place what = place_head file place ++ (codes "warning: " ++ (what ++ 10 ∷ []))
+-- what the line of a lint begins with: whether it is a note or a warning
+abbrev pub level_text : Bool → List ℕ
+level_text note = if note then codes "note: " else codes "warning: "
+
+-- the line of a warning: its place, its level and its message
+abbrev pub warning_at : List ℕ → TextPlace → Bool → List ℕ → List ℕ
+warning_at file place note what = place_head file place ++ (level_text note ++ (what ++ 10 ∷ []))
 
 abbrev pub warning_line : List ℕ → Warning → List ℕ
-warning_line file warning = warning_at file warning.place (string_bytes warning.what)
+warning_line file warning = warning_at file warning.place (is_note warning.lint) (string_bytes warning.what)
 
 -- a line for each warning
 abbrev pub warnings_text : List ℕ → List Warning → List ℕ

@@ -4,6 +4,7 @@ pub mod Diagnostic
 pub mod Hints
 pub mod Lines
 pub mod Lints
+pub mod OpenFutures
 pub mod PlanPlaces
 pub mod PrintedLines
 pub mod WarningWords

@@ -12,8 +12,9 @@ use Rattle.size_search.specs.declared.cause.Cause.TheVariants.{Circle, ClientNev
 use Rattle.size_search.specs.Causes.{IsCause}
 use Rattle.size_search.specs.Submitted.{IsWithoutCause}
 use Rattle.diagnostics.specs.declared.lint.Lint.{Lint}
-use Rattle.diagnostics.specs.declared.lint.Lint.TheVariants.{SafeAtCore, SubmitsItself, NeverGot, NothingToAsk, NoClients, NothingSubmitted, PoolWithoutJobs, UselessMax, QueueFarAbove, ClassWithoutJobs, GoesOnce, Crowd, WorkLikeASize}
+use Rattle.diagnostics.specs.declared.lint.Lint.TheVariants.{SafeAtCore, SubmitsItself, NeverGot, NothingToAsk, NoClients, NothingSubmitted, PoolWithoutJobs, UselessMax, UselessMayReject, QueueFarAbove, ClassWithoutJobs, RunInCaller, GoesOnce, Crowd, WorkLikeASize, OpenFuture}
 use Rattle.diagnostics.specs.declared.warnings.Warning.{Warning}
+use Rattle.diagnostics.specs.OpenFutures.{has_open_future}
 
 -- the lint alone if the condition is true, and otherwise no lint
 abbrev pub only_if : Bool → Lint → List Lint
@@ -37,13 +38,26 @@ is_a_size plan n = list_any (has_size n) plan.pools || list_any (has_count n) pl
 abbrev pub looks_like_a_size : Plan → ℕ → Bool
 looks_like_a_size plan units = nat_le 50 units && is_a_size plan units
 
--- the lints of an action in the body of a class or client kind
-abbrev pub lints_of_action : Plan → Part → ℕ → ℕ → Action → List Lint
-lints_of_action plan of number place (Work units) = only_if (looks_like_a_size plan units) (WorkLikeASize of number place units)
-lints_of_action plan of number place _ = []
+-- ---- submits to pools that may reject jobs
+
+-- the pool that runs the jobs of class k may reject them
+abbrev pub may_be_rejected : Plan → ℕ → Bool
+may_be_rejected plan k = (pool_at plan (class_at plan k).pool).may_reject
+
+-- the submit of a job of class k at position i of the body may be rejected while a future is open
+abbrev pub leaves_a_future : Plan → List Action → ℕ → ℕ → Bool
+leaves_a_future plan body i k = may_be_rejected plan k && has_open_future body i
+
+-- ---- bodies
+
+-- the lints of an action at a position of the body of a class or client kind
+abbrev pub lints_of_action : Plan → Part → ℕ → List Action → ℕ → Action → List Lint
+lints_of_action plan of number body place (Work units) = only_if (looks_like_a_size plan units) (WorkLikeASize of number place units)
+lints_of_action plan of number body place (Submit k) = only_if (leaves_a_future plan body place k) (OpenFuture of number place)
+lints_of_action plan of number body place _ = []
 
 abbrev pub lints_of_body : Plan → Part → ℕ → List Action → List Lint
-lints_of_body plan of number body = flat_map (λ (entry : ℕ × Action). lints_of_action plan of number entry.0 entry.1) (enumerate_from 0 body)
+lints_of_body plan of number body = flat_map (λ (entry : ℕ × Action). lints_of_action plan of number body entry.0 entry.1) (enumerate_from 0 body)
 
 -- ---- pools
 
@@ -67,11 +81,16 @@ is_far_above pool most = nat_lt (max most 1) (pool.queue / 10)
 abbrev pub has_useless_max : Pool → ℕ → Bool
 has_useless_max pool most = may_grow pool && nat_le most pool.queue
 
--- the lints of the pool's sizes that are larger than needed, if at most `most` jobs are in the queue at once
-abbrev pub lints_of_known_sizes : ℕ → Pool → ℕ → List Lint
-lints_of_known_sizes p pool most = only_if (has_useless_max pool most) (UselessMax p) ++ only_if (is_far_above pool most) (QueueFarAbove p most)
+-- the pool may reject jobs by the plan, and its queue holds the `most` jobs that can be in it at once
+abbrev pub never_rejects : Pool → ℕ → Bool
+never_rejects pool most = pool.may_reject && nat_le most pool.queue
 
--- the lints of the pool's sizes that are larger than needed; none if the maximum number of jobs in the queue is not known
+-- the lints of the pool's sizes that are larger than needed, and of its key `may_reject`, if at most `most` jobs are in the queue at once
+abbrev pub lints_of_known_sizes : ℕ → Pool → ℕ → List Lint
+lints_of_known_sizes p pool most =
+    only_if (has_useless_max pool most) (UselessMax p) ++ (only_if (never_rejects pool most) (UselessMayReject p most) ++ only_if (is_far_above pool most) (QueueFarAbove p most))
+
+-- the lints of a pool by the maximum number of jobs in its queue; none if it is not known
 abbrev pub lints_of_sizes : ℕ → Pool → Option ℕ → List Lint
 lints_of_sizes p pool None = []
 lints_of_sizes p pool (Some most) = lints_of_known_sizes p pool most
@@ -84,17 +103,26 @@ lints_of_pools plan needed marks = flat_map (λ (entry : ℕ × Pool). lints_of_
 
 -- ---- classes
 
+abbrev pub is_submit : Action → Bool
+is_submit (Submit k) = true
+is_submit _ = false
+
+abbrev pub is_work : Action → Bool
+is_work (Work u) = true
+is_work _ = false
+
+-- the pool of the class may reject its jobs, and their body has submits or gets
+abbrev pub may_run_in_caller : Plan → Class → Bool
+may_run_in_caller plan class = (pool_at plan class.pool).may_reject && not (list_all is_work class.body)
+
 abbrev pub lints_of_class : Plan → List Bool → ℕ → Class → List Lint
-lints_of_class plan marks k class = only_if (not (slice_index_or marks k false)) (ClassWithoutJobs k) ++ lints_of_body plan part.Class k class.body
+lints_of_class plan marks k class =
+    only_if (not (slice_index_or marks k false)) (ClassWithoutJobs k) ++ (only_if (may_run_in_caller plan class) (RunInCaller k) ++ lints_of_body plan part.Class k class.body)
 
 abbrev pub lints_of_classes : Plan → List Bool → List Lint
 lints_of_classes plan marks = flat_map (λ (entry : ℕ × Class). lints_of_class plan marks entry.0 entry.1) (enumerate_from 0 plan.classes)
 
 -- ---- client kinds
-
-abbrev pub is_submit : Action → Bool
-is_submit (Submit k) = true
-is_submit _ = false
 
 -- the pool has one core thread, and a queue with fewer places than `count`
 abbrev pub is_small : ℕ → Pool → Bool
@@ -158,6 +186,16 @@ pub record AreLints (plan : Plan) (needed : List (Option ℕ)) (safe_at_core : B
   pub is_cause : IfSome cause (IsCause plan)
   pub none : IfNone cause (IsWithoutCause plan)
   pub is : found ≡ all_lints plan needed safe_at_core cause marks
+
+-- the lint is a note: whether it matters depends on the handler of a pool or on the code around a submit, which no plan has
+abbrev pub is_note : Lint → Bool
+is_note (RunInCaller k) = true
+is_note (OpenFuture of number place) = true
+is_note _ = false
+
+-- one of the warnings is not a note
+abbrev pub has_warning : List Warning → Bool
+has_warning warnings = list_any (λ (warning : Warning). not (is_note warning.lint)) warnings
 
 -- the lints of the warnings, in the same order
 abbrev pub lints_in : List Warning → List Lint

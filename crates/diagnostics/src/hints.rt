@@ -57,7 +57,7 @@ pub(crate) fn word_hint(key: &str) -> Option<&'static str>
         "name" | "pool" => Some("write quotes around the value, as in pool = \"web\""),
         "core" | "max" | "count" => Some("write a number"),
         "queue" => Some("write a number, the longest queue that you allow"),
-        "repeat" | "prestart" => Some("write true or false"),
+        "repeat" | "prestart" | "may_reject" => Some("write true or false"),
         _ => None,
     }
 }

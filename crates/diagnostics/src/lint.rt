@@ -1,5 +1,9 @@
 //! The lints of plans.
 
+ghost use Rattle.std.specs.Prelude.{◌≡◌};
+ghost use Rattle.diagnostics.specs.Lints as spec;
+
+use crate::warnings::Warning;
 use job_bodies::Part;
 
 /// A lint: a part of a valid plan that is probably a mistake. Pools, classes, client kinds and
@@ -26,11 +30,17 @@ pub enum Lint {
     /// The maximum of this pool is above its core size, but has no effect, because its queue never
     /// fills.
     UselessMax(usize),
+    /// The plan says that this pool may reject jobs, but it never does: its queue holds the second
+    /// field, which is the maximum number of jobs in the queue at once.
+    UselessMayReject(usize, u64),
     /// The queue capacity of this pool is more than ten times the second field, which is the
     /// maximum number of jobs in the queue at once.
     QueueFarAbove(usize, u64),
     /// No client submits this class, directly or through other jobs.
     ClassWithoutJobs(usize),
+    /// The pool of this class may reject its jobs, and their body has submits or gets. If the pool's
+    /// handler runs a rejected job in the caller, the plan does not describe what happens.
+    RunInCaller(usize),
     /// This client kind does not repeat: each of its clients goes through its body once.
     GoesOnce(usize),
     /// Each pool to which this client kind submits has one core thread and a queue capacity below
@@ -40,7 +50,26 @@ pub enum Lint {
     /// size of a pool or the count of a client kind. The fields are: whether it is a class or a
     /// client kind, its number, the number of the action, and the length in units.
     WorkLikeASize(Part, usize, usize, u32),
+    /// The body of a class or client kind submits a job that its pool may reject while a future is
+    /// open: a job was submitted before, and its get comes later. The fields are: whether it is a
+    /// class or a client kind, its number, and the number of the action.
+    OpenFuture(Part, usize, usize),
     /// A given certificate does not accept the plan. This is not a lint of the plan itself, and the
     /// caller that reports it provides the message.
     StaleCertificate,
+}
+
+/// Returns whether the lint is a note. Whether a note matters depends on what no plan has: the
+/// handler of a pool, or the code around a submit. Any other lint is a warning.
+pub fn is_note(lint: Lint) -> bool
+    ensures { result ≡ spec.is_note lint }
+{
+    matches!(lint, Lint::RunInCaller(_) | Lint::OpenFuture(_, _, _))
+}
+
+/// Returns whether some of these are warnings and not notes.
+pub fn has_warning(warnings: &[Warning]) -> bool
+    ensures { result ≡ spec.has_warning warnings.now }
+{
+    warnings.iter().any(|warning| !is_note(warning.lint))
 }

@@ -5,6 +5,7 @@ ghost use Rattle.std.specs.List.{list_any, list_all};
 ghost use Rattle.job_bodies.specs.Plan.{pool_at, class_at};
 ghost use Rattle.diagnostics.specs.Lints as spec;
 
+use crate::open_futures::has_open_future;
 use job_bodies::{Action, Class, Client, Plan, Pool};
 
 /// The number by which [`is_far_above`] divides a queue's capacity before it compares the capacity
@@ -75,12 +76,58 @@ pub(crate) fn has_useless_max(pool: &Pool, most: u64) -> bool
     may_grow(pool) && most <= pool.queue
 }
 
+/// Returns whether the plan says that the pool may reject jobs, but its queue never overflows.
+/// `most` is the maximum number of jobs in the queue at once.
+pub(crate) fn never_rejects(pool: &Pool, most: u64) -> bool
+    ensures { result ≡ spec.never_rejects pool.now most }
+{
+    pool.may_reject && most <= pool.queue
+}
+
 /// Returns whether the queue's capacity is far above `most`, the maximum number of jobs in it at
 /// once: a tenth of the capacity, rounded down, exceeds both `most` and 1.
 pub(crate) fn is_far_above(pool: &Pool, most: u64) -> bool
     ensures { result ≡ spec.is_far_above pool.now most }
 {
     most.max(1) < pool.queue / FAR_ABOVE
+}
+
+/// Returns whether the pool of the class may reject its jobs, and their body has submits or gets.
+pub(crate) fn may_run_in_caller(plan: &Plan, class: &Class) -> bool
+    ensures { result ≡ spec.may_run_in_caller plan.now class.now }
+{
+    may_reject(plan, class.pool) && !has_only_work(&class.body)
+}
+
+fn has_only_work(body: &[Action]) -> bool
+    ensures { result ≡ list_all spec.is_work body.now }
+{
+    body.iter().all(|action| is_work(*action))
+}
+
+fn is_work(action: Action) -> bool
+    ensures { result ≡ spec.is_work action }
+{
+    matches!(action, Action::Work(_))
+}
+
+/// Returns whether the submit of a job of the class at this position of the body may be rejected
+/// while a future is open.
+pub(crate) fn leaves_a_future(plan: &Plan, body: &[Action], position: usize, class: usize) -> bool
+    ensures { result ≡ spec.leaves_a_future plan.now body.now position class }
+{
+    may_reject(plan, pool_of(plan, class)) && has_open_future(body, position)
+}
+
+/// Returns whether the pool with this number may reject jobs. Returns `false` if there is no such
+/// pool.
+fn may_reject(plan: &Plan, pool: usize) -> bool
+    ensures { result ≡ (pool_at plan.now pool).may_reject }
+{
+    match plan.pool_at(pool) {
+        Some(pool) => pool.may_reject,
+        None => false,
+    }
 }
 
 /// Returns whether the clients of this kind submit jobs, and each pool to which they submit has one

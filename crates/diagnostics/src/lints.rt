@@ -6,7 +6,7 @@ ghost use Rattle.diagnostics.specs.Lints as spec;
 use crate::lint::Lint;
 use crate::lint_conditions::{
     are_a_crowd, gets_a_job, has_useless_max, is_any_submitted, is_far_above, is_submitted,
-    looks_like_a_size, most_at,
+    leaves_a_future, looks_like_a_size, may_run_in_caller, most_at, never_rejects,
 };
 use job_bodies::{Action, Class, Client, Part, Plan, Pool};
 use size_search::{Cause, cause_of, submitted_by_clients};
@@ -170,8 +170,9 @@ fn push_pool(
     }
 }
 
-/// Appends a lint if the pool's maximum has no effect, and another if its queue capacity is far
-/// above `most`, the maximum number of jobs in the queue at once. Appends none if `most` is `None`.
+/// Appends a lint if the pool's maximum has no effect, one if its key `may_reject` has none, and one
+/// if its queue capacity is far above `most`, the maximum number of jobs in the queue at once.
+/// Appends none if `most` is `None`.
 fn push_sizes(
     found: &mut Vec<Lint>,
     number: usize,
@@ -197,6 +198,11 @@ fn push_known_sizes(
         (found.new.items ≡ found.old.items ++ spec.lints_of_known_sizes number pool.now most) }
 {
     push_if(found, has_useless_max(pool, most), Lint::UselessMax(number))?;
+    push_if(
+        found,
+        never_rejects(pool, most),
+        Lint::UselessMayReject(number, most),
+    )?;
     push_if(
         found,
         is_far_above(pool, most),
@@ -230,7 +236,12 @@ fn push_class(
         !is_submitted(marks, number),
         Lint::ClassWithoutJobs(number),
     )?;
-    push_work(found, plan, Part::Class, number, &class.body)
+    push_if(
+        found,
+        may_run_in_caller(plan, class),
+        Lint::RunInCaller(number),
+    )?;
+    push_body(found, plan, Part::Class, number, &class.body)
 }
 
 fn push_clients(found: &mut Vec<Lint>, plan: &Plan) -> Result<(), AllocError>
@@ -253,11 +264,12 @@ fn push_client(
 {
     push_if(found, !client.repeat, Lint::GoesOnce(number))?;
     push_if(found, are_a_crowd(plan, client), Lint::Crowd(number))?;
-    push_work(found, plan, Part::Client, number, &client.body)
+    push_body(found, plan, Part::Client, number, &client.body)
 }
 
-/// Appends a lint for each `work` of the body for which [`looks_like_a_size`] returns true.
-fn push_work(
+/// Appends a lint for each `work` of the body for which [`looks_like_a_size`] returns true, and for
+/// each submit for which [`leaves_a_future`] does.
+fn push_body(
     found: &mut Vec<Lint>,
     plan: &Plan,
     part: Part,
@@ -268,7 +280,7 @@ fn push_work(
         (found.new.items ≡ found.old.items ++ spec.lints_of_body plan.now part number body.now) }
 {
     for (place, action) in body.iter().enumerate() {
-        push_action(found, plan, part, number, place, *action)?;
+        push_action(found, plan, part, number, body, place, *action)?;
     }
     Ok(())
 }
@@ -278,12 +290,13 @@ fn push_action(
     plan: &Plan,
     part: Part,
     number: usize,
+    body: &[Action],
     place: usize,
     action: Action,
 ) -> Result<(), AllocError>
     ensures { OnOk result
         (found.new.items
-        ≡ found.old.items ++ spec.lints_of_action plan.now part number place action) }
+        ≡ found.old.items ++ spec.lints_of_action plan.now part number body.now place action) }
 {
     match action {
         Action::Work(units) => push_if(
@@ -291,7 +304,12 @@ fn push_action(
             looks_like_a_size(plan, units),
             Lint::WorkLikeASize(part, number, place, units),
         ),
-        Action::Submit(_) | Action::Get(_) => Ok(()),
+        Action::Submit(class) => push_if(
+            found,
+            leaves_a_future(plan, body, place, class),
+            Lint::OpenFuture(part, number, place),
+        ),
+        Action::Get(_) => Ok(()),
     }
 }
 

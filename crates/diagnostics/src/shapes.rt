@@ -27,7 +27,7 @@ struct KeyRule {
     hint: &'static str,
 }
 
-const POOL_KEYS: [&str; 5] = ["name", "core", "max", "queue", "prestart"];
+const POOL_KEYS: [&str; 6] = ["name", "core", "max", "queue", "prestart", "may_reject"];
 
 const CLASS_KEYS: [&str; 3] = ["name", "pool", "body"];
 
@@ -67,7 +67,7 @@ fn key_rule(key: &'static str) -> Option<KeyRule> {
             ValueKind::Number,
             "write count = N, the number of these clients",
         ),
-        "prestart" | "repeat" => (ValueKind::Flag, ""),
+        "prestart" | "may_reject" | "repeat" => (ValueKind::Flag, ""),
         "body" => (
             ValueKind::Body,
             "write body = [\"..\"], its actions, or body = []",

@@ -1,15 +1,18 @@
 //! The lines that print warnings.
 
+ghost use Rattle.std.specs.Prelude.{◌≡◌};
 ghost use Rattle.diagnostics.specs.Diagnostic as spec;
 ghost use Rattle.support.specs.Pushed.{Pushes};
 
 use crate::diagnostic::push_place;
+use crate::lint::is_note;
 use crate::warnings::Warning;
 use plan_text::TextPlace;
 use std::alloc::AllocError;
 
 /// Appends a line for each warning, such as `shop.toml:24:1: warning: client browser goes through
-/// its body once`, with `file` as the file's name.
+/// its body once`, with `file` as the file's name. The line of a note has `note` in place of
+/// `warning`.
 ///
 /// # Errors
 ///
@@ -31,12 +34,26 @@ pub fn push_warnings(
 fn push_warning(text: &mut String, file: &str, warning: &Warning) -> Result<(), AllocError>
     ensures { Pushes result text.old text.new (spec.warning_line file.now warning.now) }
 {
-    push_line(text, file, warning.place, &warning.what)
+    let note = is_note(warning.lint);
+    push_line(text, file, warning.place, note, &warning.what)
 }
 
-fn push_line(text: &mut String, file: &str, place: TextPlace, what: &str) -> Result<(), AllocError>
-    ensures { Pushes result text.old text.new (spec.warning_at file.now place what.now) }
+fn push_line(
+    text: &mut String,
+    file: &str,
+    place: TextPlace,
+    note: bool,
+    what: &str,
+) -> Result<(), AllocError>
+    ensures { Pushes result text.old text.new (spec.warning_at file.now place note what.now) }
 {
     push_place(text, file, place)?;
-    writeln!(text, "warning: {what}")
+    text.push_str(level_of(note))?;
+    writeln!(text, "{what}")
+}
+
+fn level_of(note: bool) -> &'static str
+    ensures { result.now ≡ spec.level_text note }
+{
+    if note { "note: " } else { "warning: " }
 }

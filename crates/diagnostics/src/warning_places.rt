@@ -17,11 +17,13 @@ pub(crate) fn place_of(places: &Places<'_>, plan: &Plan, lint: Lint) -> TextPlac
         Lint::NeverGot(part, number, action) => action_place(places, part, number, action),
         Lint::PoolWithoutJobs(pool) => entry_place(places, Part::Pool, pool),
         Lint::UselessMax(pool) => value_place(places, Part::Pool, pool, "max"),
+        Lint::UselessMayReject(pool, _) => value_place(places, Part::Pool, pool, "may_reject"),
         Lint::QueueFarAbove(pool, _) => value_place(places, Part::Pool, pool, "queue"),
         Lint::ClassWithoutJobs(class) => entry_place(places, Part::Class, class),
+        Lint::RunInCaller(class) => value_place(places, Part::Class, class, "body"),
         Lint::GoesOnce(client) => entry_place(places, Part::Client, client),
         Lint::Crowd(client) => value_place(places, Part::Client, client, "count"),
-        Lint::WorkLikeASize(part, number, action, _) => {
+        Lint::WorkLikeASize(part, number, action, _) | Lint::OpenFuture(part, number, action) => {
             action_place(places, part, number, action)
         }
     }

@@ -6,6 +6,7 @@ ghost use Rattle.diagnostics.specs.WarningWords as spec;
 use crate::circle_words::words_of_circle;
 use crate::lint::Lint;
 use crate::lint_conditions::may_grow;
+use crate::open_futures::is_get_around;
 use crate::strings::string_at;
 use job_bodies::{Action, Part, Plan, Pool};
 use plan_text::TextPlace;
@@ -42,13 +43,18 @@ pub(crate) fn words_of(
         }
         Lint::PoolWithoutJobs(pool) => words_of_idle_pool(alloc, plan, pool),
         Lint::UselessMax(pool) => words_of_max(alloc, plan, pool),
+        Lint::UselessMayReject(pool, most) => words_of_key(alloc, plan, pool, most),
         Lint::QueueFarAbove(pool, most) => words_of_queue(alloc, plan, pool, most),
         Lint::ClassWithoutJobs(class) => words_of_class(alloc, plan, class),
+        Lint::RunInCaller(class) => words_of_handler(alloc, plan, class),
         Lint::GoesOnce(client) => words_of_rounds(alloc, plan, client),
         Lint::Crowd(client) => words_of_crowd(alloc, plan, client),
         Lint::WorkLikeASize(_, _, _, units) => format!(in alloc;
             "work {units} looks like a number of threads or jobs, but it is a duration and has no effect on the answer"
         ),
+        Lint::OpenFuture(part, number, action) => {
+            words_of_future(alloc, text, place, plan, part, number, action)
+        }
         Lint::StaleCertificate => String::from_str(alloc, "the certificate is stale"),
     }
 }
@@ -98,20 +104,60 @@ fn words_of_submit(
     number: usize,
     action: usize,
 ) -> Result<String, AllocError> {
-    let (kind, name, body) = match part {
-        Part::Client => match plan.client_at(number) {
-            Some(client) => ("client", client.name.as_str(), client.body.as_slice()),
-            None => return Ok(String::new(alloc)),
-        },
-        _ => match plan.class_at(number) {
-            Some(class) => ("class", class.name.as_str(), class.body.as_slice()),
-            None => return Ok(String::new(alloc)),
-        },
+    let Some((kind, name, body)) = entry_of(plan, part, number) else {
+        return Ok(String::new(alloc));
     };
     let submit = submit_text(alloc, text, place, plan, body, action)?;
     format!(in alloc;
         "{kind} {name}, action {action} \"{submit}\": no get waits for this job, so the number of these jobs has no limit"
     )
+}
+
+/// Returns the kind, the name and the body of a class or client kind, or `None` if there is no
+/// entry with this number.
+fn entry_of(plan: &Plan, part: Part, number: usize) -> Option<(&'static str, &str, &[Action])> {
+    match part {
+        Part::Client => {
+            let client = plan.client_at(number)?;
+            Some(("client", client.name.as_str(), client.body.as_slice()))
+        }
+        _ => {
+            let class = plan.class_at(number)?;
+            Some(("class", class.name.as_str(), class.body.as_slice()))
+        }
+    }
+}
+
+fn words_of_future(
+    alloc: Global,
+    text: &[u8],
+    place: TextPlace,
+    plan: &Plan,
+    part: Part,
+    number: usize,
+    action: usize,
+) -> Result<String, AllocError> {
+    let Some((kind, name, body)) = entry_of(plan, part, number) else {
+        return Ok(String::new(alloc));
+    };
+    let submit = submit_text(alloc, text, place, plan, body, action)?;
+    let open = open_class(plan, body, action);
+    format!(in alloc;
+        "{kind} {name}, action {action} \"{submit}\": if the exception leaves this body, the future of {open} is never got"
+    )
+}
+
+/// Returns the name of the class of a job whose future is open at this position of the body, or an
+/// empty name if there is none.
+fn open_class<'a>(plan: &'a Plan, body: &[Action], position: usize) -> &'a str {
+    for (number, action) in body.iter().enumerate() {
+        if let Action::Get(submit) = *action {
+            if is_get_around(position, number, *action) {
+                return submitted_name(plan, body, submit);
+            }
+        }
+    }
+    ""
 }
 
 /// Returns the text of a submit, as it is written at this place of the plan's text. If no string is
@@ -127,11 +173,16 @@ fn submit_text(
     if let Some(written) = string_at(text, place) {
         return String::from_str(alloc, written);
     }
-    let class = match body.get(action) {
+    let class = submitted_name(plan, body, action);
+    format!(in alloc; "submit {class}")
+}
+
+/// Returns the name of the class that the action submits, or an empty name if it is no submit.
+fn submitted_name<'a>(plan: &'a Plan, body: &[Action], action: usize) -> &'a str {
+    match body.get(action) {
         Some(Action::Submit(class)) => plan.class_name(*class),
         _ => "",
-    };
-    format!(in alloc; "submit {class}")
+    }
 }
 
 fn words_of_idle_pool(alloc: Global, plan: &Plan, number: usize) -> Result<String, AllocError> {
@@ -167,6 +218,32 @@ fn words_of_queue(
     let queue = pool.queue;
     format!(in alloc;
         "pool {name}: queue {queue} is far more than needed: at most {most} jobs wait at once"
+    )
+}
+
+fn words_of_key(
+    alloc: Global,
+    plan: &Plan,
+    number: usize,
+    most: u64,
+) -> Result<String, AllocError> {
+    let Some(pool) = plan.pool_at(number) else {
+        return Ok(String::new(alloc));
+    };
+    let name = pool.name.as_str();
+    format!(in alloc;
+        "pool {name}: may_reject has no effect: at most {most} jobs wait in its queue at once"
+    )
+}
+
+fn words_of_handler(alloc: Global, plan: &Plan, number: usize) -> Result<String, AllocError> {
+    let Some(class) = plan.class_at(number) else {
+        return Ok(String::new(alloc));
+    };
+    let name = class.name.as_str();
+    let pool = plan.pool_name(class.pool);
+    format!(in alloc;
+        "class {name}: if the handler of pool {pool} runs it in the caller (CallerRunsPolicy), write its body in place"
     )
 }
 

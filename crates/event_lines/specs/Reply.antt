@@ -1,9 +1,9 @@
 -- The replies to event lines, and the last line of a replay.
-use Rattle.std.specs.Prelude.{ℕ, true, false, List, [], ◌∷◌, ◌++◌, codes}
+use Rattle.std.specs.Prelude.{ℕ, true, false, List, [], ◌∷◌, ◌++◌, codes, Option, Some, None}
 use Rattle.std.specs.Fmt.{decimal}
 use Rattle.job_bodies.specs.Plan.{Plan, pool_at}
 use Rattle.written_machine.specs.declared.event.Outcome.{Outcome}
-use Rattle.written_machine.specs.declared.event.Outcome.TheVariants.{Started, Queued, Refused, Worked, Got, Looped, Finished, Took, Retired}
+use Rattle.written_machine.specs.declared.event.Outcome.TheVariants.{Started, Queued, Refused, Rejected, Worked, Got, Looped, Finished, Took, Retired}
 use Rattle.event_lines.specs.declared.reply.Reply.{Reply}
 use Rattle.event_lines.specs.declared.reply.Reply.TheVariants.{Performed, NotPossible, Stuck}
 
@@ -12,6 +12,7 @@ abbrev pub outcome_text : Plan → Outcome → List ℕ
 outcome_text plan (Started j) = codes "started job " ++ decimal j
 outcome_text plan (Queued j) = codes "queued job " ++ decimal j
 outcome_text plan (Refused p) = codes "refused by " ++ (pool_at plan p).name
+outcome_text plan (Rejected p j) = codes "rejected by " ++ (pool_at plan p).name ++ codes " as job " ++ decimal j
 outcome_text plan (Worked u) = codes "worked " ++ decimal u
 outcome_text plan (Got j) = codes "got job " ++ decimal j
 outcome_text plan Looped = codes "looped"
@@ -30,6 +31,13 @@ reply_text plan (Stuck false) = codes "stuck no"
 abbrev pub numbered : ℕ → List ℕ → List ℕ
 numbered number text = decimal number ++ codes ": " ++ text ++ 10 ∷ []
 
--- the last line of a replay, with the number of refused submits and the number of unfinished jobs
-abbrev pub summary : ℕ → ℕ → List ℕ
-summary refusals unfinished = codes "refusals " ++ decimal refusals ++ codes ", unfinished " ++ decimal unfinished ++ 10 ∷ []
+-- the part of the last line with the number of rejected submits; empty if the number is None
+abbrev pub rejected_text : Option ℕ → List ℕ
+rejected_text None = []
+rejected_text (Some rejected) = codes ", rejected " ++ decimal rejected
+
+-- the last line of a replay, with the number of refused submits, the number of rejected submits unless it is None, and the number of
+-- unfinished jobs
+abbrev pub summary : ℕ → Option ℕ → ℕ → List ℕ
+summary refusals rejected unfinished =
+    codes "refusals " ++ decimal refusals ++ rejected_text rejected ++ codes ", unfinished " ++ decimal unfinished ++ 10 ∷ []

@@ -60,6 +60,10 @@ fn push_outcome(text: &mut String, plan: &Plan, outcome: Outcome) -> Result<(), 
         Outcome::Started(job) => push_counted(text, ": started job ", job as u64),
         Outcome::Queued(job) => push_counted(text, ": queued job ", job as u64),
         Outcome::Refused(pool) => push_named(text, ": refused by ", plan.pool_name(pool)),
+        Outcome::Rejected(pool, job) => {
+            let pool = plan.pool_name(pool);
+            write!(text, ": rejected by {pool} as job {job}")
+        }
         Outcome::Worked(units) => push_counted(text, ": worked ", u64::from(units)),
         Outcome::Got(job) => push_counted(text, ": got job ", job as u64),
         Outcome::Looped => text.push_str(": looped"),
@@ -86,13 +90,25 @@ fn push_named(text: &mut String, words: &str, name: &str) -> Result<(), AllocErr
 }
 
 /// Appends the last line of a replay, with the number of refused submits and the number of
-/// unfinished jobs, such as `refusals 0, unfinished 2`.
+/// unfinished jobs, such as `refusals 0, unfinished 2`. If `rejected` is `Some`, the line has this
+/// number of rejected submits too, such as `refusals 0, rejected 3, unfinished 2`.
 ///
 /// # Errors
 ///
 /// Returns [`AllocError`] if memory runs out.
-pub fn push_summary(text: &mut String, refusals: u64, unfinished: u64) -> Result<(), AllocError>
-    ensures { Pushes result text.old text.new (summary refusals unfinished) }
+pub fn push_summary(
+    text: &mut String,
+    refusals: u64,
+    rejected: Option<u64>,
+    unfinished: u64,
+) -> Result<(), AllocError>
+    ensures { Pushes result text.old text.new (summary refusals rejected unfinished) }
 {
-    writeln!(text, "refusals {refusals}, unfinished {unfinished}")
+    match rejected {
+        Some(rejected) => writeln!(
+            text,
+            "refusals {refusals}, rejected {rejected}, unfinished {unfinished}"
+        ),
+        None => writeln!(text, "refusals {refusals}, unfinished {unfinished}"),
+    }
 }

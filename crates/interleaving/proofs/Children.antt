@@ -49,7 +49,7 @@ live_child_is plan s a t j phase e live =
 if_true : (b : Bool) (phase : Phase) → b ≡ true → ◌≡◌ {A = Option Phase} (if b then Some phase else None) (Some phase)
 if_true b phase e = ap (λ c. if c then Some phase else None) e
 
-live_if_done : (s : State) (j : ℕ) (job : CreatedJob) → may_get s job.parent ≡ true → child s job.parent job.slot ≡ Some j → phase_seen s j job Done ≡ Some phase.Done
+pub live_if_done : (s : State) (j : ℕ) (job : CreatedJob) → may_get s job.parent ≡ true → child s job.parent job.slot ≡ Some j → phase_seen s j job Done ≡ Some phase.Done
 live_if_done s j job asks e =
     let answers = and_from (may_get s job.parent) (is_number (child s job.parent job.slot) j) asks (ap (λ o. is_number o j) e ∙ eq-eqb j j refl) in
     if_true (may_get s job.parent && is_number (child s job.parent job.slot) j) phase.Done answers

@@ -18,7 +18,7 @@ use Rattle.written_machine.specs.State.Stage.{Queued, At, Done, Claimed}
 use Rattle.written_machine.specs.Step.{point, with_stage, with_position, with_job, new_job, moved_jobs, moved_clients}
 use Rattle.written_machine.specs.Reach.{start}
 use Rattle.written_machine.specs.Laws.{HasGreaterNumber}
-use Rattle.written_machine.proofs.Events.{Happens, works, starts, queues, is_refused, gets, finishes, loops, takes, retires}
+use Rattle.written_machine.proofs.Events.{Happens, works, starts, queues, is_refused, is_rejected, gets, finishes, loops, takes, retires}
 use Rattle.written_machine.proofs.StateInvariant.{StateInvariant}
 use Rattle.written_machine.proofs.Positions.{At≢Claimed, standing_made, client_standing, valid_point}
 use Rattle.written_machine.proofs.Stages.{staged, length-staged, stage-staged, get_or-staged_other, parent-staged, child-moved, HaveParents, parents_moved, parents_pushed}
@@ -229,7 +229,9 @@ settled_step plan s s' o ordered kept settled (starts a body i k at below) =
 settled_step plan s s' o ordered kept settled (queues a body i k at core room) =
     let after = settled_submits plan s a body i k Queued (valid_point plan s a body i ordered at.stands) kept at.stands at.is_there (λ f. absurd cc) settled in
     settled_put plan (with_job (new_job k a i Queued) (with_position a (i + 1) s)) s'.pools s'.refusals after
-settled_step plan s s' o ordered kept settled (is_refused a body i k at no_room all_started) = settled_put plan s s.pools (s.refusals + 1) settled
+settled_step plan s s' o ordered kept settled (is_refused a body i k at must no_room all_started) = settled_put plan s s.pools (s.refusals + 1) settled
+settled_step plan s s' o ordered kept settled (is_rejected a body i k at may) =
+    settled_submits plan s a body i k Done (valid_point plan s a body i ordered at.stands) kept at.stands at.is_there (λ f. absurd cc) settled
 settled_step plan s s' o ordered kept settled (gets a body i t j at is_child done) = settled_gets plan s a body i t j at.stands at.is_there is_child settled
 settled_step plan s s' o ordered kept settled (finishes j body i at) = settled_put plan (with_stage j Done s) s'.pools s'.refusals (settled_finishes plan s j body i at.stands settled)
 settled_step plan s s' o ordered kept settled (loops c client body i at is_client repeat) =

@@ -4,7 +4,7 @@ use Rattle.std.proofs.lemmas.Bool.{cases_eq}
 use Rattle.std.proofs.lemmas.List.{length-map, length_push, get_or-map, get_or_append_left, get_or-set_same, get_or-set_other}
 use Rattle.job_bodies.specs.declared.action.Action.{Action}
 use Rattle.job_bodies.specs.declared.action.Action.TheVariants.{Work, Submit, Get}
-use Rattle.job_bodies.specs.Plan.{Plan, client_at}
+use Rattle.job_bodies.specs.Plan.{Plan, pool_at, client_at}
 use Rattle.pool_machine.specs.declared.offer.Offer.{Offer}
 use Rattle.pool_machine.specs.declared.offer.Offer.TheVariants as offer
 use Rattle.pool_machine.specs.PoolState.{PoolView, answer, taken, retired}
@@ -82,10 +82,18 @@ gone_made a i job view =
     let fresh = map (drop_if_stale a i) moved in
     gone_then view.jobs moved (fresh ++ Some job ∷ []) (gone_moved a (i + 1) view) (gone_then moved fresh (fresh ++ Some job ∷ []) (gone_map (drop_if_stale a i) moved refl) (gone_push fresh (Some job)))
 
+refused_leaves : (view : View) (may : Bool) (rejected refused : View × Outcome) → StaysDead view.jobs rejected.0.jobs → StaysDead view.jobs refused.0.jobs
+    → let x : View × Outcome = if may then rejected else refused in StaysDead view.jobs x.0.jobs
+refused_leaves view true rejected refused one two = one
+refused_leaves view false rejected refused one two = two
+
 answered_leaves : (plan : Plan) (view : View) (a : Parent) (i k : ℕ) (given : Offer) → StaysDead view.jobs (answered_in plan view a i k given).0.jobs
 answered_leaves plan view a i k offer.Started = gone_made a i (new_live_job k a i (phase.At 0)) view
 answered_leaves plan view a i k offer.Queued = gone_made a i (new_live_job k a i phase.Queued) view
-answered_leaves plan view a i k offer.Refused = gone_same view.jobs
+answered_leaves plan view a i k offer.Refused =
+    let p = pool_of plan k in
+    refused_leaves view (pool_at plan p).may_reject (made a i (new_live_job k a i phase.Done) view, outcome.Rejected p (length view.jobs)) (record view { refusals = view.refusals + 1 }, outcome.Refused p)
+    (gone_made a i (new_live_job k a i phase.Done) view) (gone_same view.jobs)
 
 get_leaves : (view : View) (a : Parent) (i j : ℕ) (o : Option JobView) → StaysDeadAfter view (got_in view a i j o)
 get_leaves view a i j None = tt

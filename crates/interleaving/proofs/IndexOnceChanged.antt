@@ -87,19 +87,19 @@ drop_if_stale_unfinished a t (Some v) = by_test (is_live_child a t (Some v)) (is
     by_test true false e = refl
     by_test false done e = refl
 
-count-with_new : (jobs : List (Option JobView)) (job : JobView) → is_done job.phase ≡ false → count_by is_unfinished_job (with_new jobs job) ≡ count_by is_unfinished_job jobs + 1
-count-with_new jobs job begins =
+-- a new job adds to the number of unfinished jobs, unless it is done
+count-with_new : (jobs : List (Option JobView)) (job : JobView) → count_by is_unfinished_job (with_new jobs job) ≡ count_by is_unfinished_job jobs + cond (not (is_done job.phase)) 1 0
+count-with_new jobs job =
     let f = drop_if_stale job.parent job.slot in
     let test : Option JobView → ℕ = λ x. cond (is_unfinished_job x) 1 0 in
     let whole = sum_by-append test (map f jobs) (Some job ∷ []) in
     let last = sum_by-cons test (Some job) [] in
-    let one : cond {A = ℕ} (is_unfinished_job (Some job)) 1 0 ≡ 1 = ap (λ b. cond b 1 0) (ap not begins) in
     let kept : count_by is_unfinished_job (map f jobs) ≡ count_by is_unfinished_job jobs = count_by-map is_unfinished_job f jobs ∙ count_by-agree (λ x. is_unfinished_job (f x)) is_unfinished_job jobs (drop_if_stale_unfinished job.parent job.slot) in
-    omega (arith, whole, last, one, kept)
+    omega (arith, whole, last, kept)
 
 module _ (items after : List (Option JobEntry)) (latest later : LatestJobsView) (m : ℕ) (place : JobEntry) (x : AreIndexed items latest m) (stay : SubmitBoundsStay items after)
     (jobs_are : jobs_in after ≡ map (drop_if_stale place.job.parent place.job.slot) (jobs_in items)) (reaches : HasSubmitBound after place.job.parent (place.job.slot + 1)) (parent_made : WasMade (jobs_in items) place.job.parent)
-    (begins : is_done place.job.phase ≡ false) (e : (a : Parent) (t : ℕ) → found later a t ≡ (if is_call place.job.parent place.job.slot a t then Some (length after) else found latest a t)) where
+    (e : (a : Parent) (t : ℕ) → found later a t ≡ (if is_call place.job.parent place.job.slot a t then Some (length after) else found latest a t)) where
   abbrev pushed : List (Option JobEntry)
   pushed = after ++ Some place ∷ []
 
@@ -136,10 +136,10 @@ module _ (items after : List (Option JobEntry)) (latest later : LatestJobsView) 
       ))
       (cases_Bool (is_call place.job.parent place.job.slot (parent.Job j) t))
 
-  pub indexed_made : AreIndexed pushed later (m + 1)
+  pub indexed_made : AreIndexed pushed later (m + cond (not (is_done place.job.phase)) 1 0)
   indexed_made = record {
     are_found = subst (λ js. AreFound js later) (sym pushed_jobs) (found_made (jobs_in items) place.job latest later x.are_found (λ j t k child. let low = (x.reached j t k child).0 in omega (arith, low, length-jobs items))
         (λ a t. e a t ∙ ap (λ n. if is_call place.job.parent place.job.slot a t then Some n else found latest a t) as_long));
     reached = reached_pushed;
-    counted = let counts = count-with_new (jobs_in items) place.job begins in let same = ap (count_by is_unfinished_job) pushed_jobs in let was = x.counted in omega (arith, counts, same, was);
+    counted = let counts = count-with_new (jobs_in items) place.job in let same = ap (count_by is_unfinished_job) pushed_jobs in let was = x.counted in omega (arith, counts, same, was);
   }

@@ -16,17 +16,19 @@ use Rattle.interleaving.specs.declared.job_view.Phase.{Phase}
 use Rattle.interleaving.specs.declared.job_view.Phase.TheVariants as phase
 use Rattle.written_machine.specs.State.{Stage, CreatedJob, State, no_job, job_at, pool_part, pool_of, pool_view, pool_seen, is_unfinished, busy, is_made_by, child}
 use Rattle.written_machine.specs.State.Stage.{Queued, At, Done, Claimed}
-use Rattle.written_machine.specs.Step.{moved_jobs, point, with_position, with_job, with_pool, new_job, answered, submitted}
+use Rattle.written_machine.specs.Step.{moved_jobs, point, with_position, with_job, with_pool, new_job, skipped, answered, submitted}
 use Rattle.written_machine.specs.Laws.{HasGreaterNumber}
 use Rattle.written_machine.proofs.Busy.{busy_in_other, busy_push_here, busy_push_same, busy-moved}
 use Rattle.written_machine.proofs.StateInvariant.{StateInvariant}
-use Rattle.written_machine.proofs.Stages.{HaveParents, parents_moved}
+use Rattle.written_machine.proofs.Stages.{HaveParents, parents_moved, stage-staged}
+use Rattle.written_machine.proofs.Positions.{standing_made}
+use Rattle.written_machine.proofs.ActorInvariants.{is_after}
 use Rattle.written_machine.proofs.Children.{maker_of}
 use Rattle.interleaving.specs.LiveView.{may_get, is_number, phase_seen, job_with, job_seen, View, live_view}
 use Rattle.interleaving.specs.ViewStep.{is_done, drop_if_stale, pool_in, move_actor, new_live_job, made, answered_in, submitted_in}
-use Rattle.interleaving.proofs.View.{seen, phase_with, job_seen-with, length-view, view_at, jobs_are, pool_at_view, one_pool, same_views, pool_seen-busy, pools-put}
+use Rattle.interleaving.proofs.View.{seen, phase_with, job_seen-with, length-view, view_at, jobs_are, pool_at_view, same_pools, one_pool, same_views, pool_seen-busy, pools-put}
 use Rattle.interleaving.proofs.Changes.{as_seen, seen_same}
-use Rattle.interleaving.proofs.Children.{made_by_itself}
+use Rattle.interleaving.proofs.Children.{made_by_itself, live_if_done}
 use Rattle.interleaving.proofs.ViewMoves.{move_seen}
 
 -- ---- a done job is stale once its parent has created another job at the same position
@@ -106,6 +108,11 @@ jobs-made plan s job phase after new =
     ∙ sym (get_or_push fresh (Some (as_seen job phase)) None n (omega arith)))
     (cases_lt n (length s.jobs)))
 
+-- an actor that moved within its body may still get its jobs
+asks_moved : (plan : Plan) (s : State) (a : Parent) (body : List Action) (i i' : ℕ) → point plan s a ≡ Some (record { body = body; position = i }) → may_get (with_position a i' s) a ≡ true
+asks_moved plan s (parent.Client c) body i i' stands = refl
+asks_moved plan s (parent.Job j) body i i' stands = ap is_unfinished (stage-staged s.jobs j (At i') (standing_made plan s j body i stands))
+
 -- ---- the submit
 
 module _ (plan : Plan) (s : State) (a : Parent) (body : List Action) (i k : ℕ) (kept : StateInvariant plan s) (stands : point plan s a ≡ Some (record { body = body; position = i })) (inside : pool_of plan k < length plan.pools) where
@@ -152,10 +159,34 @@ module _ (plan : Plan) (s : State) (a : Parent) (body : List Action) (i k : ℕ)
       let same = ap₂ (λ (pool : PoolView) (n : ℕ). apply_answer pool n offer.Queued) (sym (pool_at_view plan s p inside)) (sym (length-view plan s)) in
       same_views (live_view plan (with_pool p after s')) (answered_in plan view a i k offer.Queued).0 (jobs_now Queued phase.Queued refl) (put ∙ ap (set view.pools p) same) clients_now refl
 
+  -- the job of a skipped submit is live, because it is the latest of its submit
+  skipped_live : let moved = with_position a (i + 1) s in phase_seen (skipped s a i k) (length moved.jobs) (new_job k a i Done) Done ≡ Some phase.Done
+  skipped_live =
+      let moved = with_position a (i + 1) s in
+      let job = new_job k a i Done in
+      live_if_done (skipped s a i k) (length moved.jobs) job
+      (may_get-made moved job a (is_after plan s a body i (i + 1) stands) ∙ asks_moved plan s a body i (i + 1) stands)
+      (last_where_push (is_made_by a i) moved.jobs job (made_by_itself job))
+
+  skipped_seen : live_view plan (skipped s a i k) ≡ made a i (new_live_job k a i phase.Done) (live_view plan s)
+  skipped_seen =
+      let view = live_view plan s in
+      let moved = with_position a (i + 1) s in
+      let s' = skipped s a i k in
+      let busy_same : (p : ℕ) → busy plan s' p ≡ busy plan s p = λ p. busy_push_same plan moved.jobs (new_job k a i Done) p refl ∙ busy-moved plan s a body i (i + 1) p stands in
+      let pools = same_pools plan s s' (λ p within. pool_seen-busy plan s p (busy plan s' p) (busy_same p)) in
+      same_views (live_view plan s') (made a i (new_live_job k a i phase.Done) view) (jobs_now Done phase.Done skipped_live) pools clients_now refl
+
+  full_commutes : (may : Bool) → ◌≡◌ {A = View × Outcome}
+      (let x : State × Outcome = if may then (skipped s a i k, outcome.Rejected (pool_of plan k) (length s.jobs)) else (record s { refusals = s.refusals + 1 }, outcome.Refused (pool_of plan k)) in (live_view plan x.0, x.1))
+      (if may then (made a i (new_live_job k a i phase.Done) (live_view plan s), outcome.Rejected (pool_of plan k) (length (live_view plan s).jobs)) else (record (live_view plan s) { refusals = s.refusals + 1 }, outcome.Refused (pool_of plan k)))
+  full_commutes true = ap₂ (λ (v : View) (n : ℕ). (v, outcome.Rejected (pool_of plan k) n)) skipped_seen (sym (length-view plan s))
+  full_commutes false = refl
+
   answered_commutes : (given : Offer) → ◌≡◌ {A = View × Outcome} (live_view plan (answered plan s a i k given).0, (answered plan s a i k given).1) (answered_in plan (live_view plan s) a i k given)
   answered_commutes offer.Started = ap₂ (λ (v : View) (n : ℕ). (v, outcome.Started n)) started_seen (sym (length-view plan s))
   answered_commutes offer.Queued = ap₂ (λ (v : View) (n : ℕ). (v, outcome.Queued n)) queued_seen (sym (length-view plan s))
-  answered_commutes offer.Refused = refl
+  answered_commutes offer.Refused = full_commutes (pool_at plan (pool_of plan k)).may_reject
 
   pub submit_commutes : ◌≡◌ {A = View × Outcome} (live_view plan (submitted plan s a i k).0, (submitted plan s a i k).1) (submitted_in plan (live_view plan s) a i k)
   submit_commutes =

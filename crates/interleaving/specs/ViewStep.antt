@@ -5,7 +5,7 @@ use Rattle.std.specs.Option.{option_map}
 use Rattle.support.specs.Places.{places_where, last_of}
 use Rattle.job_bodies.specs.declared.action.Action.{Action}
 use Rattle.job_bodies.specs.declared.action.Action.TheVariants.{Work, Submit, Get}
-use Rattle.job_bodies.specs.Plan.{Plan, class_at, client_at}
+use Rattle.job_bodies.specs.Plan.{Plan, pool_at, class_at, client_at}
 use Rattle.pool_machine.specs.declared.offer.Offer.{Offer}
 use Rattle.pool_machine.specs.declared.offer.Offer.TheVariants as offer
 use Rattle.pool_machine.specs.PoolState.{PoolView, answer, apply_answer, taken, finished, retired}
@@ -18,7 +18,7 @@ use Rattle.interleaving.specs.declared.job_view.JobView.{JobView}
 use Rattle.written_machine.specs.declared.event.Event.{Event}
 use Rattle.written_machine.specs.declared.event.Event.TheVariants.{Client, Job, Take, Retire}
 use Rattle.written_machine.specs.declared.event.Outcome.{Outcome}
-use Rattle.written_machine.specs.declared.event.Outcome.TheVariants.{Started, Queued, Refused, Worked, Got, Looped, Finished, Took, Retired}
+use Rattle.written_machine.specs.declared.event.Outcome.TheVariants.{Started, Queued, Refused, Rejected, Worked, Got, Looped, Finished, Took, Retired}
 use Rattle.written_machine.specs.State.{same_parent, pool_of}
 use Rattle.written_machine.specs.Step.{Point, point_of_client}
 use Rattle.interleaving.specs.LiveView.{View, is_number}
@@ -125,6 +125,8 @@ made a i job view =
     let moved = move_actor a (i + 1) view in
     record moved { jobs = map (drop_if_stale a i) moved.jobs ++ Some job ∷ [] }
 
+-- the view and the outcome after actor a, at position i, submitted a job of class k, and the pool gave this answer; a pool that may reject
+-- jobs does not refuse the submit, but the new job is done at once
 abbrev pub answered_in : Plan → View → Parent → ℕ → ℕ → Offer → View × Outcome
 answered_in plan view a i k offer.Started = (
   with_pool_in (pool_of plan k) (apply_answer (pool_in view (pool_of plan k)) (length view.jobs) offer.Started)
@@ -136,7 +138,9 @@ answered_in plan view a i k offer.Queued = (
       (made a i (new_live_job k a i phase.Queued) view),
   Queued (length view.jobs),
 )
-answered_in plan view a i k offer.Refused = (record view { refusals = view.refusals + 1 }, Refused (pool_of plan k))
+answered_in plan view a i k offer.Refused =
+    if (pool_at plan (pool_of plan k)).may_reject then (made a i (new_live_job k a i phase.Done) view, Rejected (pool_of plan k) (length view.jobs))
+    else (record view { refusals = view.refusals + 1 }, Refused (pool_of plan k))
 
 abbrev pub submitted_in : Plan → View → Parent → ℕ → ℕ → View × Outcome
 submitted_in plan view a i k = answered_in plan view a i k (answer (pool_in view (pool_of plan k)))

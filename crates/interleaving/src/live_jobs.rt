@@ -134,7 +134,6 @@ impl LiveJobs {
         requires room { 0 < room_for self.old.room job.parent }
         requires parent { WasMade self.old.jobs job.parent }
         requires stale { NoOtherIsStale self.old.jobs latest job.parent job.slot }
-        requires begins { is_done job.phase ≡ false }
         requires fits { job.slot + 1 < 2 ^ 64 }
         ensures jobs { self.new.jobs
             ≡ map (drop_if_stale job.parent job.slot) self.old.jobs ++ Some job ∷ [] }
@@ -149,7 +148,7 @@ impl LiveJobs {
             submit_bound: 0,
         });
         self.latest.set(job.parent, job.slot, number);
-        self.unfinished += 1;
+        self.unfinished += usize::from(!job.is_done());
     }
 
     /// Finishes the job with this number. `job` is that job before it finishes. The job stays live

@@ -1,7 +1,7 @@
 //! Look-ups in a plan.
 
 ghost use Rattle.std.specs.Prelude.{◌≡◌, slice_index_or};
-ghost use Rattle.job_bodies.specs.Plan.{no_class, no_client};
+ghost use Rattle.job_bodies.specs.Plan.{no_class, no_client, pool_at};
 ghost use Rattle.written_machine.specs.State.{pool_of};
 
 use job_bodies::{Action, Class, Client, Plan};
@@ -11,6 +11,13 @@ pub(crate) fn pool_of(plan: &Plan, class: usize) -> usize
     ensures { result ≡ pool_of plan.now class }
 {
     plan.class_at(class).map_or(0, |class| class.pool)
+}
+
+/// Returns `true` if the pool with this number may reject jobs. A pool that does not exist may not.
+pub(crate) fn may_reject(plan: &Plan, pool: usize) -> bool
+    ensures { result ≡ (pool_at plan.now pool).may_reject }
+{
+    plan.pool_at(pool).is_some_and(|pool| pool.may_reject)
 }
 
 /// Returns the body of the class with this number, or an empty body if there is no such class.

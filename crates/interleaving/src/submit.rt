@@ -9,7 +9,7 @@ ghost use Rattle.interleaving.specs.NextAction.{IsAmong};
 
 use crate::moves::move_actor;
 use crate::next_action::NextAction;
-use crate::plans::pool_of;
+use crate::plans::{may_reject, pool_of};
 use crate::{JobView, Phase, World};
 use job_bodies::Plan;
 use pool_machine::Offer;
@@ -20,9 +20,11 @@ impl World {
     ghost use Rattle.interleaving.specs.World.{ReusesPlaces};
 
     /// Performs a submit of the actor: offers a job of the class to the class's pool. If the pool
-    /// accepts the job, creates it and moves the actor to its next position. Otherwise counts the
-    /// refusal, and the actor does not move. `next` has the position of the submit in the actor's
-    /// body. If the body has a get of this submit, no live job of this submit may exist yet.
+    /// accepts the job, creates it and moves the actor to its next position. If the pool is full and
+    /// may reject jobs, skips the submit: creates the job as a done job, and moves the actor.
+    /// Otherwise counts the refusal, and the actor does not move. `next` has the position of the
+    /// submit in the actor's body. If the body has a get of this submit, no live job of this submit
+    /// may exist yet.
     ///
     /// # Errors
     ///
@@ -57,6 +59,9 @@ impl World {
         let (phase, outcome) = match self.pools[pool].offer(number)? {
             Offer::Started => (Phase::At(0), Outcome::Started(number)),
             Offer::Queued => (Phase::Queued, Outcome::Queued(number)),
+            Offer::Refused if may_reject(plan, pool) => {
+                (Phase::Done, Outcome::Rejected(pool, number))
+            }
             Offer::Refused => {
                 self.refusals = self.refusals.checked_add(1).ok_or(AllocError)?;
                 return Ok(Outcome::Refused(pool));

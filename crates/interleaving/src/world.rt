@@ -64,7 +64,7 @@ impl World {
         })
     }
 
-    /// Returns the number of refused submits.
+    /// Returns the number of refused submits. A rejected submit is not counted.
     pub fn refusals(&self) -> u64
         ensures { result ≡ self.now.view.refusals }
     {

@@ -10,6 +10,7 @@ pub record Pool : Type 0 where
   pub max : ℕ
   pub queue : ℕ
   pub prestart : Bool
+  pub may_reject : Bool
 
 pub record Class : Type 0 where
   pub name : List ℕ
@@ -30,7 +31,7 @@ pub record Plan : Type 0 where
 
 -- the default for an index past the end of the list of pools
 abbrev pub no_pool : Pool
-no_pool = record { name = []; core = 0; max = 0; queue = 0; prestart = false }
+no_pool = record { name = []; core = 0; max = 0; queue = 0; prestart = false; may_reject = false }
 
 abbrev pub no_class : Class
 no_class = record { name = []; pool = 0; body = [] }

@@ -20,6 +20,7 @@ impl Pool {
             max: self.max,
             queue: self.queue,
             prestart: self.prestart,
+            may_reject: self.may_reject,
         })
     }
 }

@@ -33,12 +33,17 @@ pub struct Pool {
     /// `prestartAllCoreThreads` does. The first jobs then wait in the queue until idle threads take
     /// them. If `prestart` is false, the first jobs start threads.
     pub prestart: bool,
+    /// Whether the pool may reject jobs, because its callers expect that: they handle the exception
+    /// of `AbortPolicy`, or the pool has another handler, such as `CallerRunsPolicy`. A submit to
+    /// the full pool then counts as skipped together with its get. If `may_reject` is false, no
+    /// submit to the pool should ever be refused.
+    pub may_reject: bool,
 }
 
 impl Model for Pool {
     ghost Value = { spec.Pool };
 
-    ghost view = { λ p. record { name = string_bytes p.name; core = p.core; max = p.max; queue = p.queue; prestart = p.prestart } };
+    ghost view = { λ p. record { name = string_bytes p.name; core = p.core; max = p.max; queue = p.queue; prestart = p.prestart; may_reject = p.may_reject } };
 }
 
 impl Pool {

@@ -1,5 +1,5 @@
 -- The pools of a recording, as pools of a plan.
-use Rattle.std.specs.Prelude.{ℕ, Bool, not, ◌&&◌, ◌==◌, List, [], ◌∷◌, filter, Option, Some, None, if◌then◌else◌, ◌++◌, min, max}
+use Rattle.std.specs.Prelude.{ℕ, Bool, not, ◌&&◌, ◌==◌, List, [], ◌∷◌, filter, Option, Some, None, if◌then◌else◌, ◌++◌, min, max, false}
 use Rattle.std.specs.List.{filter_map, list_any}
 use Rattle.std.specs.Str.{bytes_eq}
 use Rattle.job_bodies.specs.Plan.{Pool}
@@ -20,7 +20,7 @@ has_core_threads sizes = not (sizes.prestarted == 0) && (sizes.prestarted == siz
 -- The pool of a `pool` line, with each size clamped to its range in a plan.
 abbrev pub recorded_pool : List ℕ → PoolSizes → Pool
 recorded_pool name sizes = let core = into_range 1 sizes.core in
-    record { name = name; core = core; max = into_range core sizes.max; queue = into_range 1 sizes.capacity; prestart = has_core_threads sizes }
+    record { name = name; core = core; max = into_range core sizes.max; queue = into_range 1 sizes.capacity; prestart = has_core_threads sizes; may_reject = false }
 
 -- ---- all pools
 -- The pool of a `pool` line, or `None` for any other line.

@@ -29,6 +29,7 @@ pub(crate) fn recorded_pool(alloc: Global, name: &str, sizes: PoolSizes) -> Resu
         max: into_range(core, sizes.max as u64),
         queue: into_range(1, sizes.capacity as u64),
         prestart: has_core_threads(sizes),
+        may_reject: false,
     })
 }
 

@@ -3,7 +3,7 @@
 //! the number of all jobs that are ever submitted to it. A *blocked vector* bounds the number of
 //! its jobs that wait at gets of classes whose reach is at least the rank of the pool. The *reach*
 //! of a class is the maximum of the rank of its pool and of the reaches of the classes whose jobs
-//! it gets.
+//! it gets. A pool that may reject jobs needs no bound, but its certificate can have one.
 
 ghost use Rattle.std.specs.Prelude.{◌<◌, IfOk, IfSome, IsTrue, length};
 ghost use Rattle.weights.specs.Vector.{vector_fits};
@@ -17,8 +17,9 @@ use std::alloc::{AllocError, Global};
 use weights::{Bound, Vector};
 
 /// Returns the bound of the pool's queue: a standing vector or, if the search finds none, a
-/// lifetime vector. Returns `None` if the search finds neither. The plan must have a pool with the
-/// index `pool`.
+/// lifetime vector. Returns `None` if the search finds neither with a total that fits the pool's
+/// sizes. The search does not depend on whether the pool may reject jobs, which then never happens
+/// if a bound is found. The plan must have a pool with the index `pool`.
 ///
 /// # Errors
 ///

@@ -23,7 +23,7 @@ pub none_refused : (plan : Plan) (cert : Cert) (history : List Event) (view : Vi
 none_refused plan cert history view well_formed accepts led = subst (λ v. v.refusals ≡ 0) led.2 (none_refused_in plan cert history led.0 well_formed accepts led.1)
 
 refusal_counts : (plan : Plan) (s s' : State) (p : ℕ) {e : Event} → Happens plan s e s' (outcome.Refused p) → s'.refusals ≡ s.refusals + 1
-refusal_counts plan s s' p (is_refused a body i k at within full) = refl
+refusal_counts plan s s' p (is_refused a body i k at must within full) = refl
 
 -- after a history of an accepted plan, no event is a refused submit
 pub refuses_nothing : (plan : Plan) (cert : Cert) (history : List Event) → IsWellFormed plan → IsTrue (accepted plan cert) → RefusesNothing plan history

@@ -33,7 +33,7 @@ pub use compact_receipt::CompactReceipt;
 pub use gate::{Actor, Gate, GateFault};
 pub use held_machines::{Held, Locked, Machine, Receipt};
 pub use history_laws::{numbers_are_of_the_plan, totals_add_up};
-pub use limits::{RunLimit, limit_of};
+pub use limits::{RunLimit, limit_of, may_reject};
 pub use numbers::{RunNumbers, run_numbers};
 pub use owner::{Owner, kinds_of, lists_of};
 pub use report::{RunFault, RunReport, ThreadFault, ThreadResults};

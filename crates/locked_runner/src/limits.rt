@@ -9,6 +9,9 @@ use job_bodies::{MAX_RUN_CARRIERS, MAX_RUN_CLIENTS, MAX_RUN_EVENTS, Plan};
 /// A limit that a run can exceed.
 #[derive(Clone, Copy, PartialEq, Eq)]
 pub enum RunLimit {
+    /// The number of pools that may reject jobs, which must be 0: a run performs each job of the
+    /// plan, and a job that a pool rejects is not performed.
+    Rejections,
     /// The number of clients of all kinds, at most 64.
     Clients,
     /// The sum of the maximums of all pools, at most 64.
@@ -17,13 +20,16 @@ pub enum RunLimit {
     Events,
 }
 
-/// Returns the limit to report for a plan whose run exceeds a limit. This is the limit of clients
-/// if the plan exceeds it, otherwise the limit of threads if the plan exceeds that, and otherwise
-/// the limit of events.
+/// Returns the limit to report for a plan whose run exceeds a limit. This is the limit of pools
+/// that may reject jobs if the plan exceeds it, otherwise the limit of clients if the plan exceeds
+/// that, otherwise the limit of threads if the plan exceeds that, and otherwise the limit of
+/// events.
 pub fn limit_of(plan: &Plan) -> RunLimit
     ensures { result ≡ spec.limit_of plan.now }
 {
-    if clients_of(plan) > MAX_RUN_CLIENTS {
+    if may_reject(plan) {
+        RunLimit::Rejections
+    } else if clients_of(plan) > MAX_RUN_CLIENTS {
         RunLimit::Clients
     } else if workers_of(plan) > MAX_RUN_CARRIERS {
         RunLimit::Threads
@@ -38,9 +44,18 @@ pub(crate) fn exceeds_limits(plan: &Plan, events: u64) -> bool
     ensures value { result ≡ spec.exceeds_limits plan.now events }
     ensures well_formed { IsWellFormed plan.now }
 {
-    clients_of(plan) > MAX_RUN_CLIENTS
+    may_reject(plan)
+        || clients_of(plan) > MAX_RUN_CLIENTS
         || workers_of(plan) > MAX_RUN_CARRIERS
         || events > MAX_RUN_EVENTS
+}
+
+/// Returns whether one of the pools may reject jobs.
+pub fn may_reject(plan: &Plan) -> bool
+    ensures value { result ≡ spec.may_reject plan.now }
+    ensures well_formed { IsWellFormed plan.now }
+{
+    plan.pools().iter().any(|pool| pool.may_reject)
 }
 
 /// Returns the number of clients of all kinds. The number saturates at `u64::MAX`.

@@ -6,7 +6,7 @@ use Rattle.std.specs.String.{string_cmp}
 use Rattle.toml.specs.Data.{Data, boolean, member, no_members}
 use Rattle.toml.specs.View.{view, members_view}
 use Rattle.toml.specs.declared.value.Value.{Value}
-use Rattle.plan_text.specs.PlanDocument.{with_member, prestart_and}
+use Rattle.plan_text.specs.PlanDocument.{with_member, flag_and}
 
 -- the members of a table after a member was inserted before, at or after its first entry, as the order of the keys requires
 chosen : (o : Ordering) (k : String Global) (v : Value) (e : String Global × Value) (es more : List (String Global × Value)) → members_view more ≡ with_member (string_bytes k) (view v) (members_view es)
@@ -21,9 +21,12 @@ members_with k v [] = refl
 members_with k v (e ∷ es) = chosen (string_cmp k e.0) k v e es (insert_entry string_cmp es k v) (members_with k v es)
 
 -- inserting the keys of a pool in the order of the writer gives the members in ascending order
-pub pool_members : (core max name queue : Data) (prestart : Bool)
+pub pool_members : (core max name queue : Data) (prestart may_reject : Bool)
     → let named = with_member (codes "name") name (with_member (codes "max") max (with_member (codes "core") core no_members)) in
-    with_member (codes "queue") queue (if prestart then with_member (codes "prestart") (boolean true) named else named)
-    ≡ member (codes "core") core (member (codes "max") max (member (codes "name") name (prestart_and prestart (member (codes "queue") queue no_members))))
-pool_members core max name queue true = refl
-pool_members core max name queue false = refl
+    let started = if prestart then with_member (codes "prestart") (boolean true) named else named in
+    with_member (codes "queue") queue (if may_reject then with_member (codes "may_reject") (boolean true) started else started)
+    ≡ member (codes "core") core (member (codes "max") max (flag_and (codes "may_reject") may_reject (member (codes "name") name (flag_and (codes "prestart") prestart (member (codes "queue") queue no_members)))))
+pool_members core max name queue true true = refl
+pool_members core max name queue true false = refl
+pool_members core max name queue false true = refl
+pool_members core max name queue false false = refl

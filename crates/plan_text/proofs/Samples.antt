@@ -18,7 +18,7 @@ client = codes "[[client]]\nname = \"c\"\ncount = 2\nrepeat = true\nbody = [\"su
 
 abbrev plan : Plan
 plan = record {
-  pools = record { name = codes "p"; core = 1; max = 1; queue = 2; prestart = false } ∷ [];
+  pools = record { name = codes "p"; core = 1; max = 1; queue = 2; prestart = false; may_reject = false } ∷ [];
   classes = record { name = codes "a"; pool = 0; body = Work 1 ∷ [] } ∷ [];
   clients = record { name = codes "c"; count = 2; repeat = true; body = Submit 0 ∷ Get 0 ∷ [] } ∷ [];
 }
@@ -36,17 +36,30 @@ unfolding plan_on_literals
 one_of_each = refl
 
 abbrev prestarted : Plan
-prestarted = record { pools = record { name = codes "p"; core = 1; max = 1; queue = 2; prestart = true } ∷ []; classes = []; clients = [] }
+prestarted = record { pools = record { name = codes "p"; core = 1; max = 1; queue = 2; prestart = true; may_reject = false } ∷ []; classes = []; clients = [] }
 
 -- the plan of a text with a pool whose core threads are prestarted
 prestarted_pool : plan_of (pool ++ codes "prestart = true\n") ≡ Ok prestarted
 unfolding plan_on_literals
 prestarted_pool = refl
 
+abbrev rejecting : Plan
+rejecting = record { pools = record { name = codes "p"; core = 1; max = 1; queue = 2; prestart = false; may_reject = true } ∷ []; classes = []; clients = [] }
+
+-- the plan of a text with a pool that may reject jobs
+rejecting_pool : plan_of (pool ++ codes "may_reject = true\n") ≡ Ok rejecting
+unfolding plan_on_literals
+rejecting_pool = refl
+
 -- the fault of a value that should be a boolean and is not
 no_truth : plan_of (pool ++ codes "prestart = 1\n") ≡ Err (at_entry part.Pool 0 5)
 unfolding plan_on_literals
 no_truth = refl
+
+-- the same fault of the key `may_reject`
+no_truth_of_may_reject : plan_of (pool ++ codes "may_reject = 1\n") ≡ Err (at_entry part.Pool 0 5)
+unfolding plan_on_literals
+no_truth_of_may_reject = refl
 
 abbrev client_with : List ℕ → List ℕ
 client_with body = codes "[[client]]\nname = \"c\"\ncount = 2\nbody = [" ++ body ++ codes "]\n"

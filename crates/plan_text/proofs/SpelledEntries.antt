@@ -53,13 +53,17 @@ texts_back entry key texts found short =
     let long : length (map string texts) ≡ length texts = length-map texts string in
     rw (found, elements-items_of (map string texts), long, short) (read_again (action_text entry.part entry.index) string texts (λ i text e. refl))
 
-pool_again : (index : ℕ) (name : List ℕ) (core max queue : ℕ) (prestart : Bool) → let pool : Pool = record { name = name; core = core; max = max; queue = queue; prestart = prestart } in read_pool index (pool_data pool) ≡ Ok pool
+pool_again : (index : ℕ) (name : List ℕ) (core max queue : ℕ) (prestart may_reject : Bool)
+    → let pool : Pool = record { name = name; core = core; max = max; queue = queue; prestart = prestart; may_reject = may_reject } in
+    read_pool index (pool_data pool) ≡ Ok pool
 unfolding read_pool pool_data entry_of text_at number_at flag_at
-pool_again index name core max queue true = refl
-pool_again index name core max queue false = refl
+pool_again index name core max queue true true = refl
+pool_again index name core max queue true false = refl
+pool_again index name core max queue false true = refl
+pool_again index name core max queue false false = refl
 
 pool_back : (index : ℕ) (pool : Pool) → read_pool index (pool_data pool) ≡ Ok pool
-pool_back index pool = pool_again index pool.name pool.core pool.max pool.queue pool.prestart
+pool_back index pool = pool_again index pool.name pool.core pool.max pool.queue pool.prestart pool.may_reject
 
 -- the entry with this table; an entry with an empty table if the value is not a table
 abbrev entry_at : Part → ℕ → Data → Entry
@@ -129,13 +133,16 @@ each_at_most make most each (x ∷ xs) = max-le (each x) (each_at_most make most
 texts_depth : (texts : List (List ℕ)) → items_depth (items_of (map string texts)) ≤ 0
 texts_depth texts = each_at_most string 0 (λ text. omega arith) texts
 
-pool_depth_of : (name : List ℕ) (core max queue : ℕ) (prestart : Bool) → depth (pool_data (record { name = name; core = core; max = max; queue = queue; prestart = prestart })) ≤ 2
+pool_depth_of : (name : List ℕ) (core max queue : ℕ) (prestart may_reject : Bool)
+    → depth (pool_data (record { name = name; core = core; max = max; queue = queue; prestart = prestart; may_reject = may_reject })) ≤ 2
 unfolding pool_data
-pool_depth_of name core max queue true = omega arith
-pool_depth_of name core max queue false = omega arith
+pool_depth_of name core max queue true true = omega arith
+pool_depth_of name core max queue true false = omega arith
+pool_depth_of name core max queue false true = omega arith
+pool_depth_of name core max queue false false = omega arith
 
 pool_depth : (pool : Pool) → depth (pool_data pool) ≤ 2
-pool_depth pool = pool_depth_of pool.name pool.core pool.max pool.queue pool.prestart
+pool_depth pool = pool_depth_of pool.name pool.core pool.max pool.queue pool.prestart pool.may_reject
 
 class_depth : (pools classes : List (List ℕ)) (class : Class) → depth (class_data pools classes class) ≤ 2
 unfolding class_data

@@ -38,13 +38,14 @@ pub record AreWithinLimits (entries : Entries) : Type 0 where
 
 unfoldable pub read_pool : ℕ → Data → Result Pool PlanFault
 read_pool index value =
-    entry_of part.Pool index (codes "name" ∷ codes "core" ∷ codes "max" ∷ codes "queue" ∷ codes "prestart" ∷ []) value >>= λ entry.
+    entry_of part.Pool index (codes "name" ∷ codes "core" ∷ codes "max" ∷ codes "queue" ∷ codes "prestart" ∷ codes "may_reject" ∷ []) value >>= λ entry.
     text_at entry (codes "name") >>= λ name.
     number_at entry (codes "core") >>= λ core.
     number_at entry (codes "max") >>= λ max.
     number_at entry (codes "queue") >>= λ queue.
     flag_at entry (codes "prestart") >>= λ prestart.
-    Ok (record { name = name; core = core; max = max; queue = queue; prestart = prestart })
+    flag_at entry (codes "may_reject") >>= λ may_reject.
+    Ok (record { name = name; core = core; max = max; queue = queue; prestart = prestart; may_reject = may_reject })
 
 unfoldable pub read_class : ℕ → Data → Result ClassEntry PlanFault
 read_class index value =

@@ -18,17 +18,18 @@ list_data values = array (items_of values)
 abbrev pub texts_data : List (List ℕ) → Data
 texts_data texts = list_data (map string texts)
 
--- the members `rest`, with the key `prestart` before them if the core threads are prestarted
-abbrev pub prestart_and : Bool → Members → Members
-prestart_and prestart rest = if prestart then member (codes "prestart") (boolean true) rest else rest
+-- the members `rest`, with the key set to `true` before them if the flag is set
+abbrev pub flag_and : List ℕ → Bool → Members → Members
+flag_and key flag rest = if flag then member key (boolean true) rest else rest
 
 unfoldable pub pool_data : Pool → Data
 pool_data pool =
     table (member (codes "core") (number_data pool.core)
     (member (codes "max") (number_data pool.max)
+    (flag_and (codes "may_reject") pool.may_reject
     (member (codes "name") (string pool.name)
-    (prestart_and pool.prestart
-    (member (codes "queue") (number_data pool.queue) no_members)))))
+    (flag_and (codes "prestart") pool.prestart
+    (member (codes "queue") (number_data pool.queue) no_members))))))
 
 -- the table of a class, given the names of all pools and classes
 unfoldable pub class_data : List (List ℕ) → List (List ℕ) → Class → Data

@@ -63,19 +63,21 @@ impl<'a> Model for Entries<'a> {
 fn read_pool(alloc: Global, index: usize, value: &Value) -> Result<Pool, TextError>
     ensures { Gives (λ pool. pool) result (spec.read_pool index (view value.now)) }
 {
-    let keys = ["name", "core", "max", "queue", "prestart"];
+    let keys = ["name", "core", "max", "queue", "prestart", "may_reject"];
     let entry = Entry::of(value, Part::Pool, index, &keys)?;
     let name = entry.text("name")?;
     let core = entry.number("core")?;
     let max = entry.number("max")?;
     let queue = entry.number("queue")?;
     let prestart = entry.flag("prestart")?;
+    let may_reject = entry.flag("may_reject")?;
     Ok(Pool {
         name: String::from_str(alloc, name)?,
         core,
         max,
         queue,
         prestart,
+        may_reject,
     })
 }
 

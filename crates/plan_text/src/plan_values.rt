@@ -58,6 +58,7 @@ fn pool_value(alloc: Global, pool: &Pool) -> Result<Value, AllocError>
         Value::string(alloc, pool.name.as_str())?,
     )?;
     insert_flag(alloc, &mut table, "prestart", pool.prestart)?;
+    insert_flag(alloc, &mut table, "may_reject", pool.may_reject)?;
     insert_value(alloc, &mut table, "queue", number_value(pool.queue))?;
     Ok(Value::Table(table))
 }

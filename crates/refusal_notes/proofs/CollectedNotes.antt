@@ -1,9 +1,10 @@
 -- The failing conditions that the loop over the pools has collected.
-use Rattle.std.proofs.Common.{◌≡◌, ℕ, Bool, zero, suc, ◌+◌, ◌<◌, true, false, cond, ltb, IsTrue, List, [], ◌∷◌, ◌++◌, length, take, filter, flat_map, get_or, refl, sym, ap, ap₂, ◌∙◌, append_assoc, add-one, zero-add, arith}
+use Rattle.std.proofs.Common.{◌≡◌, ℕ, Bool, zero, suc, ◌+◌, ◌<◌, true, false, cond, ltb, IsTrue, List, [], ◌∷◌, ◌++◌, length, take, filter, flat_map, get_or, Option, Some, None, refl, sym, ap, ap₂, ◌∙◌, append_assoc, add-one, zero-add, arith}
 use Rattle.std.specs.List.{enumerate_from}
 use Rattle.std.proofs.lemmas.List.{append-nil, get_or_default}
 use Rattle.std.proofs.lemmas.List.Elements.{filter-append}
 use Rattle.job_bodies.specs.Plan.{Plan}
+use Rattle.weights.specs.declared.bound.Bound.{Bound}
 use Rattle.weights.specs.declared.row.Row.{Row}
 use Rattle.weights.specs.Row.{fails}
 use Rattle.weights.specs.Bound.{bound_rows}
@@ -14,7 +15,8 @@ use Rattle.cert_text.proofs.Fitting.{as_many_parts, pool_fits}
 use Rattle.soundness.specs.declared.note.Section.{Section}
 use Rattle.soundness.specs.declared.note.Section.TheVariants as section
 use Rattle.soundness.specs.declared.note.Note.{Note}
-use Rattle.soundness.specs.Conditions.{note, in_section, bound_section, pool_conditions}
+use Rattle.soundness.specs.Conditions.{note, in_section, bound_section, bound_conditions, pool_conditions}
+use Rattle.refusal_notes.specs.FailingRows.{failing_of_bound}
 
 -- the note fails: its left side is greater than its right side
 abbrev pub note_fails : Note → Bool
@@ -30,12 +32,17 @@ failing_of_section part (x ∷ rows) =
       | false ↦ failing_of_section part rows
     ]
 
--- the failing notes of two sections are the failing rows of both
-failing_of_two : (one other : Section) (xs ys : List Row)
-    → filter note_fails (in_section one xs ++ in_section other ys) ≡ in_section one (filter fails xs) ++ in_section other (filter fails ys)
-failing_of_two one other xs ys =
-    filter-append note_fails (in_section one xs) (in_section other ys)
-    ∙ ap₂ (λ (ns ms : List Note). ns ++ ms) (failing_of_section one xs) (failing_of_section other ys)
+-- the failing conditions of a bound are its failing rows
+failing_of_bound-is : (plan : Plan) (p : ℕ) (bound : Option Bound) → filter note_fails (bound_conditions plan p bound) ≡ failing_of_bound plan p bound
+failing_of_bound-is plan p None = refl
+failing_of_bound-is plan p (Some bound) = failing_of_section (bound_section p bound) (bound_rows plan p bound)
+
+-- the failing conditions of a bound and of another section are the failing rows of both
+failing_of_pool : (plan : Plan) (p : ℕ) (bound : Option Bound) (other : Section) (rows : List Row)
+    → filter note_fails (bound_conditions plan p bound ++ in_section other rows) ≡ failing_of_bound plan p bound ++ in_section other (filter fails rows)
+failing_of_pool plan p bound other rows =
+    filter-append note_fails (bound_conditions plan p bound) (in_section other rows)
+    ∙ ap₂ (λ (ns ms : List Note). ns ++ ms) (failing_of_bound-is plan p bound) (failing_of_section other rows)
 
 -- the conditions of the ranks and of the first i pools
 abbrev pub conditions_to : Plan → Cert → ℕ → List Note
@@ -73,7 +80,7 @@ one_more_after prefix notes_at xs i inside =
 -- if a certificate fits the plan, each of its pool parts fits the plan, and the number of the part is that of a pool of the
 -- plan
 pub part_fits : (plan : Plan) (cert : Cert) (i : ℕ) (pool : PoolCert) → IsTrue (cert_fits plan cert) → i < length cert.pools → pool ≡ get_or cert.pools i pool
-    → IsTrue (pool_cert_fits plan pool) × (i < length plan.pools)
+    → IsTrue (pool_cert_fits plan i pool) × (i < length plan.pools)
 part_fits plan cert i pool fits inside here =
     let within : i < length plan.pools = omega (arith, as_many_parts plan cert fits) in
     let same : pool_cert_at cert i ≡ pool = get_or_default cert.pools i no_pool_cert pool inside ∙ sym here in
@@ -81,17 +88,16 @@ part_fits plan cert i pool fits inside here =
 
 pub notes_continue : (plan : Plan) (cert : Cert) (notes more : List Note) (i : ℕ) (pool : PoolCert) → IsTrue (cert_fits plan cert) → i < length cert.pools → pool ≡ get_or cert.pools i pool
     → more
-    ≡ notes ++ in_section (bound_section i pool.bound) (filter fails (bound_rows plan i pool.bound))
+    ≡ notes ++ failing_of_bound plan i pool.bound
     ++ in_section (section.Blocked i) (filter fails (blocked_rows plan i (is_counted plan cert.ranks) pool.blocked))
     → NotesTo plan cert notes i → NotesTo plan cert more (i + 1)
 notes_continue plan cert notes more i pool fits inside here added prior =
-    let of_bound = bound_rows plan i pool.bound in
     let of_blocked = blocked_rows plan i (is_counted plan cert.ranks) pool.blocked in
-    let conditions = in_section (bound_section i pool.bound) of_bound ++ in_section (section.Blocked i) of_blocked in
+    let conditions = bound_conditions plan i pool.bound ++ in_section (section.Blocked i) of_blocked in
     let same : pool_conditions plan cert i ≡ conditions =
-    ap (λ (p : PoolCert). in_section (bound_section i p.bound) (bound_rows plan i p.bound) ++ in_section (section.Blocked i) (blocked_rows plan i (is_counted plan cert.ranks) p.blocked))
+    ap (λ (p : PoolCert). bound_conditions plan i p.bound ++ in_section (section.Blocked i) (blocked_rows plan i (is_counted plan cert.ranks) p.blocked))
     (get_or_default cert.pools i no_pool_cert pool inside ∙ sym here) in
     let grown = one_more_after (in_section section.Ranks (rank_rows plan cert.ranks)) (pool_conditions plan cert) plan.pools i (part_fits plan cert i pool fits inside here).1 in
     let collected : filter note_fails (conditions_to plan cert (i + 1)) ≡ filter note_fails (conditions_to plan cert i) ++ filter note_fails conditions =
     ap (filter note_fails) (grown ∙ ap (λ (ns : List Note). conditions_to plan cert i ++ ns) same) ∙ filter-append note_fails (conditions_to plan cert i) conditions in
-    record { collected = added ∙ append_assoc notes _ _ ∙ ap₂ (λ (ns ms : List Note). ns ++ ms) prior.collected (sym (failing_of_two (bound_section i pool.bound) (section.Blocked i) of_bound of_blocked)) ∙ sym collected }
+    record { collected = added ∙ append_assoc notes _ _ ∙ ap₂ (λ (ns ms : List Note). ns ++ ms) prior.collected (sym (failing_of_pool plan i pool.bound (section.Blocked i) of_blocked)) ∙ sym collected }

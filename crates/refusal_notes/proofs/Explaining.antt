@@ -4,13 +4,13 @@ use Rattle.std.specs.List.{enumerate_from}
 use Rattle.std.proofs.lemmas.List.{take_all}
 use Rattle.job_bodies.specs.Plan.{Plan, Pool}
 use Rattle.weights.specs.Row.{fails}
-use Rattle.weights.specs.Bound.{bound_rows}
 use Rattle.weights.specs.Blocked.{blocked_rows}
 use Rattle.weights.specs.Ranks.{is_counted, rank_rows}
 use Rattle.cert_text.specs.Cert.{PoolCert, Cert, cert_fits}
 use Rattle.soundness.specs.declared.note.Section.TheVariants as section
 use Rattle.soundness.specs.declared.note.Note.{Note}
-use Rattle.soundness.specs.Conditions.{in_section, bound_section, pool_conditions, failing}
+use Rattle.soundness.specs.Conditions.{in_section, pool_conditions, failing}
+use Rattle.refusal_notes.specs.FailingRows.{failing_of_bound}
 use Rattle.refusal_notes.specs.Line.{line}
 use Rattle.refusal_notes.specs.Explanation.{lines}
 use Rattle.refusal_notes.proofs.CollectedNotes.{note_fails, NotesTo, notes_begin, notes_continue}
@@ -35,7 +35,7 @@ lines_begin plan cert first text count notes ranks is many = record { notes = no
 pub lines_continue : (plan : Plan) (cert : Cert) (first text text' : List ℕ) (count count' i : ℕ) (pool : PoolCert) (more : List Note)
     → IsTrue (cert_fits plan cert) → i < length cert.pools → pool ≡ get_or cert.pools i pool
     → more
-    ≡ in_section (bound_section i pool.bound) (filter fails (bound_rows plan i pool.bound))
+    ≡ failing_of_bound plan i pool.bound
     ++ in_section (section.Blocked i) (filter fails (blocked_rows plan i (is_counted plan cert.ranks) pool.blocked))
     → text' ≡ text ++ lines plan more → count' ≡ count + length more → LinesTo plan cert first text count i → LinesTo plan cert first text' count' (i + 1)
 lines_continue plan cert first text text' count count' i pool more fits inside here is collected many prior =

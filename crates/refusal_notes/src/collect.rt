@@ -1,6 +1,6 @@
 //! The failing conditions of a certificate, as notes. Each note belongs to a section: the ranks, or
 //! one vector of a pool. The *bound* of a pool is the standing or lifetime vector that bounds its
-//! queue.
+//! queue. A pool that may reject jobs need not have one.
 
 ghost use Rattle.std.specs.Prelude.{◌≡◌, ◌<◌, ◌++◌, IsTrue, IfOk, OnOk, filter, length};
 ghost use Rattle.weights.specs.Bound.{bound_vector, bound_rows};
@@ -8,9 +8,10 @@ ghost use Rattle.weights.specs.Row.{fails};
 ghost use Rattle.weights.specs.Vector.{vector_fits};
 ghost use Rattle.weights.specs.Blocked.{blocked_rows};
 ghost use Rattle.weights.specs.Ranks.{is_counted, rank_rows, ranks_fit};
-ghost use Rattle.cert_text.specs.Cert.{pool_cert_fits, cert_fits};
+ghost use Rattle.cert_text.specs.Cert.{bound_fits, pool_cert_fits, cert_fits};
 ghost use Rattle.soundness.specs.declared.note.Section.TheVariants as section;
 ghost use Rattle.soundness.specs.Conditions.{bound_section, failing, in_section};
+ghost use Rattle.refusal_notes.specs.FailingRows.{failing_of_bound};
 
 use crate::failing_rows::FailingRows;
 use crate::{Note, Section};
@@ -45,8 +46,8 @@ fn section_of(pool: usize, bound: &Bound) -> Section
     }
 }
 
-/// Appends the failing conditions of the pool's bound.
-fn push_bound_notes(
+/// Appends the failing conditions of the standing or lifetime vector of the pool.
+fn push_vector_notes(
     alloc: Global,
     notes: &mut Vec<Note>,
     plan: &Plan,
@@ -61,6 +62,24 @@ fn push_bound_notes(
     let mut found = FailingRows::new(alloc);
     bound.visit_rows(plan, pool, &mut found);
     found.push_notes(notes, section_of(pool, bound))
+}
+
+/// Appends the failing conditions of the pool's bound. There are none if the pool has no bound.
+fn push_bound_notes(
+    alloc: Global,
+    notes: &mut Vec<Note>,
+    plan: &Plan,
+    pool: usize,
+    bound: &Option<Bound>,
+) -> Result<(), AllocError>
+    requires fits { IsTrue (bound_fits plan.now pool bound.now) }
+    requires pool { pool < length plan.now.pools }
+    ensures { OnOk result (notes.new.items ≡ notes.old.items ++ failing_of_bound plan.now pool bound.now) }
+{
+    match bound {
+        Some(bound) => push_vector_notes(alloc, notes, plan, pool, bound),
+        None => Ok(()),
+    }
 }
 
 /// Appends the failing conditions of the pool's blocked vector.
@@ -94,9 +113,9 @@ pub(crate) fn push_pool_notes(
     pool: &PoolCert,
 ) -> Result<(), AllocError>
     requires ranks { IsTrue (ranks_fit plan.now ranks.now) }
-    requires fits { IsTrue (pool_cert_fits plan.now pool.now) }
+    requires fits { IsTrue (pool_cert_fits plan.now number pool.now) }
     requires number { number < length plan.now.pools }
-    ensures { let of_bound = in_section (bound_section number pool.now.bound) (filter fails (bound_rows plan.now number pool.now.bound)) in
+    ensures { let of_bound = failing_of_bound plan.now number pool.now.bound in
         let of_blocked = in_section (section.Blocked number) (filter fails (blocked_rows plan.now number (is_counted plan.now ranks.now) pool.now.blocked)) in
         OnOk result (notes.new.items ≡ notes.old.items ++ of_bound ++ of_blocked) }
 {

@@ -11,7 +11,7 @@ use Rattle.written_machine.specs.declared.event.Outcome.{Outcome}
 use Rattle.written_machine.specs.State.{Stage, State, CreatedJob, PoolPart, no_pool_part, no_job, job_at, pool_part, pool_of, threads}
 use Rattle.written_machine.specs.Step.{step, moved_jobs}
 use Rattle.written_machine.specs.Reach.{start, IsReached}
-use Rattle.written_machine.proofs.Events.{Happens, works, starts, queues, is_refused, gets, finishes, loops, takes, retires, happens}
+use Rattle.written_machine.proofs.Events.{Happens, works, starts, queues, is_refused, is_rejected, gets, finishes, loops, takes, retires, happens}
 use Rattle.written_machine.proofs.InvariantAtStart.{pool_part_at_start}
 use Rattle.written_machine.proofs.Queues.{pool_exists}
 use Rattle.written_machine.proofs.Reached.{kept}
@@ -91,7 +91,8 @@ queue_happens plan s s' o e p kept (queues a body i k at core room) =
     ap (λ (class : ℕ). is_of_pool p (counts_of plan after (pool_of plan class))) made ∙ counts_there plan after p q exists in
     queue_where p q (λ n. (pool_part s n).queue) (λ n. (pool_part s n).queue ++ j ∷ []) (is_of_pool p (counts_of plan after (pool_of plan (job_at after j).class))) is_test
     ∙ put_changes s.pools q p (record { queue = (pool_part s q).queue ++ j ∷ []; idle = (pool_part s q).idle }) (is_of_pool p (counts_of plan after (pool_of plan (job_at after j).class))) ((pool_part s q).queue ++ j ∷ []) inside is_test refl
-queue_happens plan s s' o e p kept (is_refused a body i k at no_room all) = refl
+queue_happens plan s s' o e p kept (is_refused a body i k at must no_room all) = refl
+queue_happens plan s s' o e p kept (is_rejected a body i k at may) = refl
 queue_happens plan s s' o e p kept (gets a body i t j at is_child done) = refl
 queue_happens plan s s' o e p kept (finishes j body i at) =
     let q = pool_of plan (job_at s j).class in

@@ -21,7 +21,7 @@ use Rattle.written_machine.specs.Reach.{start, state_after, IsReached}
 use Rattle.written_machine.proofs.Queues.{pool_exists}
 use Rattle.written_machine.proofs.Reached.{kept}
 use Rattle.written_machine.proofs.StateInvariant.{StateInvariant}
-use Rattle.written_machine.proofs.Events.{Happens, works, starts, queues, is_refused, gets, finishes, loops, takes, retires, happens}
+use Rattle.written_machine.proofs.Events.{Happens, works, starts, queues, is_refused, is_rejected, gets, finishes, loops, takes, retires, happens}
 use Rattle.interleaving.specs.declared.job_view.Phase.TheVariants as phase
 use Rattle.interleaving.specs.LiveView.{live_view}
 use Rattle.interleaving.specs.ViewStep.{no_pool_view}
@@ -75,7 +75,8 @@ made_unfinished plan s s' o (starts a body i k at room) =
     ap (λ (job : CreatedJob). is_unfinished job.stage) (made_last (moved_jobs a (i + 1) s) (length s.jobs) (record { class = k; parent = a; slot = i; stage = Stage.At 0 }) (length-moved a (i + 1) s))
 made_unfinished plan s s' o (queues a body i k at core room) =
     ap (λ (job : CreatedJob). is_unfinished job.stage) (made_last (moved_jobs a (i + 1) s) (length s.jobs) (record { class = k; parent = a; slot = i; stage = Stage.Queued }) (length-moved a (i + 1) s))
-made_unfinished plan s s' o (is_refused a body i k at no_room all) = tt
+made_unfinished plan s s' o (is_refused a body i k at must no_room all) = tt
+made_unfinished plan s s' o (is_rejected a body i k at may) = tt
 made_unfinished plan s s' o (gets a body i t j at is_child done) = tt
 made_unfinished plan s s' o (finishes j body i at) = tt
 made_unfinished plan s s' o (loops c client body i at is_client repeats) = tt
@@ -91,7 +92,8 @@ taken_unfinished : (plan : Plan) (s s' : State) (o : Outcome) {e : Event} → St
 taken_unfinished plan s s' o kept (works a body i u at) = tt
 taken_unfinished plan s s' o kept (starts a body i k at room) = tt
 taken_unfinished plan s s' o kept (queues a body i k at core room) = tt
-taken_unfinished plan s s' o kept (is_refused a body i k at no_room all) = tt
+taken_unfinished plan s s' o kept (is_refused a body i k at must no_room all) = tt
+taken_unfinished plan s s' o kept (is_rejected a body i k at may) = tt
 taken_unfinished plan s s' o kept (gets a body i t j at is_child done) = tt
 taken_unfinished plan s s' o kept (finishes j body i at) = tt
 taken_unfinished plan s s' o kept (loops c client body i at is_client repeats) = tt
@@ -106,6 +108,7 @@ taken_shown_of : (plan : Plan) (s : State) (o : Outcome) → TakenIsUnfinished s
 taken_shown_of plan s (outcome.Started j) live = refl
 taken_shown_of plan s (outcome.Queued j) live = refl
 taken_shown_of plan s (outcome.Refused p) live = refl
+taken_shown_of plan s (outcome.Rejected p j) live = refl
 taken_shown_of plan s (outcome.Worked u) live = refl
 taken_shown_of plan s (outcome.Got j) live = refl
 taken_shown_of plan s outcome.Looped live = refl
@@ -152,6 +155,7 @@ pool_shown_of : (plan : Plan) (s : State) (a : Actor) (o : Outcome) → MadeIsUn
 pool_shown_of plan s a (outcome.Started j) live = ap (λ (class : ℕ). Some (pool_of plan class)) (class_shown plan s j live)
 pool_shown_of plan s a (outcome.Queued j) live = ap (λ (class : ℕ). Some (pool_of plan class)) (class_shown plan s j live)
 pool_shown_of plan s a (outcome.Refused p) live = refl
+pool_shown_of plan s a (outcome.Rejected p j) live = refl
 pool_shown_of plan s a (outcome.Worked u) live = refl
 pool_shown_of plan s a (outcome.Got j) live = refl
 pool_shown_of plan s a outcome.Looped live = refl

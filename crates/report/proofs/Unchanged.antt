@@ -26,13 +26,14 @@ same_pool declared fit same none =
     let queue : fit.queue ≡ declared.queue = same_size declared.queue fit.queue (omega (arith, none)) in
     let name : fit.name ≡ declared.name = ap (λ (pool : Pool). pool.name) same in
     let prestart : fit.prestart ≡ declared.prestart = ap (λ (pool : Pool). pool.prestart) same in
-    by_fields declared.name fit.name declared.core fit.core declared.max fit.max declared.queue fit.queue declared.prestart fit.prestart name core max queue prestart
+    let may_reject : fit.may_reject ≡ declared.may_reject = ap (λ (pool : Pool). pool.may_reject) same in
+    by_fields declared.name fit.name declared.core fit.core declared.max fit.max declared.queue fit.queue declared.prestart fit.prestart declared.may_reject fit.may_reject name core max queue prestart may_reject
   where
-    pool_of : List ℕ → ℕ → ℕ → ℕ → Bool → Pool
-    pool_of name core max queue prestart = record { name = name; core = core; max = max; queue = queue; prestart = prestart }
+    pool_of : List ℕ → ℕ → ℕ → ℕ → Bool → Bool → Pool
+    pool_of name core max queue prestart may_reject = record { name = name; core = core; max = max; queue = queue; prestart = prestart; may_reject = may_reject }
 
-    by_fields : (n n' : List ℕ) (c c' m m' q q' : ℕ) (p p' : Bool) → n' ≡ n → c' ≡ c → m' ≡ m → q' ≡ q → p' ≡ p → pool_of n' c' m' q' p' ≡ pool_of n c m q p
-    by_fields n n' c c' m m' q q' p p' name core max queue prestart = rw (name, core, max, queue, prestart) refl
+    by_fields : (n n' : List ℕ) (c c' m m' q q' : ℕ) (p p' r r' : Bool) → n' ≡ n → c' ≡ c → m' ≡ m → q' ≡ q → p' ≡ p → r' ≡ r → pool_of n' c' m' q' p' r' ≡ pool_of n c m q p r
+    by_fields n n' c c' m m' q q' p p' r r' name core max queue prestart may_reject = rw (name, core, max, queue, prestart, may_reject) refl
 
 same_pools : (declared fit : List Pool) → map bare fit ≡ map bare declared → sum_by both_changes (zip declared fit) ≡ 0 → fit ≡ declared
 same_pools [] [] same none = refl

@@ -1,5 +1,5 @@
 -- The text of an answer.
-use Rattle.std.specs.Prelude.{◌≡◌, List, ℕ, [], ◌∷◌, ◌++◌, codes}
+use Rattle.std.specs.Prelude.{◌≡◌, List, ℕ, [], ◌∷◌, ◌++◌, codes, Option}
 use Rattle.job_bodies.specs.Plan.{Plan}
 use Rattle.cert_text.specs.Cert.{Cert}
 use Rattle.counterexample.specs.declared.witness.Witness.{Witness}
@@ -32,8 +32,8 @@ sizes_part plan (Found fit cert) = fit_part plan fit
 sizes_part plan (NotFound cause) = no_sizes_text plan cause
 
 -- the answer, and then the lines for each pool
-abbrev pub TellsSafe : Plan → Cert → List ℕ → Type 0
-TellsSafe plan cert text = text ≡ safe_head ++ safe_text plan cert
+abbrev pub TellsSafe : Plan → Cert → List (Option ℕ) → List ℕ → Type 0
+TellsSafe plan cert rejections text = text ≡ safe_head ++ safe_text plan cert rejections
 
 -- the answer, the witness's story, the sizes, and the advice for them
 pub record TellsNotSafe (plan : Plan) (witness : Witness) (sizes : SizesFound) (text : List ℕ) : Type 0 where
@@ -47,6 +47,6 @@ TellsNotDecided plan sizes text = text ≡ ((not_decided_head ++ sizes_part plan
 
 -- the text reports the finding
 abbrev pub Tells : Plan → PlanFinding → List ℕ → Type 0
-Tells plan (Safe cert) text = TellsSafe plan cert text
+Tells plan (Safe cert rejections) text = TellsSafe plan cert rejections.items text
 Tells plan (NotSafe witness sizes) text = TellsNotSafe plan witness sizes text
 Tells plan (NotDecided sizes) text = TellsNotDecided plan sizes text

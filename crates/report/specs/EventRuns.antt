@@ -2,7 +2,7 @@
 use Rattle.std.specs.Prelude.{ℕ, ◌+◌, ◌==◌, ◌&&◌, Bool, true, false, if◌then◌else◌, List, [], ◌∷◌, Option, Some, None}
 use Rattle.job_bodies.specs.Plan.{Plan}
 use Rattle.written_machine.specs.declared.event.Outcome.{Outcome}
-use Rattle.written_machine.specs.declared.event.Outcome.TheVariants.{Started, Queued, Worked, Looped}
+use Rattle.written_machine.specs.declared.event.Outcome.TheVariants.{Started, Queued, Rejected, Worked, Looped}
 use Rattle.written_machine.specs.State.{State, pool_part}
 use Rattle.report.specs.declared.event_steps.Actor.{Actor}
 use Rattle.report.specs.declared.event_steps.Actor.TheVariants.{Client}
@@ -47,6 +47,7 @@ is_same_action _ _ = false
 abbrev pub is_later_outcome : Outcome → ℕ → Outcome → Bool
 is_later_outcome (Started j) n (Started j') = j' == j + n
 is_later_outcome (Queued j) n (Queued j') = j' == j + n
+is_later_outcome (Rejected p j) n (Rejected p' j') = j' == j + n
 is_later_outcome (Worked u) n (Worked u') = true
 is_later_outcome Looped n Looped = true
 is_later_outcome _ n _ = false

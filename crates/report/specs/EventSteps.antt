@@ -1,10 +1,10 @@
--- What an event did: the actor, the action, the outcome, the pool that it changed or that refused, and the class of the job that it took.
+-- What an event did: the actor, the action, the outcome, the pool that it changed or that refused or rejected a job, and the class of the job that it took.
 use Rattle.std.specs.Prelude.{ℕ, Option, Some, None, slice_get, option_map, option_and_then}
 use Rattle.job_bodies.specs.Plan.{Plan}
 use Rattle.written_machine.specs.declared.event.Event.{Event}
 use Rattle.written_machine.specs.declared.event.Event.TheVariants as event
 use Rattle.written_machine.specs.declared.event.Outcome.{Outcome}
-use Rattle.written_machine.specs.declared.event.Outcome.TheVariants.{Started, Queued, Refused, Worked, Got, Finished, Took, Retired}
+use Rattle.written_machine.specs.declared.event.Outcome.TheVariants.{Started, Queued, Refused, Rejected, Worked, Got, Finished, Took, Retired}
 use Rattle.written_machine.specs.State.{Stage, State, job_at, pool_part, pool_of, client_state, threads}
 use Rattle.written_machine.specs.Reach.{start}
 use Rattle.report.specs.declared.event_steps.Actor.{Actor}
@@ -41,6 +41,7 @@ abbrev pub action_of : Outcome → ℕ → Option ℕ
 action_of (Started j) i = Some i
 action_of (Queued j) i = Some i
 action_of (Refused p) i = Some i
+action_of (Rejected p j) i = Some i
 action_of (Worked u) i = Some i
 action_of (Got j) i = Some i
 action_of _ i = None
@@ -53,11 +54,12 @@ pool_of_actor plan (Client kind c) = None
 pool_of_actor plan (Job class j) = Some (pool_of plan class)
 pool_of_actor plan (Pool p) = Some p
 
--- the pool that the event changed or that refused, given the state after the event; None if there is none
+-- the pool that the event changed or that refused or rejected a job, given the state after the event; None if there is none
 abbrev pub changed_pool : Plan → State → Actor → Outcome → Option ℕ
 changed_pool plan after actor (Started j) = Some (pool_of plan (job_at after j).class)
 changed_pool plan after actor (Queued j) = Some (pool_of plan (job_at after j).class)
 changed_pool plan after actor (Refused p) = Some p
+changed_pool plan after actor (Rejected p j) = Some p
 changed_pool plan after actor (Finished j) = pool_of_actor plan actor
 changed_pool plan after actor (Took j) = pool_of_actor plan actor
 changed_pool plan after actor Retired = pool_of_actor plan actor

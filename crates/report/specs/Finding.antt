@@ -1,9 +1,11 @@
 -- The finding about a plan on which an answer rests.
-use Rattle.std.specs.Prelude.{◌≡◌, ◌≢◌, false, IsTrue}
+use Rattle.std.specs.Prelude.{◌≡◌, ◌≢◌, ℕ, false, List, length, slice_index_or, Option, None, IfSome, IsTrue}
 use Rattle.job_bodies.specs.Plan.{Plan}
+use Rattle.written_machine.specs.declared.event.Event.{Event}
 use Rattle.cert_text.specs.Cert.{Cert}
 use Rattle.soundness.specs.Accepted.{accepted}
 use Rattle.size_search.specs.Steady.{steady_cert}
+use Rattle.counterexample.specs.Rejection.{EndsRejected}
 use Rattle.counterexample.specs.Witness.{IsWitness}
 use Rattle.size_search.specs.Sized.{IsFound}
 use Rattle.size_search.specs.Decided.{IsDecided}
@@ -23,9 +25,19 @@ pub record IsOpen (plan : Plan) (sizes : SizesFound) : Type 0 where
   pub not_steady : accepted plan (steady_cert plan) ≡ false
   pub others : (cert : Cert) → sizes ≢ Found plan cert
 
--- the finding is true of the plan: a certificate accepts it; or it has a witness, and the result for other sizes is true; or
+-- n events lead from the plan's start to the first job that pool p rejects
+pub record RejectsAfter (plan : Plan) (p n : ℕ) : Type 0 where
+  pub events : List Event
+  pub count : length events ≡ n
+  pub ends : EndsRejected plan events p
+
+-- each number of the list is the number of events after which the pool rejects a job
+abbrev pub AreRejections : Plan → List (Option ℕ) → Type 0
+AreRejections plan rejections = (p : ℕ) → IfSome (slice_index_or rejections p None) (RejectsAfter plan p)
+
+-- the finding is true of the plan: a certificate accepts it, and the numbers of events are those of rejections; or it has a witness, and the result for other sizes is true; or
 -- neither was found, and the result for other sizes is true
 abbrev pub IsFinding : Plan → PlanFinding → Type 0
-IsFinding plan (Safe cert) = IsTrue (accepted plan cert)
+IsFinding plan (Safe cert rejections) = IsTrue (accepted plan cert) × AreRejections plan rejections.items
 IsFinding plan (NotSafe witness sizes) = IsWitness plan witness.events.items witness.ending × IsKnown plan sizes
 IsFinding plan (NotDecided sizes) = IsOpen plan sizes

@@ -9,6 +9,7 @@ use Rattle.report.specs.declared.annotation.Rule.TheVariants.{Fault, MoreFaults,
 use Rattle.report.specs.Annotations.{Remark, rule_name}
 use Rattle.job_bodies.specs.Plan.{Plan}
 use Rattle.diagnostics.specs.declared.warnings.Warning.{Warning as PlanWarning}
+use Rattle.diagnostics.specs.Lints.{is_note}
 use Rattle.diagnostics.specs.declared.entry_places.PlanPlaces.{PlanPlaces}
 use Rattle.report.specs.declared.finding.PlanFinding.{PlanFinding}
 use Rattle.report.specs.Remarks.{AreRemarks}
@@ -17,7 +18,7 @@ use Rattle.report.specs.Remarks.{AreRemarks}
 abbrev pub command : Rule → List ℕ
 command (Fault number) = codes "error"
 command MoreFaults = codes "error"
-command (Warning lint) = codes "warning"
+command (Warning lint) = if is_note lint then codes "notice" else codes "warning"
 command Safe = codes "notice"
 command NotSafe = codes "error"
 command NotDecided = codes "warning"

@@ -54,7 +54,7 @@ answer_data word file parts =
 -- ---- a finding
 
 abbrev pub word_of : PlanFinding → List ℕ
-word_of (Safe cert) = codes "SAFE"
+word_of (Safe cert rejections) = codes "SAFE"
 word_of (NotSafe witness sizes) = codes "NOT SAFE"
 word_of (NotDecided sizes) = codes "NOT DECIDED"
 
@@ -67,24 +67,24 @@ safe_assumptions =
     (item (string (codes "No timed get expires, no future is cancelled, and no exception leaves a body with an open future, except with permits.")) no_items))))
 
 abbrev pub assumptions_data : PlanFinding → Data
-assumptions_data (Safe cert) = safe_assumptions
+assumptions_data (Safe cert rejections) = safe_assumptions
 assumptions_data (NotSafe witness sizes) = array (items_of [])
 assumptions_data (NotDecided sizes) = array (items_of [])
 
 -- the pools, with the bounds of the certificate that accepts the plan
 abbrev pub pools_of : Plan → PlanFinding → Data
-pools_of plan (Safe cert) = pools_data plan cert.pools
-pools_of plan (NotSafe witness sizes) = pools_data plan []
-pools_of plan (NotDecided sizes) = pools_data plan []
+pools_of plan (Safe cert rejections) = pools_data plan cert.pools rejections.items
+pools_of plan (NotSafe witness sizes) = pools_data plan [] []
+pools_of plan (NotDecided sizes) = pools_data plan [] []
 
 -- the result of the search for other sizes
 abbrev pub sizes_of : PlanPlaces → Plan → PlanFinding → Data
-sizes_of places plan (Safe cert) = null
+sizes_of places plan (Safe cert rejections) = null
 sizes_of places plan (NotSafe witness sizes) = sizes_data places plan sizes
 sizes_of places plan (NotDecided sizes) = sizes_data places plan sizes
 
 abbrev pub witness_of : PlanPlaces → Plan → PlanFinding → Data
-witness_of places plan (Safe cert) = null
+witness_of places plan (Safe cert rejections) = null
 witness_of places plan (NotSafe witness sizes) = witness_data places plan witness
 witness_of places plan (NotDecided sizes) = null
 

@@ -7,7 +7,7 @@ use Rattle.plan_text.specs.declared.place.TextPlace.{TextPlace}
 use Rattle.diagnostics.specs.declared.entry_places.PlanPlaces.{PlanPlaces}
 use Rattle.written_machine.specs.declared.event.Event.{Event}
 use Rattle.written_machine.specs.declared.event.Outcome.{Outcome}
-use Rattle.written_machine.specs.declared.event.Outcome.TheVariants.{Started, Queued, Refused, Worked, Got, Looped, Finished, Took, Retired}
+use Rattle.written_machine.specs.declared.event.Outcome.TheVariants.{Started, Queued, Refused, Rejected, Worked, Got, Looped, Finished, Took, Retired}
 use Rattle.report.specs.declared.event_steps.Actor.{Actor}
 use Rattle.report.specs.declared.event_steps.Actor.TheVariants.{Client, Job, Pool}
 use Rattle.report.specs.declared.event_steps.PoolCounts.{PoolCounts}
@@ -59,6 +59,7 @@ abbrev pub outcome_word : Outcome → List ℕ
 outcome_word (Started j) = codes "started"
 outcome_word (Queued j) = codes "queued"
 outcome_word (Refused p) = codes "refused"
+outcome_word (Rejected p j) = codes "rejected"
 outcome_word (Worked u) = codes "worked"
 outcome_word (Got j) = codes "got"
 outcome_word Looped = codes "looped"
@@ -70,6 +71,7 @@ outcome_word Retired = codes "retired"
 abbrev pub job_of : Outcome → Option ℕ
 job_of (Started j) = Some j
 job_of (Queued j) = Some j
+job_of (Rejected p j) = Some j
 job_of (Got j) = Some j
 job_of (Finished j) = Some j
 job_of (Took j) = Some j

@@ -1,5 +1,5 @@
 -- A plan as JSON: its text, and its pools, classes and client kinds with their places.
-use Rattle.std.specs.Prelude.{ℕ, Bool, if◌then◌else◌, List, [], map, codes, Option}
+use Rattle.std.specs.Prelude.{ℕ, Bool, true, if◌then◌else◌, List, [], map, codes, Option}
 use Rattle.std.specs.List.{enumerate_from}
 use Rattle.std.specs.Str.{is_utf8}
 use Rattle.serde_json.specs.Data.{Data, null, boolean, number, unsigned, string, array, object, member, no_members}
@@ -67,6 +67,18 @@ pool_data place pool =
     (member (codes "prestart") (boolean pool.prestart)
     (member (codes "queue") (number (unsigned pool.queue)) no_members)))))))
 
+-- a pool that may reject jobs
+unfoldable pub rejecting_data : Option TextPlace → Pool → Data
+rejecting_data place pool =
+    object (member (codes "column") (column_data place)
+    (member (codes "core") (number (unsigned pool.core))
+    (member (codes "line") (line_data place)
+    (member (codes "max") (number (unsigned pool.max))
+    (member (codes "may_reject") (boolean true)
+    (member (codes "name") (string pool.name)
+    (member (codes "prestart") (boolean pool.prestart)
+    (member (codes "queue") (number (unsigned pool.queue)) no_members))))))))
+
 unfoldable pub class_data : Option TextPlace → List ℕ → List ℕ → Data → Data
 class_data place name pool body =
     object (member (codes "body") body
@@ -84,8 +96,11 @@ client_data place client body =
     (member (codes "name") (string client.name)
     (member (codes "repeat") (boolean client.repeat) no_members))))))
 
+abbrev pub placed_pool : Option TextPlace → Pool → Data
+placed_pool place pool = if pool.may_reject then rejecting_data place pool else pool_data place pool
+
 abbrev pub pool_entry : List PoolPlaces → ℕ × Pool → Data
-pool_entry places (p, pool) = pool_data (pool_places_at places p).name pool
+pool_entry places (p, pool) = placed_pool (pool_places_at places p).name pool
 
 abbrev pub class_entry : Plan → List BodyPlaces → ℕ × Class → Data
 class_entry plan places (k, class) = class_data (name_place places k) class.name (pool_at plan class.pool).name (body_data plan places k class.body)

@@ -1,5 +1,5 @@
 -- The pools of an answer as JSON: their sizes, and the bounds and the shares that a certificate gives.
-use Rattle.std.specs.Prelude.{ℕ, ◌-◌, ◌==◌, if◌then◌else◌, List, [], ◌∷◌, map, flat_map, codes, Option, Some, None, slice_get}
+use Rattle.std.specs.Prelude.{ℕ, ◌-◌, ◌==◌, true, if◌then◌else◌, List, [], ◌∷◌, map, flat_map, codes, Option, Some, None, slice_get}
 use Rattle.std.specs.List.{enumerate_from}
 use Rattle.serde_json.specs.Data.{Data, null, boolean, number, unsigned, string, array, object, member, no_members}
 use Rattle.serde_json.specs.View.{items_of}
@@ -10,7 +10,7 @@ use Rattle.weights.specs.declared.bound.Bound.{Bound}
 use Rattle.weights.specs.declared.bound.Bound.TheVariants.{Standing, Lifetime}
 use Rattle.cert_text.specs.Cert.{PoolCert}
 use Rattle.report.specs.Places.{total_of}
-use Rattle.report.specs.SafeText.{waited_names}
+use Rattle.report.specs.SafeText.{waited_names, rejection_at}
 use Rattle.report.specs.Shares.{client_shares, worker_shares}
 
 -- ---- the bound of a queue, and the shares in it
@@ -52,9 +52,14 @@ bound_object clients kind threads n =
 abbrev pub vector_data : Plan → List ℕ → Vector → Data
 vector_data plan kind v = bound_object (clients_data plan (client_shares plan v)) kind (threads_data plan (worker_shares plan v)) (total plan v)
 
--- the bound of the queue; null if the vector does not fit the plan
-abbrev pub bound_data : Plan → Bound → Data
-bound_data plan bound = if vector_fits plan (bound_vector bound) then vector_data plan (kind_of bound) (bound_vector bound) else null
+-- the bound of the queue; null if its vector does not fit the plan
+abbrev pub fitting_data : Plan → Bound → Data
+fitting_data plan bound = if vector_fits plan (bound_vector bound) then vector_data plan (kind_of bound) (bound_vector bound) else null
+
+-- the same; null if there is no bound
+abbrev pub bound_data : Plan → Option Bound → Data
+bound_data plan None = null
+bound_data plan (Some bound) = fitting_data plan bound
 
 -- ---- threads that wait
 
@@ -86,14 +91,39 @@ pool_object blocked bound pool waits_for =
     (member (codes "queue") (number (unsigned pool.queue))
     (member (codes "waits_for") waits_for no_members))))))))
 
+-- a pool that may reject jobs by the plan
+unfoldable pub rejecting_object : Data → Data → Pool → Data → Data → Data
+rejecting_object blocked bound pool rejects_after waits_for =
+    object (member (codes "blocked") blocked
+    (member (codes "bound") bound
+    (member (codes "core") (number (unsigned pool.core))
+    (member (codes "max") (number (unsigned pool.max))
+    (member (codes "may_reject") (boolean true)
+    (member (codes "name") (string pool.name)
+    (member (codes "prestart") (boolean pool.prestart)
+    (member (codes "queue") (number (unsigned pool.queue))
+    (member (codes "rejects_after") rejects_after
+    (member (codes "waits_for") waits_for no_members))))))))))
+
+-- the number of events after which a pool rejects a job; null if it is not known
+abbrev pub rejects_data : Option ℕ → Data
+rejects_data None = null
+rejects_data (Some events) = number (unsigned events)
+
+-- pool p, with what is known of it
+abbrev pub sized_pool : Plan → ℕ → Pool → Option ℕ → Data → Data → Data
+sized_pool plan p pool rejection blocked bound =
+    if pool.may_reject then rejecting_object blocked bound pool (rejects_data rejection) (waits_data plan p) else pool_object blocked bound pool (waits_data plan p)
+
 -- pool p, with the certificate's part for it if there is one
-abbrev pub pool_data : Plan → ℕ → Pool → Option PoolCert → Data
-pool_data plan p pool None = pool_object null null pool (waits_data plan p)
-pool_data plan p pool (Some part) = pool_object (blocked_data plan pool part.blocked) (bound_data plan part.bound) pool (waits_data plan p)
+abbrev pub pool_data : Plan → ℕ → Pool → Option ℕ → Option PoolCert → Data
+pool_data plan p pool rejection None = sized_pool plan p pool rejection null null
+pool_data plan p pool rejection (Some part) = sized_pool plan p pool rejection (blocked_data plan pool part.blocked) (bound_data plan part.bound)
 
-abbrev pub pool_entry : Plan → List PoolCert → ℕ × Pool → Data
-pool_entry plan parts (p, pool) = pool_data plan p pool (slice_get parts p)
+abbrev pub pool_entry : Plan → List PoolCert → List (Option ℕ) → ℕ × Pool → Data
+pool_entry plan parts rejections (p, pool) = pool_data plan p pool (rejection_at rejections p) (slice_get parts p)
 
--- the pools, with these parts of a certificate; none if no certificate accepts the plan
-abbrev pub pools_data : Plan → List PoolCert → Data
-pools_data plan parts = array (items_of (map (pool_entry plan parts) (enumerate_from 0 plan.pools)))
+-- the pools, with these parts of a certificate, and the numbers of events after which they reject jobs; none of both if no certificate
+-- accepts the plan
+abbrev pub pools_data : Plan → List PoolCert → List (Option ℕ) → Data
+pools_data plan parts rejections = array (items_of (map (pool_entry plan parts rejections) (enumerate_from 0 plan.pools)))

@@ -32,5 +32,6 @@ pub mod Sarif
 pub mod Page
 pub mod Story
 pub mod StorySeen
+pub mod SubmitsTo
 pub mod Description
 pub mod Uri

@@ -5,7 +5,7 @@ use Rattle.written_machine.specs.declared.client_state.ClientState.{ClientState}
 use Rattle.written_machine.specs.declared.event.Event.{Event}
 use Rattle.written_machine.specs.declared.event.Event.TheVariants as event
 use Rattle.written_machine.specs.declared.event.Outcome.{Outcome}
-use Rattle.written_machine.specs.declared.event.Outcome.TheVariants.{Started, Queued, Refused, Finished, Took, Retired}
+use Rattle.written_machine.specs.declared.event.Outcome.TheVariants.{Started, Queued, Refused, Rejected, Finished, Took, Retired}
 use Rattle.written_machine.specs.State.{State, pool_of}
 use Rattle.written_machine.specs.Step.{step}
 use Rattle.written_machine.specs.Reach.{IsReached}
@@ -63,6 +63,7 @@ abbrev pub changed_pool_seen : Plan → View → Actor → Outcome → Option �
 changed_pool_seen plan view actor (Started j) = Some (pool_of plan (class_seen view j))
 changed_pool_seen plan view actor (Queued j) = Some (pool_of plan (class_seen view j))
 changed_pool_seen plan view actor (Refused p) = Some p
+changed_pool_seen plan view actor (Rejected p j) = Some p
 changed_pool_seen plan view actor (Finished j) = pool_of_actor plan actor
 changed_pool_seen plan view actor (Took j) = pool_of_actor plan actor
 changed_pool_seen plan view actor Retired = pool_of_actor plan actor

@@ -53,9 +53,14 @@ abbrev pub most_part : Bound → Option ℕ → List ℕ
 most_part bound None = []
 most_part bound (Some n) = codes "\\n" ++ most_text bound n
 
+-- the bound of the queue; a pool without one may reject jobs
+abbrev pub bound_of : Plan → Option Bound → List ℕ
+bound_of plan None = codes "\\nmay reject"
+bound_of plan (Some bound) = most_part bound (total_of plan (bound_vector bound))
+
 abbrev pub bound_part : Plan → Option PoolCert → List ℕ
 bound_part plan None = []
-bound_part plan (Some part) = most_part part.bound (total_of plan (bound_vector part.bound))
+bound_part plan (Some part) = bound_of plan part.bound
 
 -- the name of the pool, its sizes, and its bound if it is known
 abbrev pub pool_label : Plan → Pool → Option PoolCert → List ℕ
@@ -166,6 +171,6 @@ graph_text plan parts ranks =
 
 -- the graph of a plan, with the bounds of its queues and the counted gets if a certificate accepts it
 abbrev pub picture_text : Plan → PlanFinding → List ℕ
-picture_text plan (Safe cert) = graph_text plan cert.pools (Some cert.ranks)
+picture_text plan (Safe cert rejections) = graph_text plan cert.pools (Some cert.ranks)
 picture_text plan (NotSafe witness sizes) = graph_text plan [] None
 picture_text plan (NotDecided sizes) = graph_text plan [] None

@@ -10,10 +10,12 @@ use Rattle.cert_text.specs.Cert.{Cert}
 abbrev pub total_of : Plan → Vector → Option ℕ
 total_of plan v = if vector_fits plan v then Some (total plan v) else None
 
--- the number of queue places that the bound shows to be enough: the total of a standing vector, and None for a lifetime vector
-abbrev pub places_of : Plan → Bound → Option ℕ
-places_of plan (Standing v) = total_of plan v
-places_of plan (Lifetime v) = None
+-- the number of queue places that the bound shows to be enough: the total of a standing vector, and None for a lifetime vector and without a
+-- bound
+abbrev pub places_of : Plan → Option Bound → Option ℕ
+places_of plan None = None
+places_of plan (Some (Standing v)) = total_of plan v
+places_of plan (Some (Lifetime v)) = None
 
 -- the number of queue places for each pool, in the certificate's order
 abbrev pub needed_places : Plan → Cert → List (Option ℕ)

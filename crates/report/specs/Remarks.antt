@@ -25,6 +25,7 @@ use Rattle.report.specs.AdviceText.{open_words}
 use Rattle.report.specs.Annotations.{Remark}
 use Rattle.report.specs.Cause.{cause_words}
 use Rattle.report.specs.JsonPlaces.{pool_places_at, cause_place}
+use Rattle.report.specs.SafeText.{safe_words}
 
 -- one remark, as a list
 abbrev pub one : Rule → List ℕ → Option TextPlace → List Remark
@@ -98,8 +99,8 @@ sizes_remarks r places plan (NotFound cause) = cause_remarks r places plan cause
 
 -- ---- findings
 
-abbrev pub safe_remarks : List Remark
-safe_remarks = one rule.Safe (codes "no submit is ever refused, and no jobs wait for each other forever") None
+abbrev pub safe_remarks : Cert → List Remark
+safe_remarks cert = one rule.Safe (safe_words cert) None
 
 abbrev pub not_decided_remarks : PlanPlaces → Plan → SizesFound → List Remark
 not_decided_remarks places plan sizes = one rule.NotDecided (open_words sizes) None ++ sizes_remarks rule.NotDecided places plan sizes
@@ -125,6 +126,6 @@ pub record AreNotSafe (places : PlanPlaces) (plan : Plan) (witness : Witness) (s
 
 -- a remark for each warning, and those about the finding
 abbrev pub AreRemarks : PlanPlaces → Plan → PlanFinding → List Warning → List Remark → Type 0
-AreRemarks places plan (Safe cert) warnings remarks = remarks ≡ warning_remarks warnings ++ safe_remarks
+AreRemarks places plan (Safe cert rejections) warnings remarks = remarks ≡ warning_remarks warnings ++ safe_remarks cert
 AreRemarks places plan (NotSafe witness sizes) warnings remarks = AreNotSafe places plan witness sizes warnings remarks
 AreRemarks places plan (NotDecided sizes) warnings remarks = remarks ≡ warning_remarks warnings ++ not_decided_remarks places plan sizes

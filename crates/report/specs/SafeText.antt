@@ -1,7 +1,7 @@
 -- The text for a plan that a certificate accepts: for each pool the bound of its queue, the shares in it, and the pools that
 -- its jobs wait for.
-use Rattle.std.specs.Prelude.{ℕ, ◌-◌, ◌==◌, if◌then◌else◌, List, [], ◌∷◌, ◌++◌, flat_map, codes, decimal, Option, Some, None, slice_get}
-use Rattle.std.specs.List.{enumerate_from, join_by}
+use Rattle.std.specs.Prelude.{ℕ, ◌-◌, ◌==◌, Bool, if◌then◌else◌, List, [], ◌∷◌, ◌++◌, flat_map, codes, decimal, Option, Some, None, is_none, slice_get, slice_index_or}
+use Rattle.std.specs.List.{enumerate_from, join_by, list_any}
 use Rattle.job_bodies.specs.Plan.{Pool, Plan, client_at, pool_at}
 use Rattle.weights.specs.Vector.{Vector, vector_fits, total}
 use Rattle.weights.specs.Bound.{bound_vector}
@@ -9,6 +9,7 @@ use Rattle.weights.specs.declared.bound.Bound.{Bound}
 use Rattle.weights.specs.declared.bound.Bound.TheVariants.{Standing, Lifetime}
 use Rattle.cert_text.specs.Cert.{PoolCert, Cert}
 use Rattle.report.specs.Shares.{client_shares, worker_shares}
+use Rattle.report.specs.SubmitsTo.{submits_text}
 use Rattle.report.specs.Waits.{waits_for}
 
 -- the parts, joined with commas
@@ -58,16 +59,30 @@ abbrev pub places_text : Plan → Bound → ℕ → List ℕ
 places_text plan bound n =
     if n == 0 then codes "no job waits in it" else most_text bound n ++ codes " (" ++ separated (share_texts plan (bound_vector bound)) ++ codes ")"
 
+-- what a bound means for a pool that may reject jobs by the plan
+abbrev pub never_text : Pool → List ℕ
+never_text pool = if pool.may_reject then codes "never rejects: " else []
+
 -- the bound of the queue, if the vector fits the plan
-abbrev pub queue_text : Plan → Pool → Bound → List ℕ
-queue_text plan pool bound =
+abbrev pub bounded_text : Plan → Pool → Bound → List ℕ
+bounded_text plan pool bound =
     if vector_fits plan (bound_vector bound)
-    then codes ", queue " ++ decimal pool.queue ++ codes ": " ++ places_text plan bound (total plan (bound_vector bound))
+    then codes ", queue " ++ decimal pool.queue ++ codes ": " ++ never_text pool ++ places_text plan bound (total plan (bound_vector bound))
     else []
 
+-- the number of events after which a pool rejects a job, if it is known
+abbrev pub rejects_text : Option ℕ → List ℕ
+rejects_text None = codes "may reject (not shown)"
+rejects_text (Some events) = codes "may reject: after " ++ decimal events ++ codes " events"
+
+-- the bound of the queue; a pool without one may reject jobs
+abbrev pub queue_text : Plan → Pool → Option ℕ → Option Bound → List ℕ
+queue_text plan pool rejection None = codes ", queue " ++ decimal pool.queue ++ codes ": " ++ rejects_text rejection
+queue_text plan pool rejection (Some bound) = bounded_text plan pool bound
+
 -- the pool's threads, and its queue
-abbrev pub bound_line : Plan → Pool → Bound → List ℕ
-bound_line plan pool bound = pool.name ++ codes ": " ++ threads_text pool ++ queue_text plan pool bound ++ 10 ∷ []
+abbrev pub bound_line : Plan → Pool → Option ℕ → Option Bound → List ℕ
+bound_line plan pool rejection bound = pool.name ++ codes ": " ++ threads_text pool ++ queue_text plan pool rejection bound ++ 10 ∷ []
 
 -- ---- pools that wait for pools
 
@@ -103,17 +118,35 @@ waits_line plan p pool blocked = codes "  " ++ pool.name ++ codes " waits for " 
 
 -- ---- the whole text
 
--- the two lines of a pool, if the certificate has a part for it
-abbrev pub part_lines : Plan → ℕ → Pool → Option PoolCert → List ℕ
-part_lines plan p pool None = []
-part_lines plan p pool (Some part) = bound_line plan pool part.bound ++ waits_line plan p pool part.blocked
+-- the submits to pool p, if it may reject jobs by the plan
+abbrev pub pool_submits : Plan → ℕ → Pool → List ℕ
+pool_submits plan p pool = if pool.may_reject then submits_text plan p else []
 
-abbrev pub pool_lines : Plan → Cert → ℕ × Pool → List ℕ
-pool_lines plan cert (p, pool) = part_lines plan p pool (slice_get cert.pools p)
+-- the lines of pool p, if the certificate has a part for it
+abbrev pub part_lines : Plan → ℕ → Pool → Option ℕ → Option PoolCert → List ℕ
+part_lines plan p pool rejection None = []
+part_lines plan p pool rejection (Some part) = bound_line plan pool rejection part.bound ++ (waits_line plan p pool part.blocked ++ pool_submits plan p pool)
 
-abbrev pub pools_text : Plan → Cert → List ℕ
-pools_text plan cert = flat_map (pool_lines plan cert) (enumerate_from 0 plan.pools)
+-- the number of events after which pool p rejects a job; None if it is not known
+abbrev pub rejection_at : List (Option ℕ) → ℕ → Option ℕ
+rejection_at rejections p = slice_index_or rejections p None
+
+abbrev pub pool_lines : Plan → Cert → List (Option ℕ) → ℕ × Pool → List ℕ
+pool_lines plan cert rejections (p, pool) = part_lines plan p pool (rejection_at rejections p) (slice_get cert.pools p)
+
+abbrev pub pools_text : Plan → Cert → List (Option ℕ) → List ℕ
+pools_text plan cert rejections = flat_map (pool_lines plan cert rejections) (enumerate_from 0 plan.pools)
+
+abbrev pub has_no_bound : PoolCert → Bool
+has_no_bound part = is_none part.bound
+
+-- what holds for all pools; without a bound, a pool may reject jobs
+abbrev pub safe_words : Cert → List ℕ
+safe_words cert =
+    if list_any has_no_bound cert.pools
+    then codes "no submit to another pool is ever refused, and no jobs wait for each other forever"
+    else codes "no submit is ever refused, and no jobs wait for each other forever"
 
 -- the lines of each pool, and then what holds for all of them
-abbrev pub safe_text : Plan → Cert → List ℕ
-safe_text plan cert = pools_text plan cert ++ codes "no submit is ever refused, and no jobs wait for each other forever" ++ 10 ∷ []
+abbrev pub safe_text : Plan → Cert → List (Option ℕ) → List ℕ
+safe_text plan cert rejections = pools_text plan cert rejections ++ (safe_words cert ++ 10 ∷ [])

@@ -11,6 +11,7 @@ use Rattle.report.specs.declared.version.TheConstants.{VERSION}
 use Rattle.report.specs.Annotations.{Remark, rule_name}
 use Rattle.job_bodies.specs.Plan.{Plan}
 use Rattle.diagnostics.specs.declared.warnings.Warning.{Warning as PlanWarning}
+use Rattle.diagnostics.specs.Lints.{is_note}
 use Rattle.diagnostics.specs.declared.entry_places.PlanPlaces.{PlanPlaces}
 use Rattle.report.specs.declared.finding.PlanFinding.{PlanFinding}
 use Rattle.report.specs.Remarks.{AreRemarks}
@@ -20,7 +21,7 @@ use Rattle.report.specs.Uri.{uri_text}
 abbrev pub level_word : Rule → List ℕ
 level_word (Fault n) = codes "error"
 level_word MoreFaults = codes "error"
-level_word (Warning lint) = codes "warning"
+level_word (Warning lint) = if is_note lint then codes "note" else codes "warning"
 level_word Safe = codes "note"
 level_word NotSafe = codes "error"
 level_word NotDecided = codes "warning"

@@ -7,7 +7,7 @@ use Rattle.job_bodies.specs.Plan.{Plan, Pool as PoolSizes, class_at, client_at, 
 use Rattle.pool_machine.specs.PoolState.{PoolView}
 use Rattle.written_machine.specs.declared.event.Event.{Event}
 use Rattle.written_machine.specs.declared.event.Outcome.{Outcome}
-use Rattle.written_machine.specs.declared.event.Outcome.TheVariants.{Started, Queued, Refused, Worked, Got, Looped, Finished, Took, Retired}
+use Rattle.written_machine.specs.declared.event.Outcome.TheVariants.{Started, Queued, Refused, Rejected, Worked, Got, Looped, Finished, Took, Retired}
 use Rattle.written_machine.specs.State as state
 use Rattle.written_machine.specs.State.{Stage, State, job_at, pool_seen}
 use Rattle.report.specs.declared.event_steps.Actor.{Actor}
@@ -44,6 +44,7 @@ abbrev pub act_text : Plan → List ℕ → List ℕ → Outcome → List ℕ
 act_text plan submitted taken (Started j) = (codes "submits " ++ submitted) ++ codes " (a new thread starts it)"
 act_text plan submitted taken (Queued j) = (codes "submits " ++ submitted) ++ codes " (queued)"
 act_text plan submitted taken (Refused p) = (codes "submits " ++ submitted) ++ ((codes " (refused by " ++ (pool_at plan p).name) ++ codes ")")
+act_text plan submitted taken (Rejected p j) = (codes "submits " ++ submitted) ++ ((codes " (rejected by " ++ (pool_at plan p).name) ++ codes ")")
 act_text plan submitted taken (Worked u) = codes "works"
 act_text plan submitted taken (Got j) = codes "gets its result"
 act_text plan submitted taken Looped = codes "begins again"

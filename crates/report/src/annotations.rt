@@ -9,8 +9,10 @@ use crate::PlanFinding;
 use crate::annotation::{Annotation, Rule};
 use crate::description::describe;
 use crate::json_places::pool_places_at;
+use crate::safe::safe_words;
 use crate::size_annotations::push_sizes_found;
 use crate::unsafe_sizes::open_words;
+use cert_text::Cert;
 use counterexample::{Ending, Witness};
 use diagnostics::{Diagnostic, Faults, PlanPlaces, Warning};
 use job_bodies::Plan;
@@ -134,7 +136,7 @@ pub(crate) fn annotations_of(
         spec.AreRemarks places.now plan.now finding.now warnings.now (remarks_in found.items)) }
 {
     match finding {
-        PlanFinding::Safe(_) => safe(alloc, warnings),
+        PlanFinding::Safe(cert, _) => safe(alloc, cert, warnings),
         PlanFinding::NotSafe(witness, sizes) => {
             not_safe(alloc, places, plan, witness, sizes, warnings)
         }
@@ -142,13 +144,12 @@ pub(crate) fn annotations_of(
     }
 }
 
-fn safe(alloc: Global, warnings: &[Warning]) -> Result<Vec<Annotation>, AllocError>
+fn safe(alloc: Global, cert: &Cert, warnings: &[Warning]) -> Result<Vec<Annotation>, AllocError>
     ensures { IfOk result (λ found.
-        remarks_in found.items ≡ spec.warning_remarks warnings.now ++ spec.safe_remarks) }
+        remarks_in found.items ≡ spec.warning_remarks warnings.now ++ spec.safe_remarks cert.now) }
 {
     let mut found = warning_annotations(alloc, warnings)?;
-    let words = "no submit is ever refused, and no jobs wait for each other forever";
-    push(alloc, &mut found, Rule::Safe, words, None)?;
+    push(alloc, &mut found, Rule::Safe, safe_words(cert), None)?;
     Ok(found)
 }
 

@@ -42,8 +42,8 @@ pub(crate) struct EventStep {
     /// end of a body, and for an event of a pool.
     pub(crate) action: Option<usize>,
     pub(crate) outcome: Outcome,
-    /// The pool that the event changed, or that refused a submit, with its numbers of threads after
-    /// the event. It is `None` if the event neither changed a pool nor was refused.
+    /// The pool that the event changed, or that refused or rejected a submit, with its numbers of
+    /// threads after the event. It is `None` for any other event.
     pub(crate) pool: Option<PoolCounts>,
     /// The index of the class of the job that a thread took from a queue, or `None` if no job was
     /// taken.
@@ -178,21 +178,21 @@ fn action_of(outcome: Outcome, position: usize) -> Option<usize>
         Outcome::Started(_)
         | Outcome::Queued(_)
         | Outcome::Refused(_)
+        | Outcome::Rejected(_, _)
         | Outcome::Worked(_)
         | Outcome::Got(_) => Some(position),
         Outcome::Looped | Outcome::Finished(_) | Outcome::Took(_) | Outcome::Retired => None,
     }
 }
 
-/// Returns the index of the pool that an event with this outcome changed, or that refused a submit.
-/// Returns `None` if the event neither changed a pool nor was refused. `world` is the world after
-/// the event.
+/// Returns the index of the pool that an event with this outcome changed, or that refused or
+/// rejected a submit. Returns `None` for any other event. `world` is the world after the event.
 fn changed_pool(plan: &Plan, world: &World, actor: Actor, outcome: Outcome) -> Option<usize>
     ensures { result ≡ performed.changed_pool_seen plan.now world.now.view actor outcome }
 {
     match outcome {
         Outcome::Started(job) | Outcome::Queued(job) => Some(pool_of(plan, class_of(world, job))),
-        Outcome::Refused(pool) => Some(pool),
+        Outcome::Refused(pool) | Outcome::Rejected(pool, _) => Some(pool),
         Outcome::Finished(_) | Outcome::Took(_) | Outcome::Retired => pool_of_actor(plan, actor),
         Outcome::Worked(_) | Outcome::Got(_) | Outcome::Looped => None,
     }

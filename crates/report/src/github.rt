@@ -9,7 +9,7 @@ ghost use Rattle.report.specs.Github as spec;
 use crate::PlanFinding;
 use crate::annotation::{Annotation, Rule, push_rule_name};
 use crate::annotations::{annotations_of, fault_annotations, single_fault};
-use diagnostics::{Faults, PlanPlaces, Warning};
+use diagnostics::{Faults, PlanPlaces, Warning, is_note};
 use job_bodies::Plan;
 use plan_text::TextPlace;
 use std::alloc::{AllocError, Global};
@@ -110,6 +110,7 @@ fn command(rule: Rule) -> &'static str
 {
     match rule {
         Rule::Fault(_) | Rule::MoreFaults | Rule::NotSafe => "error",
+        Rule::Warning(lint) if is_note(lint) => "notice",
         Rule::Warning(_) | Rule::NotDecided => "warning",
         Rule::Safe => "notice",
     }

@@ -102,7 +102,7 @@ fn word_of(finding: &PlanFinding) -> &'static str
     ensures { result.now ≡ spec.word_of finding.now }
 {
     match finding {
-        PlanFinding::Safe(_) => "SAFE",
+        PlanFinding::Safe(_, _) => "SAFE",
         PlanFinding::NotSafe(_, _) => "NOT SAFE",
         PlanFinding::NotDecided(_) => "NOT DECIDED",
     }

@@ -15,10 +15,23 @@ use weights::{Bound, Vector};
 
 /// Converts a pool's bound to JSON: its kind, its total and the shares in the total. The total is
 /// the maximum number of jobs in the queue at one time (`standing`), or of jobs that are ever
-/// submitted to the pool (`lifetime`). The value is null if the vector of `bound` does not fit the
-/// plan.
-pub(crate) fn bound_value(alloc: Global, plan: &Plan, bound: &Bound) -> Result<Value, AllocError>
+/// submitted to the pool (`lifetime`). The value is null if there is no bound, or if its vector does
+/// not fit the plan.
+pub(crate) fn bound_value(
+    alloc: Global,
+    plan: &Plan,
+    bound: &Option<Bound>,
+) -> Result<Value, AllocError>
     ensures { IfOk result (λ value. view value ≡ spec.bound_data plan.now bound.now) }
+{
+    match bound {
+        Some(bound) => fitting_value(alloc, plan, bound),
+        None => Ok(Value::Null),
+    }
+}
+
+fn fitting_value(alloc: Global, plan: &Plan, bound: &Bound) -> Result<Value, AllocError>
+    ensures { IfOk result (λ value. view value ≡ spec.fitting_data plan.now bound.now) }
 {
     let vector = bound.vector();
     if vector.fits(plan) {

@@ -71,6 +71,7 @@ pub(crate) fn outcome_word(outcome: Outcome) -> &'static str
         Outcome::Started(_) => "started",
         Outcome::Queued(_) => "queued",
         Outcome::Refused(_) => "refused",
+        Outcome::Rejected(_, _) => "rejected",
         Outcome::Worked(_) => "worked",
         Outcome::Got(_) => "got",
         Outcome::Looped => "looped",
@@ -88,6 +89,7 @@ pub(crate) fn job_of(outcome: Outcome) -> Option<usize>
     match outcome {
         Outcome::Started(job)
         | Outcome::Queued(job)
+        | Outcome::Rejected(_, job)
         | Outcome::Got(job)
         | Outcome::Finished(job)
         | Outcome::Took(job) => Some(job),

@@ -1,8 +1,8 @@
 //! The events of a witness as JSON, in runs. A witness is a list of events after which a submit is
 //! refused or jobs wait only for each other. A run is one JSON object. Consecutive steps of clients
 //! of one kind form a run if the clients have consecutive numbers and each does the same: it works,
-//! starts its body again, or submits a job that is queued or started. Submitted jobs must have
-//! consecutive numbers, too. Any other step is a run of its own.
+//! starts its body again, or submits a job that is queued, started or rejected. Submitted jobs must
+//! have consecutive numbers, too. Any other step is a run of its own.
 
 ghost use Rattle.std.specs.Prelude.{◌≡◌, ◌+◌, ◌==◌, ◌++◌, ◌∷◌, [], map, IfOk, OnOk};
 ghost use Rattle.serde_json.specs.View.{view};
@@ -122,6 +122,7 @@ fn is_later_outcome(first: Outcome, times: usize, next: Outcome) -> bool
     match (first, next) {
         (Outcome::Started(job), Outcome::Started(next_job)) => is_sum(next_job, job, times),
         (Outcome::Queued(job), Outcome::Queued(next_job)) => is_sum(next_job, job, times),
+        (Outcome::Rejected(_, job), Outcome::Rejected(_, next_job)) => is_sum(next_job, job, times),
         (Outcome::Worked(_), Outcome::Worked(_)) => true,
         (Outcome::Looped, Outcome::Looped) => true,
         _ => false,

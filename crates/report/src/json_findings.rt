@@ -43,7 +43,7 @@ fn assumptions_value(alloc: Global, finding: &PlanFinding) -> Result<Value, Allo
     ensures { IfOk result (λ value. view value ≡ spec.assumptions_data finding.now) }
 {
     match finding {
-        PlanFinding::Safe(_) => safe_assumptions(alloc),
+        PlanFinding::Safe(_, _) => safe_assumptions(alloc),
         PlanFinding::NotSafe(_, _) | PlanFinding::NotDecided(_) => {
             Ok(Value::Array(Vec::new(alloc)))
         }
@@ -66,8 +66,10 @@ fn pools_of(alloc: Global, plan: &Plan, finding: &PlanFinding) -> Result<Value, 
     ensures { IfOk result (λ value. view value ≡ spec.pools_of plan.now finding.now) }
 {
     match finding {
-        PlanFinding::Safe(cert) => pools_value(alloc, plan, &cert.pools),
-        PlanFinding::NotSafe(_, _) | PlanFinding::NotDecided(_) => pools_value(alloc, plan, &[]),
+        PlanFinding::Safe(cert, rejections) => pools_value(alloc, plan, &cert.pools, rejections),
+        PlanFinding::NotSafe(_, _) | PlanFinding::NotDecided(_) => {
+            pools_value(alloc, plan, &[], &[])
+        }
     }
 }
 
@@ -80,7 +82,7 @@ fn sizes_of(
     ensures { IfOk result (λ value. view value ≡ spec.sizes_of places.now plan.now finding.now) }
 {
     match finding {
-        PlanFinding::Safe(_) => Ok(Value::Null),
+        PlanFinding::Safe(_, _) => Ok(Value::Null),
         PlanFinding::NotSafe(_, sizes) | PlanFinding::NotDecided(sizes) => {
             sizes_value(alloc, places, plan, sizes)
         }
@@ -97,6 +99,6 @@ fn witness_of(
 {
     match finding {
         PlanFinding::NotSafe(witness, _) => witness_value(alloc, plan, places, witness),
-        PlanFinding::Safe(_) | PlanFinding::NotDecided(_) => Ok(Value::Null),
+        PlanFinding::Safe(_, _) | PlanFinding::NotDecided(_) => Ok(Value::Null),
     }
 }

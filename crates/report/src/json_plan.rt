@@ -75,7 +75,39 @@ fn pool_entry(
         (λ value. view value ≡ spec.pool_entry places.now (number, pool.now)) }
 {
     let places = pool_places_at(places, number);
-    pool_value(alloc, places.name, pool)
+    placed_pool(alloc, places.name, pool)
+}
+
+/// Converts a pool to JSON. Only a pool that may reject jobs has a member that says so.
+fn placed_pool(alloc: Global, place: Option<TextPlace>, pool: &Pool) -> Result<Value, AllocError>
+    ensures { IfOk result (λ value. view value ≡ spec.placed_pool place pool.now) }
+{
+    if pool.may_reject {
+        rejecting_value(alloc, place, pool)
+    } else {
+        pool_value(alloc, place, pool)
+    }
+}
+
+#[tactic(auto, unfolding(crate::specs::JsonPlan::rejecting_data))]
+fn rejecting_value(
+    alloc: Global,
+    place: Option<TextPlace>,
+    pool: &Pool,
+) -> Result<Value, AllocError>
+    ensures { IfOk result (λ value. view value ≡ spec.rejecting_data place pool.now) }
+{
+    let name = pool.name.as_str();
+    json!(in alloc; {
+        "column": column_value(place),
+        "core": pool.core,
+        "line": line_value(place),
+        "max": pool.max,
+        "may_reject": true,
+        "name": name,
+        "prestart": pool.prestart,
+        "queue": pool.queue
+    })
 }
 
 #[tactic(auto, unfolding(crate::specs::JsonPlan::pool_data))]

@@ -1,5 +1,7 @@
 //! Pools as JSON: their sizes and the pools for which their jobs wait. If a certificate accepts the
-//! plan, also the bound of each queue and the maximum number of core threads that wait.
+//! plan, also the bound of each queue and the maximum number of core threads that wait. Only a pool
+//! that may reject jobs by the plan has a member that says so, and one with the number of events
+//! after which it rejects a job.
 
 ghost use Rattle.std.specs.Prelude.{◌≡◌, IfOk, option_map, map, string_bytes};
 ghost use Rattle.serde_json.specs.Data.{array, string};
@@ -7,24 +9,27 @@ ghost use Rattle.serde_json.specs.View.{view, items_of};
 ghost use Rattle.report.specs.JsonPools as spec;
 
 use crate::json_bounds::{blocked_value, bound_value};
-use crate::safe::waited_names;
+use crate::safe::{rejection_at, waited_names};
 use cert_text::PoolCert;
 use job_bodies::{Plan, Pool};
 use serde_json::{Value, json};
 use std::alloc::{AllocError, Global};
 
-/// Converts the pools of a plan to JSON, each with its part of the certificate. `parts` is empty if
-/// no certificate accepts the plan.
+/// Converts the pools of a plan to JSON, each with its part of the certificate and the number of
+/// events after which it rejects a job. `parts` and `rejections` are empty if no certificate accepts
+/// the plan.
 pub(crate) fn pools_value(
     alloc: Global,
     plan: &Plan,
     parts: &[PoolCert],
+    rejections: &[Option<u64>],
 ) -> Result<Value, AllocError>
-    ensures { IfOk result (λ value. view value ≡ spec.pools_data plan.now parts.now) }
+    ensures { IfOk result
+        (λ value. view value ≡ spec.pools_data plan.now parts.now rejections.now) }
 {
     let mut values = Vec::with_capacity(alloc, plan.pools().len())?;
     for (number, pool) in plan.pools().iter().enumerate() {
-        let value = pool_entry(alloc, plan, parts, number, pool)?;
+        let value = pool_entry(alloc, plan, parts, rejections, number, pool)?;
         values.push(value)?;
     }
     Ok(Value::from(values))
@@ -34,13 +39,15 @@ fn pool_entry(
     alloc: Global,
     plan: &Plan,
     parts: &[PoolCert],
+    rejections: &[Option<u64>],
     number: usize,
     pool: &Pool,
 ) -> Result<Value, AllocError>
-    ensures { IfOk result
-        (λ value. view value ≡ spec.pool_entry plan.now parts.now (number, pool.now)) }
+    ensures { IfOk result (λ value.
+        view value ≡ spec.pool_entry plan.now parts.now rejections.now (number, pool.now)) }
 {
-    pool_value(alloc, plan, number, pool, parts.get(number))
+    let rejection = rejection_at(rejections, number);
+    pool_value(alloc, plan, number, pool, rejection, parts.get(number))
 }
 
 fn pool_value(
@@ -48,14 +55,23 @@ fn pool_value(
     plan: &Plan,
     number: usize,
     pool: &Pool,
+    rejection: Option<u64>,
     part: Option<&PoolCert>,
 ) -> Result<Value, AllocError>
     ensures { IfOk result (λ value. view value
-        ≡ spec.pool_data plan.now number pool.now (option_map (λ part. part.now) part.entry)) }
+        ≡ spec.pool_data plan.now number pool.now rejection (option_map (λ part. part.now) part.entry)) }
 {
     match part {
-        Some(part) => bounded_value(alloc, plan, number, pool, part),
-        None => pool_object(alloc, plan, number, pool, Value::Null, Value::Null),
+        Some(part) => bounded_value(alloc, plan, number, pool, rejection, part),
+        None => sized_pool(
+            alloc,
+            plan,
+            number,
+            pool,
+            rejection,
+            Value::Null,
+            Value::Null,
+        ),
     }
 }
 
@@ -64,16 +80,75 @@ fn bounded_value(
     plan: &Plan,
     number: usize,
     pool: &Pool,
+    rejection: Option<u64>,
     part: &PoolCert,
 ) -> Result<Value, AllocError>
-    ensures { IfOk result (λ value. view value ≡ spec.pool_object
+    ensures { IfOk result (λ value. view value ≡ spec.sized_pool
+        plan.now number pool.now rejection
         (spec.blocked_data plan.now pool.now part.now.blocked)
-        (spec.bound_data plan.now part.now.bound)
-        pool.now (spec.waits_data plan.now number)) }
+        (spec.bound_data plan.now part.now.bound)) }
 {
     let blocked = blocked_value(alloc, plan, pool, &part.blocked)?;
     let bound = bound_value(alloc, plan, &part.bound)?;
-    pool_object(alloc, plan, number, pool, blocked, bound)
+    sized_pool(alloc, plan, number, pool, rejection, blocked, bound)
+}
+
+fn sized_pool(
+    alloc: Global,
+    plan: &Plan,
+    number: usize,
+    pool: &Pool,
+    rejection: Option<u64>,
+    blocked: Value,
+    bound: Value,
+) -> Result<Value, AllocError>
+    ensures { IfOk result (λ value. view value ≡ spec.sized_pool
+        plan.now number pool.now rejection (view blocked) (view bound)) }
+{
+    if pool.may_reject {
+        rejecting_object(alloc, plan, number, pool, rejection, blocked, bound)
+    } else {
+        pool_object(alloc, plan, number, pool, blocked, bound)
+    }
+}
+
+#[tactic(auto, unfolding(crate::specs::JsonPools::rejecting_object))]
+fn rejecting_object(
+    alloc: Global,
+    plan: &Plan,
+    number: usize,
+    pool: &Pool,
+    rejection: Option<u64>,
+    blocked: Value,
+    bound: Value,
+) -> Result<Value, AllocError>
+    ensures { IfOk result (λ value. view value ≡ spec.rejecting_object
+        (view blocked) (view bound) pool.now (spec.rejects_data rejection) (spec.waits_data plan.now number)) }
+{
+    let name = pool.name.as_str();
+    json!(in alloc; {
+        "blocked": blocked,
+        "bound": bound,
+        "core": pool.core,
+        "max": pool.max,
+        "may_reject": true,
+        "name": name,
+        "prestart": pool.prestart,
+        "queue": pool.queue,
+        "rejects_after": rejects_value(rejection),
+        "waits_for": waits_value(alloc, plan, number)?
+    })
+}
+
+/// Converts the number of events after which a pool rejects a job to JSON. The value is null if the
+/// number is not known.
+fn rejects_value(rejection: Option<u64>) -> Value
+    ensures { view result ≡ spec.rejects_data rejection }
+{
+    match rejection {
+        Some(events) => Value::from(events),
+        None => Value::Null,
+    }
 }
 
 #[tactic(auto, unfolding(crate::specs::JsonPools::pool_object))]

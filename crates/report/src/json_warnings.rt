@@ -58,11 +58,14 @@ fn kind_of(lint: Lint) -> &'static str
         Lint::NothingSubmitted => "nothing submitted",
         Lint::PoolWithoutJobs(_) => "pool without jobs",
         Lint::UselessMax(_) => "useless max",
+        Lint::UselessMayReject(_, _) => "useless may reject",
         Lint::QueueFarAbove(_, _) => "queue far above",
         Lint::ClassWithoutJobs(_) => "class without jobs",
+        Lint::RunInCaller(_) => "run in caller",
         Lint::GoesOnce(_) => "goes once",
         Lint::Crowd(_) => "crowd",
         Lint::WorkLikeASize(_, _, _, _) => "work like a size",
+        Lint::OpenFuture(_, _, _) => "open future",
         Lint::StaleCertificate => "stale certificate",
     }
 }

@@ -44,6 +44,7 @@ mod story_pools;
 mod story_steps;
 mod story_turns;
 mod story_waits;
+mod submits_to;
 mod text;
 mod unsafe_sizes;
 mod uri;

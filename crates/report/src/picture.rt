@@ -28,7 +28,7 @@ pub fn picture_of(alloc: Global, plan: &Plan, finding: &PlanFinding) -> Result<S
         (λ text. string_bytes text ≡ spec.picture_text plan.now finding.now) }
 {
     match finding {
-        PlanFinding::Safe(cert) => graph_of(alloc, plan, &cert.pools, Some(&cert.ranks)),
+        PlanFinding::Safe(cert, _) => graph_of(alloc, plan, &cert.pools, Some(&cert.ranks)),
         PlanFinding::NotSafe(_, _) | PlanFinding::NotDecided(_) => graph_of(alloc, plan, &[], None),
     }
 }
@@ -178,15 +178,25 @@ fn push_label(
     push_bound(text, plan, part)
 }
 
-/// Appends the bound of the pool's queue. Appends nothing if the pool has no part of a certificate,
-/// or if the vector of the bound does not fit the plan.
+/// Appends the bound of the pool's queue. Appends nothing if the pool has no part of a certificate.
 fn push_bound(text: &mut String, plan: &Plan, part: Option<&PoolCert>) -> Result<(), AllocError>
     ensures { Pushes result text.old text.new
         (spec.bound_part plan.now (option_map (λ part. part.now) part.entry)) }
 {
     match part {
-        Some(part) => push_total(text, &part.bound, total_of(plan, part.bound.vector())),
+        Some(part) => push_bound_of(text, plan, &part.bound),
         None => Ok(()),
+    }
+}
+
+/// Appends the bound of a queue, or that the pool may reject jobs if there is none. Appends nothing
+/// if the vector of the bound does not fit the plan.
+fn push_bound_of(text: &mut String, plan: &Plan, bound: &Option<Bound>) -> Result<(), AllocError>
+    ensures { Pushes result text.old text.new (spec.bound_of plan.now bound.now) }
+{
+    match bound {
+        Some(bound) => push_total(text, bound, total_of(plan, bound.vector())),
+        None => text.push_str("\\nmay reject"),
     }
 }
 

@@ -2,40 +2,78 @@
 //! in the bound. A share is the part of a bound that the clients of one kind, or the threads of one
 //! pool, account for. For each pool, the text also has the pools for which its jobs wait, and the
 //! maximum number of its core threads that wait at counted gets at once. A counted get can block a
-//! thread that other jobs need.
+//! thread that other jobs need. For a pool that may reject jobs by the plan, the text also lists the
+//! submits to it.
 
-ghost use Rattle.std.specs.Prelude.{◌≡◌, ◌++◌, IfOk, IsTrue, OnOk, map, string_bytes};
+ghost use Rattle.std.specs.Prelude.{◌≡◌, ◌++◌, IfOk, IsTrue, OnOk, codes, decimal, map, string_bytes};
+ghost use Rattle.std.specs.List.{list_any};
 ghost use Rattle.support.specs.Pushed.{Pushes};
-ghost use Rattle.weights.specs.Vector.{vector_fits};
+ghost use Rattle.weights.specs.Bound.{bound_vector};
+ghost use Rattle.weights.specs.Vector.{vector_fits, total};
 ghost use Rattle.report.specs.Places as places;
 ghost use Rattle.report.specs.SafeText as spec;
 
 use crate::shares::{Shares, shares_of};
+use crate::submits_to::push_submits;
 use crate::waits::waits_for;
 use cert_text::{Cert, PoolCert};
 use job_bodies::{Plan, Pool};
 use std::alloc::{AllocError, Global};
 use weights::{Bound, Vector};
 
-/// Appends two lines for each pool that has a part of the certificate, and a last line that says
-/// what the certificate guarantees.
+/// Appends the lines of each pool that has a part of the certificate, and a last line that says
+/// what the certificate guarantees. `rejections` has, for each pool that was found to reject a job,
+/// the number of events after which it does.
 pub(crate) fn push_safe(
     alloc: Global,
     text: &mut String,
     plan: &Plan,
     cert: &Cert,
+    rejections: &[Option<u64>],
 ) -> Result<(), AllocError>
-    ensures { Pushes result text.old text.new (spec.safe_text plan.now cert.now) }
+    ensures { Pushes result text.old text.new
+        (spec.safe_text plan.now cert.now rejections.now) }
 {
-    push_pools(alloc, text, plan, cert)?;
-    text.push_str("no submit is ever refused, and no jobs wait for each other forever\n")
+    push_pools(alloc, text, plan, cert, rejections)?;
+    text.push_str(safe_words(cert))?;
+    text.push('\n')
 }
 
-fn push_pools(alloc: Global, text: &mut String, plan: &Plan, cert: &Cert) -> Result<(), AllocError>
-    ensures { Pushes result text.old text.new (spec.pools_text plan.now cert.now) }
+/// Returns what the certificate guarantees for all pools.
+pub(crate) fn safe_words(cert: &Cert) -> &'static str
+    ensures { result.now ≡ spec.safe_words cert.now }
+{
+    if has_pool_without_bound(&cert.pools) {
+        "no submit to another pool is ever refused, and no jobs wait for each other forever"
+    } else {
+        "no submit is ever refused, and no jobs wait for each other forever"
+    }
+}
+
+fn has_pool_without_bound(parts: &[PoolCert]) -> bool
+    ensures { result ≡ list_any spec.has_no_bound parts.now }
+{
+    parts.iter().any(|part| has_no_bound(part))
+}
+
+fn has_no_bound(part: &PoolCert) -> bool
+    ensures { result ≡ spec.has_no_bound part.now }
+{
+    part.bound.is_none()
+}
+
+fn push_pools(
+    alloc: Global,
+    text: &mut String,
+    plan: &Plan,
+    cert: &Cert,
+    rejections: &[Option<u64>],
+) -> Result<(), AllocError>
+    ensures { Pushes result text.old text.new
+        (spec.pools_text plan.now cert.now rejections.now) }
 {
     for (number, pool) in plan.pools().iter().enumerate() {
-        push_pool(alloc, text, plan, cert, number, pool)?;
+        push_pool(alloc, text, plan, cert, rejections, number, pool)?;
     }
     Ok(())
 }
@@ -46,15 +84,29 @@ fn push_pool(
     text: &mut String,
     plan: &Plan,
     cert: &Cert,
+    rejections: &[Option<u64>],
     number: usize,
     pool: &Pool,
 ) -> Result<(), AllocError>
     ensures { Pushes result text.old text.new
-        (spec.pool_lines plan.now cert.now (number, pool.now)) }
+        (spec.pool_lines plan.now cert.now rejections.now (number, pool.now)) }
 {
+    let rejection = rejection_at(rejections, number);
     match cert.pools.get(number) {
-        Some(part) => push_lines(alloc, text, plan, number, pool, part),
+        Some(part) => push_lines(alloc, text, plan, number, pool, rejection, part),
         None => Ok(()),
+    }
+}
+
+/// Returns the number of events after which the pool with this index rejects a job, or `None` if it
+/// is not known.
+pub(crate) fn rejection_at(rejections: &[Option<u64>], pool: usize) -> Option<u64>
+    ensures { result ≡ spec.rejection_at rejections.now pool }
+{
+    if pool < rejections.len() {
+        rejections[pool]
+    } else {
+        None
     }
 }
 
@@ -64,19 +116,54 @@ fn push_lines(
     plan: &Plan,
     number: usize,
     pool: &Pool,
+    rejection: Option<u64>,
     part: &PoolCert,
 ) -> Result<(), AllocError>
     ensures { Pushes result text.old text.new
-        (spec.bound_line plan.now pool.now part.now.bound
-        ++ spec.waits_line plan.now number pool.now part.now.blocked) }
+        (spec.bound_line plan.now pool.now rejection part.now.bound
+        ++ (spec.waits_line plan.now number pool.now part.now.blocked
+        ++ spec.pool_submits plan.now number pool.now)) }
 {
-    push_bound(alloc, text, plan, pool, &part.bound)?;
-    push_waits(alloc, text, plan, number, pool, &part.blocked)
+    push_bound(alloc, text, plan, pool, rejection, &part.bound)?;
+    push_rest(alloc, text, plan, number, pool, &part.blocked)
+}
+
+/// Appends the lines of a pool after that of its bound.
+fn push_rest(
+    alloc: Global,
+    text: &mut String,
+    plan: &Plan,
+    number: usize,
+    pool: &Pool,
+    blocked: &Vector,
+) -> Result<(), AllocError>
+    ensures { Pushes result text.old text.new
+        (spec.waits_line plan.now number pool.now blocked.now
+        ++ spec.pool_submits plan.now number pool.now) }
+{
+    push_waits(alloc, text, plan, number, pool, blocked)?;
+    push_pool_submits(text, plan, number, pool)
+}
+
+/// Appends the lines of the submits to the pool, if it may reject jobs by the plan.
+fn push_pool_submits(
+    text: &mut String,
+    plan: &Plan,
+    number: usize,
+    pool: &Pool,
+) -> Result<(), AllocError>
+    ensures { Pushes result text.old text.new (spec.pool_submits plan.now number pool.now) }
+{
+    if pool.may_reject {
+        push_submits(text, plan, number)
+    } else {
+        Ok(())
+    }
 }
 
 /// Returns, for each pool of the certificate, the maximum number of jobs in its queue at once,
 /// which is the number of queue places that it needs. The number is `None` if the certificate does
-/// not bound it: the pool has a lifetime vector, or its vector does not fit the plan.
+/// not bound it: the pool has a lifetime vector or no vector, or its vector does not fit the plan.
 ///
 /// # Errors
 ///
@@ -95,12 +182,12 @@ pub fn needed_places(
     Ok(needed)
 }
 
-fn places_of(plan: &Plan, bound: &Bound) -> Option<u64>
+fn places_of(plan: &Plan, bound: &Option<Bound>) -> Option<u64>
     ensures { result ≡ places.places_of plan.now bound.now }
 {
     match bound {
-        Bound::Standing(vector) => total_of(plan, vector),
-        Bound::Lifetime(_) => None,
+        Some(Bound::Standing(vector)) => total_of(plan, vector),
+        Some(Bound::Lifetime(_)) | None => None,
     }
 }
 
@@ -121,38 +208,106 @@ fn push_bound(
     text: &mut String,
     plan: &Plan,
     pool: &Pool,
-    bound: &Bound,
+    rejection: Option<u64>,
+    bound: &Option<Bound>,
 ) -> Result<(), AllocError>
-    ensures { Pushes result text.old text.new (spec.bound_line plan.now pool.now bound.now) }
+    ensures { Pushes result text.old text.new
+        (spec.bound_line plan.now pool.now rejection bound.now) }
 {
     let name = pool.name.as_str();
     write!(text, "{name}: ")?;
     push_threads(text, pool)?;
-    push_queue(alloc, text, plan, pool, bound)?;
+    push_queue(alloc, text, plan, pool, rejection, bound)?;
     text.push('\n')
+}
+
+/// Appends the capacity of the pool's queue, and its bound with the shares in it. If the pool has no
+/// bound, appends that it may reject jobs, and after how many events it does if that is known.
+fn push_queue(
+    alloc: Global,
+    text: &mut String,
+    plan: &Plan,
+    pool: &Pool,
+    rejection: Option<u64>,
+    bound: &Option<Bound>,
+) -> Result<(), AllocError>
+    ensures { Pushes result text.old text.new
+        (spec.queue_text plan.now pool.now rejection bound.now) }
+{
+    match bound {
+        Some(bound) => push_bounded(alloc, text, plan, pool, bound),
+        None => push_unbounded(text, pool.queue, rejection),
+    }
+}
+
+fn push_unbounded(text: &mut String, queue: u64, rejection: Option<u64>) -> Result<(), AllocError>
+    ensures { Pushes result text.old text.new
+        (codes ", queue " ++ decimal queue ++ codes ": " ++ spec.rejects_text rejection) }
+{
+    write!(text, ", queue {queue}: ")?;
+    push_rejection(text, rejection)
+}
+
+/// Appends that a pool may reject jobs, and the number of events after which it does if it is
+/// known.
+fn push_rejection(text: &mut String, rejection: Option<u64>) -> Result<(), AllocError>
+    ensures { Pushes result text.old text.new (spec.rejects_text rejection) }
+{
+    match rejection {
+        Some(events) => write!(text, "may reject: after {events} events"),
+        None => text.push_str("may reject (not shown)"),
+    }
 }
 
 /// Appends the capacity of the pool's queue, its bound and the shares in the bound. Appends nothing
 /// if the vector of the bound does not fit the plan.
-fn push_queue(
+fn push_bounded(
     alloc: Global,
     text: &mut String,
     plan: &Plan,
     pool: &Pool,
     bound: &Bound,
 ) -> Result<(), AllocError>
-    ensures { Pushes result text.old text.new (spec.queue_text plan.now pool.now bound.now) }
+    ensures { Pushes result text.old text.new (spec.bounded_text plan.now pool.now bound.now) }
 {
     let vector = bound.vector();
     if !vector.fits(plan) {
         return Ok(());
     }
     let queue = pool.queue;
+    write!(text, ", queue {queue}: ")?;
+    text.push_str(never_words(pool))?;
+    push_places(alloc, text, plan, bound)
+}
+
+/// Returns what a bound means for a pool that may reject jobs by the plan. Returns an empty text
+/// for any other pool.
+fn never_words(pool: &Pool) -> &'static str
+    ensures { result.now ≡ spec.never_text pool.now }
+{
+    if pool.may_reject {
+        "never rejects: "
+    } else {
+        ""
+    }
+}
+
+/// Appends the bound of a queue and the shares in it.
+fn push_places(
+    alloc: Global,
+    text: &mut String,
+    plan: &Plan,
+    bound: &Bound,
+) -> Result<(), AllocError>
+    requires { IsTrue (vector_fits plan.now (bound_vector bound.now)) }
+    ensures { Pushes result text.old text.new
+        (spec.places_text plan.now bound.now (total plan.now (bound_vector bound.now))) }
+{
+    let vector = bound.vector();
     let total = vector.total(plan);
     if total == 0 {
-        return write!(text, ", queue {queue}: no job waits in it");
+        return text.push_str("no job waits in it");
     }
-    write!(text, ", queue {queue}: ")?;
     push_most(text, bound, total)?;
     text.push_str(" (")?;
     push_shares(alloc, text, plan, vector)?;

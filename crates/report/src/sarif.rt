@@ -13,7 +13,7 @@ use crate::annotations::{annotations_of, fault_annotations, single_fault};
 use crate::json_line::line_of;
 use crate::uri::uri_of;
 use crate::version::VERSION;
-use diagnostics::{Faults, PlanPlaces, Warning};
+use diagnostics::{Faults, PlanPlaces, Warning, is_note};
 use job_bodies::Plan;
 use plan_text::TextPlace;
 use serde_json::{Value, json};
@@ -142,6 +142,7 @@ fn level_word(rule: Rule) -> &'static str
 {
     match rule {
         Rule::Fault(_) | Rule::MoreFaults | Rule::NotSafe => "error",
+        Rule::Warning(lint) if is_note(lint) => "note",
         Rule::Warning(_) | Rule::NotDecided => "warning",
         Rule::Safe => "note",
     }

@@ -90,7 +90,12 @@ fn push_act(
     match outcome {
         Outcome::Started(_) => push_submit(text, submitted, " (a new thread starts it)"),
         Outcome::Queued(_) => push_submit(text, submitted, " (queued)"),
-        Outcome::Refused(pool) => push_refused(text, submitted, plan.pool_name(pool)),
+        Outcome::Refused(pool) => {
+            push_not_taken(text, submitted, " (refused by ", plan.pool_name(pool))
+        }
+        Outcome::Rejected(pool, _) => {
+            push_not_taken(text, submitted, " (rejected by ", plan.pool_name(pool))
+        }
         Outcome::Worked(_) => text.push_str("works"),
         Outcome::Got(_) => text.push_str("gets its result"),
         Outcome::Looped => text.push_str("begins again"),
@@ -107,11 +112,17 @@ fn push_submit(text: &mut String, class: &str, answer: &str) -> Result<(), Alloc
     text.push_str(answer)
 }
 
-fn push_refused(text: &mut String, class: &str, pool: &str) -> Result<(), AllocError>
+/// Appends a submit that the pool did not take. `answer` has the words before the pool's name.
+fn push_not_taken(
+    text: &mut String,
+    class: &str,
+    answer: &str,
+    pool: &str,
+) -> Result<(), AllocError>
     ensures { Pushes result text.old text.new
-        ((codes "submits " ++ class.now) ++ ((codes " (refused by " ++ pool.now) ++ codes ")")) }
+        ((codes "submits " ++ class.now) ++ ((answer.now ++ pool.now) ++ codes ")")) }
 {
     push_named(text, "submits ", class)?;
-    push_named(text, " (refused by ", pool)?;
+    push_named(text, answer, pool)?;
     text.push_str(")")
 }

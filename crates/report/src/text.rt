@@ -26,17 +26,23 @@ pub fn render(alloc: Global, plan: &Plan, finding: &PlanFinding) -> Result<Strin
     ensures { IfOk result (λ text. spec.Tells plan.now finding.now (string_bytes text)) }
 {
     match finding {
-        PlanFinding::Safe(cert) => safe(alloc, plan, cert),
+        PlanFinding::Safe(cert, rejections) => safe(alloc, plan, cert, rejections),
         PlanFinding::NotSafe(witness, sizes) => not_safe(alloc, plan, witness, sizes),
         PlanFinding::NotDecided(sizes) => not_decided(alloc, plan, sizes),
     }
 }
 
-fn safe(alloc: Global, plan: &Plan, cert: &Cert) -> Result<String, AllocError>
-    ensures { IfOk result (λ text. spec.TellsSafe plan.now cert.now (string_bytes text)) }
+fn safe(
+    alloc: Global,
+    plan: &Plan,
+    cert: &Cert,
+    rejections: &[Option<u64>],
+) -> Result<String, AllocError>
+    ensures { IfOk result
+        (λ text. spec.TellsSafe plan.now cert.now rejections.now (string_bytes text)) }
 {
     let mut text = String::from_str(alloc, "SAFE\n")?;
-    push_safe(alloc, &mut text, plan, cert)?;
+    push_safe(alloc, &mut text, plan, cert, rejections)?;
     Ok(text)
 }
 

@@ -92,8 +92,8 @@ if (threads.length !== event.pool.threads || threads.filter(job => job === null)
 once({outcome, ...event}, turn, threads) {const job = event.job === null ? null : event.job + turn;if (outcome === "took") {threads[threads.indexOf(null)] = job;this.jobs.get(job).state = "runs";
 return;}if (outcome === "retired") return void threads.splice(threads.lastIndexOf(null), 1);const actor = this.actor(event.actor, turn);if (outcome === "refused") return;if (outcome === "finished") {
 threads[threads.indexOf(job)] = null;actor.state = "done";return;}if (outcome === "looped") return void Object.assign(actor, {at: 0, slots: new Map()});const action = actor.body[actor.at];
-actor.at += 1;if (outcome === "got") return void actor.slots.delete(action.slot);if (outcome === "worked") return;const state = outcome === "started" ? "runs" : "queued";this.jobs.set(
-job, {name: action.class, body: this.plan.body("class", action.class), at: 0, slots: new Map(), state});if (state === "runs") threads.push(job);
+actor.at += 1;if (outcome === "got") return void actor.slots.delete(action.slot);if (outcome === "worked") return;const state = {started: "runs", queued: "queued", rejected: "done"}[outcome];
+this.jobs.set(job, {name: action.class, body: this.plan.body("class", action.class), at: 0, slots: new Map(), state});if (state === "runs") threads.push(job);
 if (action.slot !== null) actor.slots.set(action.slot, job);}actor({job, client, number: first}, turn) {if (job !== undefined) return this.jobs.get(job + turn);const at = first + turn;
 if (!this.clients.has(at))
 this.clients.set(at, {name: client, body: this.plan.body("client", client), at: 0, slots: new Map(), state: "runs"});return this.clients.get(at);}waits(actor) {
@@ -114,7 +114,7 @@ this.columns :
 [...this.columns.slice(0, FIRST), null, ...this.columns.slice(-LAST)];this.clients = clientsOf(this.columns, this.shown);this.lanes = this.clients.length <= MOST_LANES ? this.clients :
 this.clients.filter(([, each]) => each.alone).slice(0, MOST_LANES);this.end = new Replay(plan);const numbers = this.lanes.map(([at]) => at);for (const column of this.columns) {
 for (const event of column.events) this.end.apply(event);if (this.shown.includes(column)) column.state = this.end.snapshot(numbers);}}nameOf(job) { return this.end.jobs.get(job).name; }}
-const WORDS = {started: "starts",queued: "queues",refused: "refused",worked: "works",finished: "done",got: "gets",looped: "again",took: "takes",retired: "thread ends"
+const WORDS = {started: "starts",queued: "queues",refused: "refused",rejected: "rejected",worked: "works",finished: "done",got: "gets",looped: "again",took: "takes",retired: "thread ends"
 };function stepWords(plan, column) {const event = column.events[0], {actor, outcome, job} = event;const action = event.action === null ?
 null :
 plan.body("client" in actor ? "client" : "class", actor.client || actor.class)[event.action];let who = "pool" in actor ? `a thread of ${actor.pool}` :
@@ -123,7 +123,8 @@ plan.body("client" in actor ? "client" : "class", actor.client || actor.class)[e
 const made = column.times > 1 || job === null ? "" : ` as job ${job}`;switch (outcome) {case "started":
 return [who, `submits ${action.class}${made}`, `a new thread of ${pool} starts it`];case "queued":
 return [who, `submits ${action.class}${made}`, `it is queued in ${pool}`];case "refused":
-return [who, `submits ${action.class}`, `${pool} refuses it`];case "got":
+return [who, `submits ${action.class}`, `${pool} refuses it`];case "rejected":
+return [who, `submits ${action.class}${made}`, `${pool} rejects it`];case "got":
 return [who, column.times > 1 ? "gets its job" : `gets job ${job}`, "which is done"];case "worked":
 return [who, "works", ""];case "finished":
 return [who, "is done", `its thread of ${pool} is idle`];case "looped":
@@ -138,8 +139,8 @@ style: `fill:none;stroke:var(--${tone});stroke-width:3;stroke-linecap:round;stro
 entries.map(([them, one, many]) => `${number(them.length)} ${them.length === 1 ? one : many}`).join(", ");
 return h("header", {style: `--tone:var(--${tone})`}, h("div", {class: "answer"}, icon, answer.answer),h("div", {}, h("h1", {}, answer.file.split("/").pop()), h("p", {}, verdict(answer)),
 answer.faults.length ? null : h("p", {class: "muted"}, `The plan has ${counts}.`),h("nav", {"aria-label": "Sections"}, ids.map(([id, title]) => h("a", {href: `#${id}`}, title)))));}
-function verdict(answer) {const {witness} = answer;if (answer.answer === "SAFE")
-return "In any order of events, no submit is ever refused, and no jobs wait for each other forever. This is proved for the plan.";if (answer.answer === "FAULTS")
+function verdict(answer) {const {witness} = answer;if (answer.answer === "SAFE") {const to = answer.pools.some(pool => !pool.bound) ? "submit to another pool" : "submit";
+return `In any order of events, no ${to} is ever refused, and no jobs wait for each other forever. This is proved for the plan.`;}if (answer.answer === "FAULTS")
 return `The text has ${plural(answer.faults.length + answer.omitted, "fault")}, so the sizes were not checked.`;if (!witness)
 return "The search found neither a certificate nor events that show the plan to be wrong. The sizes may be right.";const jobs = plural(witness.ending.jobs.length, "job");
 const events = plural(witness.events.reduce((sum, each) => sum + each.times, 0), "event");if (witness.ending.kind === "refused")
@@ -158,15 +159,17 @@ const pixels = (more ? 340 : 376) * whole / (whole + (more || 0));const spans = 
 const words = [`${number(count)} ${label}`, number(count)].find(each => width(each) < room) || "";return h("span",
 {style: `width:${(100 * count / whole).toFixed(3)}%;background:${color}`, title: `${number(count)} ${label}`},words);});
 return h("div", {class: "pair"}, h("div", {class: "bar", style: `flex:${whole} 1 0`}, spans),more ? h("div", {class: "bar more", style: `flex:${more} 0 34px`}, `+${number(more)}`) : null);}
-function boundRows(plan, pool) {const {bound, blocked} = pool;const parts =
+function boundRows(plan, pool) {const {blocked} = pool;const waits = blocked.most ?
+`waits block at most ${plural(blocked.most, "thread")} that other jobs need; ${number(blocked.left)} left` :
+"no wait can block a thread that other jobs need";return [pool.bound ? queueRow(plan, pool) : ["queue", h("div", {}), rejectsWords(pool)],
+["core", bar(pool.core, [{count: blocked.most, color: "var(--c3)", label: "wait"}]), waits],];}function queueRow(plan, pool) {const {bound} = pool;const parts =
 bound.clients.map(each => ({count: each.jobs, color: plan.color("client", each.name), label: each.name}));
 parts.push(...bound.threads.map(each => ({count: each.jobs, color: "var(--c6)", label: `from ${each.name}`})));const isLifetime = bound.kind === "lifetime";
 const capacity = isLifetime ? pool.queue + pool.max - (pool.prestart ? pool.core : 0) : pool.queue;
 const most = isLifetime ? `at most ${plural(bound.total, "job")} in all, and room for ${number(capacity)}` :
-`at most ${number(bound.total)} of ${number(capacity)} places in use`;const waits = blocked.most ?
-`waits block at most ${plural(blocked.most, "thread")} that other jobs need; ${number(blocked.left)} left` :
-"no wait can block a thread that other jobs need";return [[isLifetime ? "queue, max" : "queue", bar(capacity, parts), most + listOf(parts)],
-["core", bar(pool.core, [{count: blocked.most, color: "var(--c3)", label: "wait"}]), waits],];}function endRows(plan, answer, pool, state) {
+`at most ${number(bound.total)} of ${number(capacity)} places in use`;const never = pool.may_reject ? "never rejects: " : "";
+return [isLifetime ? "queue, max" : "queue", bar(capacity, parts), never + most + listOf(parts)];}function rejectsWords(pool) {
+return pool.rejects_after === null ? "may reject" : `may reject: after ${plural(pool.rejects_after, "event")}`;}function endRows(plan, answer, pool, state) {
 const fit = answer.sizes && answer.sizes.pools.find(each => each.name === pool.name);const more = key => fit ? Math.max(fit[key] - pool[key], 0) : 0;const enough = (...keys) => {
 const changed = keys.filter(more).map(key => `${key} ${number(fit[key])}`);return changed.length ? h("b", {style: "color:var(--good)"}, ` Enough: ${changed.join(", ")}.`) : null;};if (!state) {
 const threads = ["core, max", bar(pool.max, [], more("max")), enough("core", "max")];return [threads, ["queue", bar(pool.queue, [], more("queue")), enough("queue")]];}
@@ -178,16 +181,16 @@ queued.set(name, {...part, count: part.count + 1});}const refuses = h("b", {styl
 const places = `${number(queue.length)} of ${number(pool.queue)} places in use${listOf([...queued.values()])}.`;return [["threads", bar(pool.max, uses, more("max")), [started, enough("core", "max")]],
 ["queue", bar(pool.queue, [...queued.values()], more("queue")),[places, answer.witness.ending.pool === pool.name ? refuses : null, enough("queue")]],];}function listOf(parts) {
 const named = parts.filter(each => each.count).map(each => `${number(each.count)} ${each.label}`);return named.length ? `: ${someOf(named, 4)}` : "";}function pools(plan, answer, state) {
-const shown = answer.pools.map(pool => {const changes = answer.sizes && answer.sizes.pools.some(each => each.name === pool.name && each.changes.length);
-const isInUse = state && (state.threads.get(pool.name).length || state.queues.get(pool.name).length);const rows = pool.bound ? boundRows(plan, pool) : endRows(plan, answer, pool, state);
-return {isUsed: pool.bound ? pool.bound.total > 0 : changes || isInUse, row: poolRow(pool, rows)};});
-const few = shown.length <= MOST_POOLS, first = few ? shown : shown.filter(each => each.isUsed).slice(0, MOST_POOLS);const rest = shown.filter(each => !first.includes(each));
-const isSafe = answer.answer === "SAFE";const note = isSafe ?
+const isSafe = answer.answer === "SAFE";const shown = answer.pools.map(pool => {const changes = answer.sizes && answer.sizes.pools.some(each => each.name === pool.name && each.changes.length);
+const isInUse = state && (state.threads.get(pool.name).length || state.queues.get(pool.name).length);const rows = isSafe ? boundRows(plan, pool) : endRows(plan, answer, pool, state);
+return {isUsed: isSafe ? !pool.bound || pool.bound.total > 0 : changes || isInUse, row: poolRow(pool, rows)};});
+const few = shown.length <= MOST_POOLS, first = few ? shown : shown.filter(each => each.isUsed).slice(0, MOST_POOLS);const rest = shown.filter(each => !first.includes(each));const note = isSafe ?
 "A whole bar is the capacity. The filled part is the most that can be in use at one time, by submitter." :
 "The pools after the last event.";const unused = isSafe || rest.some(each => each.isUsed) ? "" : ", which no event has used";
 return section("pools", "Pools", isSafe || state ? h("p", {class: "muted"}, note) : null, first.map(each => each.row),
-rest.length ? folded(plural(rest.length, "other pool") + unused, false, rest.map(each => each.row)) : null);}function poolRow(pool, rows) {const prestart = pool.prestart ? ", prestarted" : "";
-const declared = `core ${number(pool.core)}, max ${number(pool.max)}, queue ${number(pool.queue)}${prestart}`;
+rest.length ? folded(plural(rest.length, "other pool") + unused, false, rest.map(each => each.row)) : null);}function poolRow(pool, rows) {
+const flags = `${pool.prestart ? ", prestarted" : ""}${pool.may_reject ? ", may reject" : ""}`;
+const declared = `core ${number(pool.core)}, max ${number(pool.max)}, queue ${number(pool.queue)}${flags}`;
 const waits = pool.waits_for.length ? h("div", {class: "muted"}, `waits for ${someOf(pool.waits_for, 5)}`) : null;
 const bars = rows.map(([label, drawn, words]) => [h("div", {class: "label"}, label), drawn, h("div", {}, words)]);return h("div", {class: "pool"},
 h("div", {}, h("div", {class: "name"}, pool.name), h("div", {class: "muted"}, declared), waits),h("div", {class: "bars"}, bars));}function timeline(plan, story) {
@@ -240,7 +243,8 @@ x(at) + 1.5, y + tall - high, wide - 3, high, `fill:var(--${count === pool.queue
 parts.push(text(x(at) + wide / 2, high < 16 ? y + tall - high - 3 : y + tall - 4, count,high < 16 ? "small" : "small on", "middle"));});return [parts, y + tall + 8];}function sign(x, y, outcome) {
 const ink = "fill:var(--ink);stroke:var(--card);stroke-width:1";if (outcome === "refused")
 return s("path",{d: `M${x - 6} ${y - 6}l12 12m0 -12l-12 12`, style: "stroke:var(--bad);stroke-width:3;stroke-linecap:round"});
-if (outcome === "started" || outcome === "queued") return s("path", {d: `M${x - 6} ${y + 5}h12l-6 -11z`, style: ink});if (outcome === "got") return s("circle", {cx: x, cy: y, r: 5, style: ink});
+if (outcome === "started" || outcome === "queued") return s("path", {d: `M${x - 6} ${y + 5}h12l-6 -11z`, style: ink});if (outcome === "rejected")
+return s("path", {d: `M${x - 5} ${y + 4}h10l-5 -9z`, style: "fill:none;stroke:var(--ink);stroke-width:1.6"});if (outcome === "got") return s("circle", {cx: x, cy: y, r: 5, style: ink});
 if (outcome === "looped")
 return s("path", {d: `M${x + 4} ${y - 3}a5 5 0 1 0 1 4m.5 -8l-1.5 4.5l-4 -1`,style: "fill:none;stroke:var(--ink);stroke-width:1.6"
 });return "";}function legend(plan, {columns, end}) {const names = [...new Set([...end.jobs.values()].map(job => job.name))];
@@ -249,10 +253,10 @@ name => h("span", {}, h("i", {style: `background:${plan.color("class", name)}`})
 columns.some(column => column.events[0].outcome === outcome && "client" in column.events[0].actor);return h("div", {class: "legend"}, jobs,
 names.length > 8 ? h("span", {}, `and ${names.length - 8} more classes`) : null,h("span", {},h("i", {style: "background:repeating-linear-gradient(45deg,var(--edge) 0 2px,transparent 2px 5px)"}),
 "waits at a get"),h("span", {}, h("i", {style: "border:1px dashed var(--edge)"}), "idle thread"),has("started") || has("queued") ? h("span", {}, icon("queued"), "submits") : null,
-has("got") ? h("span", {}, icon("got"), "gets") : null,has("looped") ? h("span", {}, icon("looped"), "begins again") : null,
-columns.some(column => column.ends === "refused") ? h("span", {}, icon("refused"), "is refused") : null);}function poolAfter(plan, story, {name, threads, idle, queue}) {
-const chips = queue.slice(0, 3).map(job => h("span", {class: "chip", style: `border-color:${plan.color("class", story.nameOf(job))}`},`${story.nameOf(job)} ${job}`));return [
-`${name}: ${plural(threads, "thread")}${idle ? ` (${number(idle)} idle)` : ""}, `,queue.length ?
+has("rejected") ? h("span", {}, icon("rejected"), "submits, and is rejected") : null,has("got") ? h("span", {}, icon("got"), "gets") : null,
+has("looped") ? h("span", {}, icon("looped"), "begins again") : null,columns.some(column => column.ends === "refused") ? h("span", {}, icon("refused"), "is refused") : null);}
+function poolAfter(plan, story, {name, threads, idle, queue}) {const chips = queue.slice(0, 3).map(job => h("span", {class: "chip", style: `border-color:${plan.color("class", story.nameOf(job))}`},
+`${story.nameOf(job)} ${job}`));return [`${name}: ${plural(threads, "thread")}${idle ? ` (${number(idle)} idle)` : ""}, `,queue.length ?
 [`${number(queue.length)} queued `, chips, queue.length > 3 ? ` and ${number(queue.length - 3)} more` : ""] :
 "none queued"
 ];}function table(plan, story) {const rows = story.columns.map(column => {const event = column.events[0], {pool} = column.events[column.events.length - 1];

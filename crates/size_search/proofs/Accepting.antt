@@ -6,7 +6,7 @@ use Rattle.std.proofs.lemmas.Bool.{le-ltb, false≢true}
 use Rattle.std.proofs.lemmas.List.{get_or-map}
 use Rattle.std.proofs.lemmas.Option.{slice_get_within, get_or_from_slice_get}
 use Rattle.support.specs.In.{In}
-use Rattle.support.proofs.Members.{In-append_cases, In-push_cases, In-map, In-map_from, In-flat_map_from, In-filter_from}
+use Rattle.support.proofs.Members.{not_In_nil, In-append_cases, In-push_cases, In-map, In-map_from, In-flat_map_from, In-filter_from}
 use Rattle.job_bodies.specs.declared.action.Action.{Action}
 use Rattle.job_bodies.specs.declared.action.Action.TheVariants.{Submit}
 use Rattle.job_bodies.specs.Plan.{Pool, Class, Plan, no_pool, no_class, pool_at, class_at, submitted_class}
@@ -20,8 +20,7 @@ use Rattle.weights.specs.Row.{row, AllHold}
 use Rattle.weights.specs.Vector.{Vector, queued_weight, job_weight, total, has_small_numbers}
 use Rattle.weights.specs.Rows.{rows, classes_of}
 use Rattle.weights.specs.Standing.{standing_rows}
-use Rattle.weights.specs.Bound.{bound_rows}
-use Rattle.soundness.proofs.BoundLaws.{BoundLaws}
+use Rattle.soundness.proofs.BoundLaws.{PoolBoundLaws}
 use Rattle.weights.specs.Blocked.{is_get, counted_rows, blocked_rows}
 use Rattle.weights.specs.Ranks.{is_counted, rank_rows}
 use Rattle.soundness.proofs.BlockedLaws.{BlockedLaws}
@@ -30,12 +29,12 @@ use Rattle.cert_text.specs.Cert.{PoolCert, no_pool_cert, pool_cert_at}
 use Rattle.soundness.specs.declared.note.Section.{Section}
 use Rattle.soundness.specs.declared.note.Section.TheVariants as section
 use Rattle.soundness.specs.declared.note.Note.{Note}
-use Rattle.soundness.specs.Conditions.{note, in_section, bound_section, pool_conditions, conditions, failing}
+use Rattle.soundness.specs.Conditions.{note, in_section, bound_conditions, pool_conditions, conditions, failing}
 use Rattle.soundness.specs.Accepted.{accepted}
 use Rattle.soundness.proofs.CertLaws.{cert_laws}
-use Rattle.soundness.proofs.Faults.{pool_numbers, accepted_from_parts}
-use Rattle.size_search.specs.Submitted.{IsWithoutCause}
-use Rattle.size_search.specs.Steady.{steady_vector, steady_pool, steady_ranks, steady_cert}
+use Rattle.soundness.proofs.Faults.{BoundRowsHold, pool_numbers, accepted_from_parts}
+use Rattle.size_search.specs.Submitted.{IsAllGot}
+use Rattle.size_search.specs.Steady.{bound_of, steady_vector, steady_pool, steady_ranks, steady_cert}
 use Rattle.size_search.specs.SteadyLaws.{AreEnough, SteadyCertificatesAccept}
 use Rattle.size_search.proofs.Depths.{get_or-changed, levels_sink}
 use Rattle.size_search.proofs.Steadiness.{queued_weighs, job_weighs, steady_laws}
@@ -45,10 +44,10 @@ use Rattle.support.proofs.Members.{In-slice_get}
 
 -- ---- the parts of the certificate
 
-pool_part : (plan : Plan) (p : ℕ) → p < length plan.pools → pool_cert_at (steady_cert plan) p ≡ steady_pool plan
-pool_part plan p inside = get_or-map (λ (pool : Pool). steady_pool plan) plan.pools p no_pool no_pool_cert inside
+pool_part : (plan : Plan) (p : ℕ) → p < length plan.pools → pool_cert_at (steady_cert plan) p ≡ steady_pool plan (pool_at plan p)
+pool_part plan p inside = get_or-map (steady_pool plan) plan.pools p no_pool no_pool_cert inside
 
-steady_ranks_laws : (plan : Plan) → HasValidBodies plan → IsWithoutCause plan → RankLaws plan (steady_ranks plan)
+steady_ranks_laws : (plan : Plan) → HasValidBodies plan → IsAllGot plan → RankLaws plan (steady_ranks plan)
 steady_ranks_laws plan is_ordered free = record {
   reaches = λ k inside. let none = get_or-changed (λ (pool : Pool). zero) plan.pools (class_at plan k).pool no_pool in omega (arith, none);
   falls = λ k i t at. let none = get_or-changed (λ (class : Class). zero) plan.classes (submitted_class (class_at plan k).body t) no_class in omega (arith, none);
@@ -67,7 +66,7 @@ blocked_body plan p counted v = rows DoneWeight plan v ++ flat_map (λ (entry : 
 in_pool : (plan : Plan) (p : ℕ) (entry : ℕ × Class) → In entry (classes_of plan p) → slice_get plan.classes entry.0 ≡ Some entry.1
 in_pool plan p entry at = at_number plan.classes entry (In-filter_from (λ (any : ℕ × Class). any.1.pool == p) (enumerate_from 0 plan.classes) at).0
 
-standing_holds : (plan : Plan) (p : ℕ) → HasValidBodies plan → IsWithoutCause plan → AllHold (standing_body plan p (steady_vector plan))
+standing_holds : (plan : Plan) (p : ℕ) → HasValidBodies plan → IsAllGot plan → AllHold (standing_body plan p (steady_vector plan))
 standing_holds plan p is_ordered free x at =
     let v = steady_vector plan in
     let of_class = λ (entry : ℕ × Class). row S1 (place.Class entry.0) 1 (queued_weight v entry.0) in
@@ -79,7 +78,7 @@ standing_holds plan p is_ordered free x at =
     subst (λ (y : Row). y.left ≤ y.right) found.2 (queued_weighs plan is_ordered free found.0.0 (slice_get_within plan.classes found.0.0 found.0.1 stands)))
     (In-append_cases (rows DoneWeight plan v) (map of_class (classes_of plan p)) at)
 
-blocked_holds : (plan : Plan) (p : ℕ) (counted : ℕ → ℕ → Bool) → HasValidBodies plan → IsWithoutCause plan → AllHold (blocked_body plan p counted (steady_vector plan))
+blocked_holds : (plan : Plan) (p : ℕ) (counted : ℕ → ℕ → Bool) → HasValidBodies plan → IsAllGot plan → AllHold (blocked_body plan p counted (steady_vector plan))
 blocked_holds plan p counted is_ordered free x at =
     let v = steady_vector plan in
     let of_class = λ (entry : ℕ × Class). counted_rows counted v entry.0 entry.1 in
@@ -115,20 +114,26 @@ fails_at_total part rows t n hold of_total wrong at =
     (λ (final : found.0 ≡ t). ap (λ (y : Note). y.place) (sym found.2) ∙ (ap (λ (x : Row). x.place) final ∙ of_total))
     (In-push_cases rows t found.1)
 
-of_pool : (plan : Plan) (p : ℕ) (n : Note) → HasValidBodies plan → IsWithoutCause plan → p < length plan.pools → ltb n.right n.left ≡ true → In n (pool_conditions plan (steady_cert plan) p) → n.place ≡ place.Total
+-- only the total of the steady vector can fail as a condition of the bound
+of_bound : (plan : Plan) (p : ℕ) (n : Note) (may_reject : Bool) → HasValidBodies plan → IsAllGot plan → ltb n.right n.left ≡ true → In n (bound_conditions plan p (bound_of (steady_vector plan) may_reject)) → n.place ≡ place.Total
+of_bound plan p n true is_ordered free wrong at = absurd (not_In_nil at)
+of_bound plan p n false is_ordered free wrong at =
+    let v = steady_vector plan in
+    fails_at_total (section.Standing p) (standing_body plan p v) (row S2 place.Total (total plan v) (pool_at plan p).queue) n (standing_holds plan p is_ordered free) refl wrong at
+
+of_pool : (plan : Plan) (p : ℕ) (n : Note) → HasValidBodies plan → IsAllGot plan → p < length plan.pools → ltb n.right n.left ≡ true → In n (pool_conditions plan (steady_cert plan) p) → n.place ≡ place.Total
 of_pool plan p n is_ordered free inside wrong at =
     let v = steady_vector plan in
     let counted = is_counted plan (steady_ranks plan) in
-    let here : In n (in_section (section.Standing p) (standing_rows plan p v) ++ in_section (section.Blocked p) (blocked_rows plan p counted v)) =
-    subst
-    (λ (pool : PoolCert). In n (in_section (bound_section p pool.bound) (bound_rows plan p pool.bound) ++ in_section (section.Blocked p) (blocked_rows plan p counted pool.blocked)))
-    (pool_part plan p inside) at in
+    let bound = bound_of v (pool_at plan p).may_reject in
+    let here : In n (bound_conditions plan p bound ++ in_section (section.Blocked p) (blocked_rows plan p counted v)) =
+    subst (λ (pool : PoolCert). In n (bound_conditions plan p pool.bound ++ in_section (section.Blocked p) (blocked_rows plan p counted pool.blocked))) (pool_part plan p inside) at in
     ⊎_elim
-    (λ first. fails_at_total (section.Standing p) (standing_body plan p v) (row S2 place.Total (total plan v) (pool_at plan p).queue) n (standing_holds plan p is_ordered free) refl wrong first)
+    (λ first. of_bound plan p n (pool_at plan p).may_reject is_ordered free wrong first)
     (λ second. fails_at_total (section.Blocked p) (blocked_body plan p counted v) (row B2 place.Total (total plan v) ((pool_at plan p).core - 1)) n (blocked_holds plan p counted is_ordered free) refl wrong second)
-    (In-append_cases (in_section (section.Standing p) (standing_rows plan p v)) (in_section (section.Blocked p) (blocked_rows plan p counted v)) here)
+    (In-append_cases (bound_conditions plan p bound) (in_section (section.Blocked p) (blocked_rows plan p counted v)) here)
 
-only_totals : (plan : Plan) → HasValidBodies plan → IsWithoutCause plan → (n : Note) → In n (failing plan (steady_cert plan)) → n.place ≡ place.Total
+only_totals : (plan : Plan) → HasValidBodies plan → IsAllGot plan → (n : Note) → In n (failing plan (steady_cert plan)) → n.place ≡ place.Total
 only_totals plan is_ordered free n at =
     let cert = steady_cert plan in
     let found = In-filter_from (λ (y : Note). ltb y.right y.left) (conditions plan cert) at in
@@ -146,26 +151,35 @@ only_totals plan is_ordered free n at =
 hold_with : (rows : List Row) (t : Row) → AllHold rows → t.left ≤ t.right → AllHold (rows ++ t ∷ [])
 hold_with rows t hold within x at = ⊎_elim (λ before. hold x before) (λ (final : x ≡ t). subst (λ (y : Row). y.left ≤ y.right) (sym final) within) (In-push_cases rows t at)
 
-accepted_where_enough : (plan : Plan) → IsWellFormed plan → IsWithoutCause plan → has_small_numbers (steady_vector plan) ≡ true → AreEnough plan → accepted plan (steady_cert plan) ≡ true
+bound_rows_hold : (plan : Plan) (p : ℕ) (may_reject : Bool) → HasValidBodies plan → IsAllGot plan → (may_reject ≡ false → total plan (steady_vector plan) ≤ (pool_at plan p).queue) → BoundRowsHold plan p (bound_of (steady_vector plan) may_reject)
+bound_rows_hold plan p true is_ordered free enough = tt
+bound_rows_hold plan p false is_ordered free enough =
+    let v = steady_vector plan in
+    hold_with (standing_body plan p v) (row S2 place.Total (total plan v) (pool_at plan p).queue) (standing_holds plan p is_ordered free) (enough refl)
+
+accepted_where_enough : (plan : Plan) → IsWellFormed plan → IsAllGot plan → has_small_numbers (steady_vector plan) ≡ true → AreEnough plan → accepted plan (steady_cert plan) ≡ true
 accepted_where_enough plan well free small enough =
     let v = steady_vector plan in
     let is_ordered = ordered plan well in
     let counted = is_counted plan (steady_ranks plan) in
     accepted_from_parts plan (steady_cert plan) (cert_is_fit plan well free.no_circle small) (rank_rows_hold plan (steady_ranks plan) (steady_ranks_laws plan is_ordered free))
     (λ p inside.
-    subst (λ (pool : PoolCert). AllHold (bound_rows plan p pool.bound)) (sym (pool_part plan p inside))
-    (hold_with (standing_body plan p v) (row S2 place.Total (total plan v) (pool_at plan p).queue) (standing_holds plan p is_ordered free) (enough p inside).0))
+    subst (λ (pool : PoolCert). BoundRowsHold plan p pool.bound) (sym (pool_part plan p inside)) (bound_rows_hold plan p (pool_at plan p).may_reject is_ordered free (enough p inside).0))
     (λ p inside.
     let of_core = (enough p inside).1 in
     subst (λ (pool : PoolCert). AllHold (blocked_rows plan p counted pool.blocked)) (sym (pool_part plan p inside))
     (hold_with (blocked_body plan p counted v) (row B2 place.Total (total plan v) ((pool_at plan p).core - 1)) (blocked_holds plan p counted is_ordered free) (omega (arith, of_core))))
 
+within_where_bound : (plan : Plan) (p : ℕ) (may_reject : Bool) → PoolBoundLaws plan p (bound_of (steady_vector plan) may_reject) → may_reject ≡ false → total plan (steady_vector plan) ≤ (pool_at plan p).queue
+within_where_bound plan p true laws must = absurd (false≢true (sym must))
+within_where_bound plan p false laws must = laws.within
+
 enough_where_accepted : (plan : Plan) → IsWellFormed plan → accepted plan (steady_cert plan) ≡ true → AreEnough plan
 enough_where_accepted plan well is_accepted p inside =
     let laws = cert_laws plan (steady_cert plan) is_accepted in
-    let bound = subst (λ (pool : PoolCert). BoundLaws plan p pool.bound) (pool_part plan p inside) (laws.bound p inside) in
+    let bound = subst (λ (pool : PoolCert). PoolBoundLaws plan p pool.bound) (pool_part plan p inside) (laws.bound p inside) in
     let blocked = subst (λ (pool : PoolCert). BlockedLaws plan (is_counted plan (steady_ranks plan)) p pool.blocked) (pool_part plan p inside) (laws.blocked p inside) in
-    (bound.within, omega (arith, blocked.within, (ordered plan well).core p inside))
+    (within_where_bound plan p (pool_at plan p).may_reject bound, omega (arith, blocked.within, (ordered plan well).core p inside))
 
 pub accepting : SteadyCertificatesAccept
 accepting plan well free small = record {

@@ -1,7 +1,9 @@
 -- No sizes are enough for a plan with a cause: the conditions of a certificate exclude the cause, and the cause does not depend on sizes.
-use Rattle.std.proofs.Common.{◌≡◌, ℕ, ◌<◌, ◌≤◌, true, List, [], ◌∷◌, length, map, filter, get_or, slice_get, IsTrue, subst, sym, ap, arith, refl}
+use Rattle.std.proofs.Common.{◌≡◌, ℕ, ◌<◌, ◌≤◌, true, false, List, [], ◌∷◌, length, map, filter, get_or, slice_get, Option, Some, None, IsTrue, subst, sym, ap, ◌∙◌, arith, refl}
+use Rattle.std.proofs.lemmas.Bool.{false≢true}
 use Rattle.job_bodies.specs.declared.action.Action.{Action}
-use Rattle.job_bodies.specs.Plan.{Class, Client, Plan, no_class, no_client, class_at, client_at}
+use Rattle.job_bodies.specs.declared.action.Action.TheVariants.{Submit}
+use Rattle.job_bodies.specs.Plan.{Pool, Class, Client, Plan, no_class, no_client, pool_at, class_at, client_at, submitted_class, class_of_submit}
 use Rattle.job_bodies.specs.WellFormed.{IsWellFormed}
 use Rattle.job_bodies.proofs.Bodies.{ordered}
 use Rattle.weights.specs.declared.bound.Bound.{Bound}
@@ -9,11 +11,13 @@ use Rattle.weights.specs.declared.bound.Bound.TheVariants.{Standing, Lifetime}
 use Rattle.weights.specs.Vector.{queued_weight}
 use Rattle.weights.specs.Bound.{bound_vector, bound_get_return}
 use Rattle.cert_text.specs.Cert.{Cert, pool_cert_at}
-use Rattle.soundness.proofs.BoundLaws.{BoundLaws, bound_vector_laws}
+use Rattle.soundness.proofs.BoundLaws.{BoundLaws, PoolBoundLaws, bound_vector_laws}
 use Rattle.soundness.specs.Accepted.{accepted}
 use Rattle.soundness.proofs.CertLaws.{cert_laws}
-use Rattle.size_search.specs.Submitted.{IsSubmitted, IsNeverGot, NeverGotByClients, NeverGotByJobs, repeated_bodies}
+use Rattle.size_search.specs.Submitted.{IsSubmitted, IsNeverGot, LostByClients, LostByJobs, may_be_rejected, repeated_bodies}
+use Rattle.size_search.specs.Widened.{outline}
 use Rattle.size_search.specs.NoSizesHelp.{IsBeyondSizes, NoSizesHelp}
+use Rattle.size_search.proofs.Changes.{pool_at-outline}
 use Rattle.size_search.proofs.Circles.{submitted_in, sinks_below}
 use Rattle.size_search.proofs.Losses.{class_submitted}
 use Rattle.size_search.proofs.Repeats.{IsWeighed, lighter_without_get, repeats_with_gets, none_is_lighter}
@@ -32,62 +36,94 @@ queued_weighs : (plan : Plan) (p : ℕ) (bound : Bound) → BoundLaws plan p bou
 queued_weighs plan p (Standing v) laws = laws.queued
 queued_weighs plan p (Lifetime v) laws = laws.queued
 
+-- a pool that must not reject jobs has a bound
+record IsBound (plan : Plan) (p : ℕ) : Type 0 where
+  bound : Bound
+  laws : BoundLaws plan p bound
+
+must_have_bound : (plan : Plan) (p : ℕ) (bound : Option Bound) → PoolBoundLaws plan p bound → (pool_at plan p).may_reject ≡ false → IsBound plan p
+must_have_bound plan p None may must = absurd (false≢true (sym must ∙ may))
+must_have_bound plan p (Some bound) laws must = record { bound = bound; laws = laws }
+
 -- the consequences of the bound of class k's pool: no action makes an actor heavier, and a queued job of class k has weight
-record IsBounded (plan : Plan) (cert : Cert) (bound : Bound) (k : ℕ) : Type 0 where
+record IsBounded (plan : Plan) (cert : Cert) (k : ℕ) : Type 0 where
+  bound : Bound
   weighed : IsWeighed (bound_get_return bound) plan (bound_vector bound) cert.ranks
   weighs : 1 ≤ queued_weight (bound_vector bound) k
 
-bounded : (plan : Plan) (cert : Cert) (k : ℕ) → IsWellFormed plan → IsTrue (accepted plan cert) → k < length plan.classes → IsBounded plan cert (pool_cert_at cert (class_at plan k).pool).bound k
-bounded plan cert k well is_accepted inside =
+bounded : (plan : Plan) (cert : Cert) (k : ℕ) → IsWellFormed plan → IsTrue (accepted plan cert) → k < length plan.classes → (pool_at plan (class_at plan k).pool).may_reject ≡ false → IsBounded plan cert k
+bounded plan cert k well is_accepted inside must =
     let p = (class_at plan k).pool in
-    let bound = (pool_cert_at cert p).bound in
     let is_ordered = ordered plan well in
     let laws = cert_laws plan cert is_accepted in
-    let of_bound = laws.bound p (is_ordered.pools k inside) in
+    let has = must_have_bound plan p (pool_cert_at cert p).bound (laws.bound p (is_ordered.pools k inside)) must in
     record {
-      weighed = record { ordered = is_ordered; vector = bound_vector_laws plan p bound of_bound; levels = laws.ranks };
-      weighs = queued_weighs plan p bound of_bound k inside refl;
+      bound = has.bound;
+      weighed = record { ordered = is_ordered; vector = bound_vector_laws plan p has.bound has.laws; levels = laws.ranks };
+      weighs = queued_weighs plan p has.bound has.laws k inside refl;
     }
 
 -- ---- clients with a submit that is never got
 
-no_client_does : (plan : Plan) (cert : Cert) (c i : ℕ) → IsWellFormed plan → IsTrue (accepted plan cert) → NeverGotByClients plan c i → ⊥
-no_client_does plan cert c i well is_accepted cause =
+-- the class that a submit submits
+class_of : (plan : Plan) (body : List Action) (i k : ℕ) → slice_get body i ≡ Some (Submit k) → may_be_rejected plan body i ≡ false → (pool_at plan (class_at plan k).pool).may_reject ≡ false
+class_of plan body i k at must = ap (λ (x : Option Action). (pool_at plan (class_at plan (class_of_submit x)).pool).may_reject) (sym at) ∙ must
+
+no_client_does : (plan : Plan) (cert : Cert) (c i : ℕ) → IsWellFormed plan → IsTrue (accepted plan cert) → LostByClients plan false c i → ⊥
+no_client_does plan cert c i well is_accepted lost =
+    let cause = lost.never_got in
     let submitted = class_submitted (slice_get (client_at plan c).body i) cause.never_got.is_submit in
     let k = submitted.0 in
-    let bound = (pool_cert_at cert (class_at plan k).pool).bound in
-    let facts = bounded plan cert k well is_accepted (((ordered plan well).clients c).submit i k submitted.1) in
-    repeats_with_gets (bound_get_return bound) plan (bound_vector bound) cert.ranks c i k facts.weighed cause.repeats submitted.1 cause.never_got.not_got facts.weighs
+    let facts = bounded plan cert k well is_accepted (((ordered plan well).clients c).submit i k submitted.1) (class_of plan (client_at plan c).body i k submitted.1 lost.of_pool) in
+    repeats_with_gets (bound_get_return facts.bound) plan (bound_vector facts.bound) cert.ranks c i k facts.weighed cause.repeats submitted.1 cause.never_got.not_got facts.weighs
 
-client_never_gets : (plan : Plan) (c i : ℕ) → NeverGotByClients plan c i → IsBeyondSizes plan
-client_never_gets plan c i cause other cert well same is_accepted =
+-- whether a job that a body submits may be rejected does not depend on sizes
+same_pools : (plan other : Plan) (body : List Action) (i : ℕ) → outline other ≡ outline plan → may_be_rejected other body i ≡ may_be_rejected plan body i
+same_pools plan other body i same =
+    let class : class_at other (submitted_class body i) ≡ class_at plan (submitted_class body i) = ap (λ (any : Plan). get_or any.classes (submitted_class body i) no_class) same in
+    let p = (class_at plan (submitted_class body i)).pool in
+    ap (λ (any : Class). (pool_at other any.pool).may_reject) class
+    ∙ (sym (ap (λ (pool : Pool). pool.may_reject) (pool_at-outline other p))
+    ∙ (ap (λ (any : Plan). (pool_at any p).may_reject) same
+    ∙ ap (λ (pool : Pool). pool.may_reject) (pool_at-outline plan p)))
+
+client_never_gets : (plan : Plan) (c i : ℕ) → LostByClients plan false c i → IsBeyondSizes plan
+client_never_gets plan c i lost other cert well same is_accepted =
+    let cause = lost.never_got in
     let client : client_at plan c ≡ client_at other c = ap (λ (any : Plan). get_or any.clients c no_client) (sym same) in
     no_client_does other cert c i well is_accepted
-    (record { repeats = subst (λ (any : Client). any.repeat ≡ true) client cause.repeats; never_got = subst (λ (any : Client). IsNeverGot any.body i) client cause.never_got })
+    (record {
+      never_got = record { repeats = subst (λ (any : Client). any.repeat ≡ true) client cause.repeats; never_got = subst (λ (any : Client). IsNeverGot any.body i) client cause.never_got };
+      of_pool = ap (λ (any : Client). may_be_rejected other any.body i) (sym client) ∙ (same_pools plan other (client_at plan c).body i same ∙ lost.of_pool);
+    })
 
 -- ---- jobs with a submit that is never got
 
-no_job_does : (plan : Plan) (cert : Cert) (k i : ℕ) → IsWellFormed plan → IsTrue (accepted plan cert) → NeverGotByJobs plan k i → ⊥
-no_job_does plan cert k i well is_accepted cause =
+no_job_does : (plan : Plan) (cert : Cert) (k i : ℕ) → IsWellFormed plan → IsTrue (accepted plan cert) → LostByJobs plan false k i → ⊥
+no_job_does plan cert k i well is_accepted lost =
+    let cause = lost.never_got in
     let submitted = class_submitted (slice_get (class_at plan k).body i) cause.never_got.is_submit in
     let j = submitted.0 in
-    let bound = (pool_cert_at cert (class_at plan j).pool).bound in
-    let facts = bounded plan cert j well is_accepted (((ordered plan well).classes k).submit i j submitted.1) in
-    none_is_lighter (bound_get_return bound) plan (bound_vector bound) cert.ranks facts.weighed cause.submitted
-    (lighter_without_get (bound_get_return bound) plan (bound_vector bound) cert.ranks k i j facts.weighed submitted.1 cause.never_got.not_got facts.weighs)
+    let facts = bounded plan cert j well is_accepted (((ordered plan well).classes k).submit i j submitted.1) (class_of plan (class_at plan k).body i j submitted.1 lost.of_pool) in
+    none_is_lighter (bound_get_return facts.bound) plan (bound_vector facts.bound) cert.ranks facts.weighed cause.submitted
+    (lighter_without_get (bound_get_return facts.bound) plan (bound_vector facts.bound) cert.ranks k i j facts.weighed submitted.1 cause.never_got.not_got facts.weighs)
 
 repeated_in : (plan other : Plan) → other.clients ≡ plan.clients → repeated_bodies plan ≡ repeated_bodies other
 repeated_in plan other same = ap (λ (clients : List Client). map (λ (client : Client). client.body) (filter (λ (client : Client). client.repeat) clients)) (sym same)
 
-class_never_gets : (plan : Plan) (k i : ℕ) → NeverGotByJobs plan k i → IsBeyondSizes plan
-class_never_gets plan k i cause other cert well same is_accepted =
+class_never_gets : (plan : Plan) (k i : ℕ) → LostByJobs plan false k i → IsBeyondSizes plan
+class_never_gets plan k i lost other cert well same is_accepted =
+    let cause = lost.never_got in
     let classes : other.classes ≡ plan.classes = ap (λ (any : Plan). any.classes) same in
     let clients : other.clients ≡ plan.clients = ap (λ (any : Plan). any.clients) same in
     let class : class_at plan k ≡ class_at other k = ap (λ (all : List Class). get_or all k no_class) (sym classes) in
     no_job_does other cert k i well is_accepted
     (record {
-      submitted = subst (λ (bodies : List (List Action)). IsSubmitted other bodies k) (repeated_in plan other clients) (submitted_in plan other (repeated_bodies plan) classes cause.submitted);
-      never_got = subst (λ (any : Class). IsNeverGot any.body i) class cause.never_got;
+      never_got = record {
+        submitted = subst (λ (bodies : List (List Action)). IsSubmitted other bodies k) (repeated_in plan other clients) (submitted_in plan other (repeated_bodies plan) classes cause.submitted);
+        never_got = subst (λ (any : Class). IsNeverGot any.body i) class cause.never_got;
+      };
+      of_pool = ap (λ (any : Class). may_be_rejected other any.body i) (sym class) ∙ (same_pools plan other (class_at plan k).body i same ∙ lost.of_pool);
     })
 
 pub no_sizes_help : NoSizesHelp

@@ -10,7 +10,7 @@ use Rattle.job_bodies.proofs.Bodies.{within_bounds}
 use Rattle.job_bodies.specs.WellFormed.{is_valid_name, is_within, has_valid_sizes, is_valid_pool, is_valid_class, is_valid_client, is_valid_body, are_distinct, IsWellFormed}
 use Rattle.size_search.specs.Fitted.{shape}
 use Rattle.size_search.specs.Widened.{outline}
-use Rattle.size_search.proofs.Shapes.{length-changed, list_all-agree}
+use Rattle.size_search.proofs.Shapes.{length-changed, list_all-agree, get_or-changed}
 use Rattle.size_search.proofs.Numbered.{map-twice}
 
 -- ---- the names of pools
@@ -24,6 +24,9 @@ names-outline plan = map-twice (λ (pool : Pool). pool.name) nameplate plan.pool
 
 pub length-outline : (plan : Plan) → length (outline plan).pools ≡ length plan.pools
 length-outline plan = length-changed nameplate plan.pools
+
+pub pool_at-outline : (plan : Plan) (p : ℕ) → pool_at (outline plan) p ≡ nameplate (pool_at plan p)
+pool_at-outline plan p = get_or-changed nameplate plan.pools p no_pool
 
 -- ---- well-formed pools
 

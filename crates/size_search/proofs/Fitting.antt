@@ -1,22 +1,22 @@
 -- The steady certificate fits its plan.
-use Rattle.std.proofs.Common.{◌≡◌, ℕ, zero, suc, ◌+◌, true, List, [], ◌∷◌, ◌++◌, length, map, get_or, refl, ap, subst, ◌∙◌, arith}
+use Rattle.std.proofs.Common.{◌≡◌, ℕ, zero, suc, ◌+◌, true, List, [], ◌∷◌, ◌++◌, length, map, get_or, Bool, false, refl, ap, sym, subst, ◌∙◌, arith}
 use Rattle.std.specs.Prelude.{◌==◌}
 use Rattle.std.specs.List.{list_all, enumerate_from}
 use Rattle.std.proofs.lemmas.Bool.{and_from, eq-eqb, le-leb}
-use Rattle.std.proofs.lemmas.List.{length-map}
+use Rattle.std.proofs.lemmas.List.{length-map, get_or-map}
 use Rattle.std.proofs.lemmas.Option.{slice_get_within, get_or_from_slice_get}
 use Rattle.std.proofs.lemmas.List.{length-append}
 use Rattle.support.specs.In.{In}
-use Rattle.support.proofs.Members.{In-map_from, list_all_from_In}
-use Rattle.job_bodies.specs.Plan.{Pool, Class, Client, Plan, no_class, no_client, class_at, client_at}
+use Rattle.support.proofs.Members.{list_all_from_In}
+use Rattle.job_bodies.specs.Plan.{Pool, Class, Client, Plan, no_pool, pool_at, no_class, no_client, class_at, client_at}
 use Rattle.job_bodies.specs.WellFormed.{IsWellFormed}
 use Rattle.job_bodies.proofs.Bodies.{HasValidBodies, ordered}
 use Rattle.job_bodies.specs.declared.limits.TheConstants.{MAX_WEIGHT}
 use Rattle.weights.specs.Vector.{Vector, class_weights, client_weights, has_shape, has_small_numbers, is_small, vector_fits}
 use Rattle.weights.specs.Ranks.{ranks_fit}
-use Rattle.cert_text.specs.Cert.{PoolCert, pool_cert_fits, cert_fits}
+use Rattle.cert_text.specs.Cert.{PoolCert, no_pool_cert, bound_fits, pool_cert_fits, cert_fits}
 use Rattle.size_search.specs.Submitted.{NoCircle}
-use Rattle.size_search.specs.Steady.{job_end, class_row, client_end, client_row, weights_from, level_above, jobs, jobs_within, levels_within, steady_vector, steady_levels, steady_pool, steady_ranks, steady_cert}
+use Rattle.size_search.specs.Steady.{job_end, class_row, client_end, client_row, weights_from, level_above, jobs, jobs_within, levels_within, steady_vector, steady_levels, bound_of, steady_pool, steady_ranks, steady_cert}
 use Rattle.size_search.proofs.Opened.{place_in}
 use Rattle.size_search.proofs.Balance.{weights-length}
 use Rattle.size_search.proofs.Depths.{shallow}
@@ -108,15 +108,28 @@ ranks_are_fit plan well none =
 
 -- ---- the certificate
 
-pool_is_fit : (plan : Plan) → vector_fits plan (steady_vector plan) ≡ true → (pool : PoolCert) → In pool (steady_cert plan).pools → pool_cert_fits plan pool ≡ true
-pool_is_fit plan fit pool at =
-    let found = In-map_from (λ (any : Pool). steady_pool plan) plan.pools at in
-    subst (λ (any : PoolCert). pool_cert_fits plan any ≡ true) found.2 (and_from (vector_fits plan (steady_vector plan)) (vector_fits plan (steady_vector plan)) fit fit)
+bound_is_fit : (plan : Plan) (p : ℕ) (may_reject : Bool) → (pool_at plan p).may_reject ≡ may_reject → vector_fits plan (steady_vector plan) ≡ true → bound_fits plan p (bound_of (steady_vector plan) may_reject) ≡ true
+bound_is_fit plan p true may fit = may
+bound_is_fit plan p false may fit = fit
+
+pub pool_is_fit : (plan : Plan) (p : ℕ) → vector_fits plan (steady_vector plan) ≡ true → pool_cert_fits plan p (steady_pool plan (pool_at plan p)) ≡ true
+pool_is_fit plan p fit =
+    and_from (bound_fits plan p (steady_pool plan (pool_at plan p)).bound) (vector_fits plan (steady_vector plan)) (bound_is_fit plan p (pool_at plan p).may_reject refl fit) fit
+
+-- the part at each place of the certificate is that of the pool at the same place
+pub part_at : (plan : Plan) (entry : ℕ × PoolCert) → In entry (enumerate_from 0 (steady_cert plan).pools) → steady_pool plan (pool_at plan entry.0) ≡ entry.1
+part_at plan entry at =
+    let stands = at_number (steady_cert plan).pools entry at in
+    let inside = slice_get_within (steady_cert plan).pools entry.0 entry.1 stands in
+    let known = length-map plan.pools (steady_pool plan) in
+    sym (get_or-map (steady_pool plan) plan.pools entry.0 no_pool no_pool_cert (omega arith)) ∙ get_or_from_slice_get (steady_cert plan).pools entry.0 entry.1 no_pool_cert stands
 
 pub cert_is_fit : (plan : Plan) → IsWellFormed plan → NoCircle plan → has_small_numbers (steady_vector plan) ≡ true → cert_fits plan (steady_cert plan) ≡ true
 cert_is_fit plan well none small =
+    let fit = vector_is_fit plan (ordered plan well) none small in
     and_from _ _
     (and_from _ _
-    (eq-eqb (length (steady_cert plan).pools) (length plan.pools) (length-map plan.pools (λ (pool : Pool). steady_pool plan)))
+    (eq-eqb (length (steady_cert plan).pools) (length plan.pools) (length-map plan.pools (steady_pool plan)))
     (ranks_are_fit plan well none))
-    (list_all_from_In (pool_cert_fits plan) (steady_cert plan).pools (pool_is_fit plan (vector_is_fit plan (ordered plan well) none small)))
+    (list_all_from_In (λ (entry : ℕ × PoolCert). pool_cert_fits plan entry.0 entry.1) (enumerate_from 0 (steady_cert plan).pools)
+    (λ entry at. subst (λ (part : PoolCert). pool_cert_fits plan entry.0 part ≡ true) (part_at plan entry at) (pool_is_fit plan entry.0 fit)))

@@ -16,7 +16,7 @@ use Rattle.size_search.specs.Widened.{with_max, widened, outline, IsWideFit, Has
 use Rattle.size_search.proofs.Numbered.{length-numbered, numbered_at, numbered_past, map-numbered}
 use Rattle.size_search.proofs.Shapes.{cert_fits-pools}
 use Rattle.size_search.proofs.TotalRows.{totals_where_accepted}
-use Rattle.size_search.proofs.Changes.{nameplate, length-outline, sizes_at}
+use Rattle.size_search.proofs.Changes.{nameplate, length-outline, pool_at-outline, sizes_at}
 use Rattle.size_search.proofs.LeastSizes.{raised_at, raised_past}
 
 -- ---- totals grow with the maximums
@@ -133,9 +133,9 @@ length-widened plan cert = length-numbered (λ (entry : ℕ × Pool). with_max p
 -- the certificate fits the plan if it accepts a plan that differs only in sizes
 pub wide_fit_fits : (plan other : Plan) (cert : Cert) → IsWideFit plan cert other → cert_fits plan cert ≡ true
 wide_fit_fits plan other cert fits =
-    sym (cert_fits-pools plan (outline plan).pools cert (length-outline plan))
+    sym (cert_fits-pools plan (outline plan).pools cert (length-outline plan) (λ p. ap (λ (pool : Pool). pool.may_reject) (pool_at-outline plan p)))
     ∙ (sym (ap (λ (any : Plan). cert_fits any cert) fits.same_outline)
-    ∙ (cert_fits-pools other (outline other).pools cert (length-outline other) ∙ (and_parts (cert_fits other cert) (is_nil (failing other cert)) fits.accepts).0))
+    ∙ (cert_fits-pools other (outline other).pools cert (length-outline other) (λ p. ap (λ (pool : Pool). pool.may_reject) (pool_at-outline other p)) ∙ (and_parts (cert_fits other cert) (is_nil (failing other cert)) fits.accepts).0))
 
 -- if some plan satisfies `IsWideFit`, no maximum of the widened plan is above the limit
 pub wide_fit_has_room : (plan other : Plan) (cert : Cert) (p : ℕ) → IsWideFit plan cert other → p < length (widened plan cert).pools → (pool_at (widened plan cert) p).max ≤ MAX_SIZE

@@ -33,3 +33,4 @@ pub mod WithoutPools
 pub mod Caused
 pub mod Sizings
 pub mod Deciding
+pub mod Tight

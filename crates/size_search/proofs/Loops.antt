@@ -1,11 +1,14 @@
 -- Loops over pools with their numbers.
-use Rattle.std.proofs.Common.{◌≡◌, ◌≤◌, ◌<◌, ◌+◌, ℕ, List, [], ◌∷◌, ◌++◌, length, get_or, drop, map, Option, Some, None, sym, ap, ◌∙◌, append_assoc}
+use Rattle.std.proofs.Common.{◌≡◌, ◌≤◌, ◌<◌, ◌+◌, ℕ, Bool, true, false, cond, List, [], ◌∷◌, ◌++◌, length, get_or, drop, map, Option, Some, None, sym, ap, ◌∙◌, append_assoc}
 use Rattle.std.specs.List.{enumerate_from}
 use Rattle.std.specs.Option.{option_or}
 use Rattle.std.proofs.lemmas.List.{at_drop_more, at_drop_all, append-nil}
-use Rattle.job_bodies.specs.Plan.{Pool, no_pool}
+use Rattle.job_bodies.specs.Plan.{Pool, Plan, no_pool}
+use Rattle.cert_text.specs.Cert.{Cert, pool_cert_at}
 use Rattle.size_search.specs.declared.unfit.Unfit.{Unfit}
-use Rattle.size_search.specs.Unfit.{unfit_pool, first_unfit}
+use Rattle.size_search.specs.declared.unfit.Unfit.TheVariants.{Queue}
+use Rattle.size_search.specs.Fitted.{has_queue}
+use Rattle.size_search.specs.Unfit.{unfit_pool, first_unfit, first_tight}
 
 -- the list of the pools from index i on begins with pool i
 turn : {Y : Type 0} (F : List (ℕ × Pool) → Y) (pools : List Pool) (i : ℕ) → i < length pools → F (enumerate_from i (drop i pools)) ≡ F ((i, get_or pools i no_pool) ∷ enumerate_from (i + 1) (drop (i + 1) pools))
@@ -48,3 +51,25 @@ unfit_here pools i unfit all inside found prefix_is =
 -- after the last pool, the result is None
 pub none_unfit : (pools : List Pool) (i : ℕ) (all : Option Unfit) → length pools ≤ i → rest_unfit pools i ≡ all → None ≡ all
 none_unfit pools i all past prefix_is = sym (at_drop_all (λ (ps : List Pool). first_unfit (enumerate_from i ps)) pools i past) ∙ prefix_is
+
+-- ---- the first pool whose queue is too small
+
+-- the reason for the first pool from index i on whose queue is smaller than its bound requires, or None
+abbrev pub rest_tight : Plan → Cert → List Pool → ℕ → Option Unfit
+rest_tight plan cert pools i = first_tight plan cert (enumerate_from i (drop i pools))
+
+-- if the queue of pool i is large enough, the result is that for the later pools
+pub tight_later : (plan : Plan) (cert : Cert) (pools : List Pool) (i : ℕ) (all : Option Unfit) → i < length pools → has_queue plan (pool_cert_at cert i).bound (get_or pools i no_pool) ≡ true → rest_tight plan cert pools i ≡ all
+    → rest_tight plan cert pools (i + 1) ≡ all
+tight_later plan cert pools i all inside enough prefix_is =
+    sym (turn (first_tight plan cert) pools i inside ∙ ap (λ (b : Bool). cond b (rest_tight plan cert pools (i + 1)) (Some (Queue i))) enough) ∙ prefix_is
+
+-- if the queue of pool i is too small, the result is its reason
+pub tight_here : (plan : Plan) (cert : Cert) (pools : List Pool) (i : ℕ) (all : Option Unfit) → i < length pools → has_queue plan (pool_cert_at cert i).bound (get_or pools i no_pool) ≡ false → rest_tight plan cert pools i ≡ all
+    → Some (Queue i) ≡ all
+tight_here plan cert pools i all inside tight prefix_is =
+    sym (turn (first_tight plan cert) pools i inside ∙ ap (λ (b : Bool). cond b (rest_tight plan cert pools (i + 1)) (Some (Queue i))) tight) ∙ prefix_is
+
+-- after the last pool, the result is None
+pub none_tight : (plan : Plan) (cert : Cert) (pools : List Pool) (i : ℕ) (all : Option Unfit) → length pools ≤ i → rest_tight plan cert pools i ≡ all → None ≡ all
+none_tight plan cert pools i all past prefix_is = sym (at_drop_all (λ (ps : List Pool). first_tight plan cert (enumerate_from i ps)) pools i past) ∙ prefix_is

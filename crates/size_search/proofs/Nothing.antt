@@ -1,5 +1,5 @@
 -- Numbers past the end of a plan's lists, for which the defaults are used.
-use Rattle.std.proofs.Common.{◌≡◌, ℕ, ◌+◌, ◌<◌, ◌≤◌, true, false, List, [], ◌∷◌, length, filter, get_or, ⊎_elim, sym, ap, subst, ◌∙◌, arith}
+use Rattle.std.proofs.Common.{◌≡◌, ℕ, ◌+◌, ◌<◌, ◌≤◌, Bool, true, false, List, [], ◌∷◌, length, filter, get_or, ⊎_elim, sym, ap, subst, ◌∙◌, arith}
 use Rattle.std.proofs.lemmas.Bool.{false≢true, cases_lt}
 use Rattle.std.proofs.lemmas.List.{get_or_past, get_or_default}
 use Rattle.std.proofs.lemmas.Option.{slice_get_within, get_or_from_slice_get}
@@ -8,7 +8,7 @@ use Rattle.support.proofs.Members.{not_In_nil, In-cons_cases, In-map, In-map_fro
 use Rattle.job_bodies.specs.declared.action.Action.{Action}
 use Rattle.job_bodies.specs.declared.action.Action.TheVariants.{Submit}
 use Rattle.job_bodies.specs.Plan.{Class, Client, Plan, no_class, no_client, class_at, client_at}
-use Rattle.size_search.specs.Submitted.{IsSubmitted, begins, follows, IsNeverGot, NeverGotByClients, NeverGotByJobs, repeated_bodies}
+use Rattle.size_search.specs.Submitted.{IsSubmitted, begins, follows, IsNeverGot, LostByClients, LostByJobs, repeated_bodies}
 use Rattle.size_search.proofs.Following.{place_in}
 use Rattle.size_search.specs.declared.submitted_classes.SubmittedClasses.{SubmittedClasses}
 use Rattle.size_search.specs.Reaching.{Covers}
@@ -27,13 +27,15 @@ no_circle_past plan k past submitted =
 never_got_in_nothing : (i : ℕ) → IsNeverGot [] i → ⊥
 never_got_in_nothing i cause = false≢true cause.is_submit
 
-pub no_job_past : (plan : Plan) (k i : ℕ) → length plan.classes ≤ k → NeverGotByJobs plan k i → ⊥
-no_job_past plan k i past cause =
+pub no_job_past : (plan : Plan) (may_reject : Bool) (k i : ℕ) → length plan.classes ≤ k → LostByJobs plan may_reject k i → ⊥
+no_job_past plan may_reject k i past lost =
+    let cause = lost.never_got in
     let none : (class_at plan k).body ≡ [] = ap (λ (class : Class). class.body) (get_or_past plan.classes k no_class past) in
     never_got_in_nothing i (subst (λ (body : List Action). IsNeverGot body i) none cause.never_got)
 
-pub no_client_past : (plan : Plan) (c i : ℕ) → length plan.clients ≤ c → NeverGotByClients plan c i → ⊥
-no_client_past plan c i past cause =
+pub no_client_past : (plan : Plan) (may_reject : Bool) (c i : ℕ) → length plan.clients ≤ c → LostByClients plan may_reject c i → ⊥
+no_client_past plan may_reject c i past lost =
+    let cause = lost.never_got in
     let none : (client_at plan c).repeat ≡ false = ap (λ (client : Client). client.repeat) (get_or_past plan.clients c no_client past) in
     false≢true (sym none ∙ cause.repeats)
 

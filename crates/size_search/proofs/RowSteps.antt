@@ -168,10 +168,10 @@ vector_from plan v workers clients ordered none computed are_zeros are_rows =
 abbrev pub cert_of : List PoolCert → List ℕ → List ℕ → List ℕ → Cert
 cert_of pools zeros' nothing levels = record { pools = pools; ranks = record { pools = zeros'; reach = nothing; levels = levels } }
 
-pub cert_from : (plan : Plan) (v : Vector) (pools : List PoolCert) (ranks reach levels : List ℕ) → v ≡ steady_vector plan → pools ≡ map (λ (pool : Pool). pool_of v) plan.pools → ranks ≡ replicate (length plan.pools) 0
+pub cert_from : (plan : Plan) (v : Vector) (pools : List PoolCert) (ranks reach levels : List ℕ) → v ≡ steady_vector plan → pools ≡ map (pool_of v) plan.pools → ranks ≡ replicate (length plan.pools) 0
     → reach ≡ replicate (length plan.classes) 0 → levels ≡ steady_levels plan → cert_of pools ranks reach levels ≡ steady_cert plan
 cert_from plan v pools ranks reach levels is are_pools are_ranks are_reach are_levels =
-    ap (λ (any : List PoolCert). cert_of any ranks reach levels) (are_pools ∙ ap (λ (w : Vector). map (λ (pool : Pool). pool_of w) plan.pools) is)
+    ap (λ (any : List PoolCert). cert_of any ranks reach levels) (are_pools ∙ ap (λ (w : Vector). map (pool_of w) plan.pools) is)
     ∙ (ap (λ (any : List ℕ). cert_of (steady_cert plan).pools any reach levels) (are_ranks ∙ zeros plan.pools)
     ∙ (ap (λ (any : List ℕ). cert_of (steady_cert plan).pools (steady_ranks plan).pools any levels) (are_reach ∙ zeros plan.classes)
     ∙ ap (cert_of (steady_cert plan).pools (steady_ranks plan).pools (steady_ranks plan).reach) are_levels))

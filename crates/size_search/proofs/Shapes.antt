@@ -1,5 +1,5 @@
 -- The properties of a plan that do not depend on its cores and queues, so that the plan's shape has them too.
-use Rattle.std.proofs.Common.{◌≡◌, ℕ, ◌+◌, ◌*◌, zero, suc, Bool, ◌&&◌, List, [], ◌∷◌, ◌++◌, length, get_or, map, flat_map, sum_by, refl, ap, ap₂, ◌∙◌}
+use Rattle.std.proofs.Common.{◌≡◌, ℕ, ◌+◌, ◌*◌, zero, suc, Bool, ◌&&◌, List, [], ◌∷◌, ◌++◌, length, get_or, map, flat_map, sum_by, Option, Some, None, refl, ap, ap₂, ◌∙◌}
 use Rattle.std.specs.Prelude.{◌==◌}
 use Rattle.std.specs.List.{enumerate_from, list_all}
 use Rattle.support.proofs.Sums.{sum_by-map}
@@ -17,7 +17,7 @@ use Rattle.weights.specs.Rows.{rows, classes_of}
 use Rattle.weights.specs.Bound.{bound_vector}
 use Rattle.weights.specs.Blocked.{counted_rows}
 use Rattle.weights.specs.Ranks.{Ranks, ranks_fit, is_counted}
-use Rattle.cert_text.specs.Cert.{PoolCert, Cert, pool_cert_fits, cert_fits}
+use Rattle.cert_text.specs.Cert.{PoolCert, Cert, bound_fits, pool_cert_fits, cert_fits}
 use Rattle.size_search.specs.Fitted.{shape}
 
 -- ---- lists
@@ -95,6 +95,20 @@ bound_body-shape plan p (Lifetime v) =
     (λ (workers : List Row). workers ++ rows NoWeight plan v ++ flat_map (λ entry. map (λ weight. row L2 (place.Class entry.0) 1 weight) (class_weights v entry.0)) (classes_of plan p))
     (numbers-map (λ q. row L1 (place.Worker q) (workers_weight v q) 0) bare 0 plan.pools)
 
+-- the rows of a pool's bound, without the total; there are none if the pool has no bound
+abbrev pub optional_body : Plan → ℕ → Option Bound → List Row
+optional_body plan p None = []
+optional_body plan p (Some bound) = bound_body plan p bound
+
+pub optional_body-shape : (plan : Plan) (p : ℕ) (bound : Option Bound) → optional_body (shape plan) p bound ≡ optional_body plan p bound
+optional_body-shape plan p None = refl
+optional_body-shape plan p (Some bound) = bound_body-shape plan p bound
+
+-- the total of a bound; 0 if there is no bound
+abbrev pub total_of : Plan → Option Bound → ℕ
+total_of plan None = 0
+total_of plan (Some bound) = total plan (bound_vector bound)
+
 -- ---- the bound of a pool's blocked jobs, without the total
 
 abbrev pub blocked_body : Plan → Ranks → ℕ → Vector → List Row
@@ -108,13 +122,22 @@ blocked_body-shape plan ranks p v = refl
 vector_fits-pools : (plan : Plan) (pools : List Pool) (v : Vector) → length pools ≡ length plan.pools → vector_fits (record plan { pools = pools }) v ≡ vector_fits plan v
 vector_fits-pools plan pools v as_many = rw as_many refl
 
--- whether a certificate fits a plan depends on the number of its pools, and on no other property of them
-pub cert_fits-pools : (plan : Plan) (pools : List Pool) (cert : Cert) → length pools ≡ length plan.pools → cert_fits (record plan { pools = pools }) cert ≡ cert_fits plan cert
-cert_fits-pools plan pools cert as_many =
+-- whether a bound fits pool p depends on the number of pools, and on whether pool p may reject jobs
+bound_fits-pools : (plan : Plan) (pools : List Pool) (p : ℕ) (bound : Option Bound) → length pools ≡ length plan.pools → (get_or pools p no_pool).may_reject ≡ (pool_at plan p).may_reject
+    → bound_fits (record plan { pools = pools }) p bound ≡ bound_fits plan p bound
+bound_fits-pools plan pools p None as_many same = same
+bound_fits-pools plan pools p (Some bound) as_many same = vector_fits-pools plan pools (bound_vector bound) as_many
+
+-- whether a certificate fits a plan depends on the number of its pools, on which of them may reject jobs, and on no other property of them
+pub cert_fits-pools : (plan : Plan) (pools : List Pool) (cert : Cert) → length pools ≡ length plan.pools → ((p : ℕ) → (get_or pools p no_pool).may_reject ≡ (pool_at plan p).may_reject)
+    → cert_fits (record plan { pools = pools }) cert ≡ cert_fits plan cert
+cert_fits-pools plan pools cert as_many same =
     let other = record plan { pools = pools } in
-    let pool_fits = λ (pool : PoolCert). ap₂ (λ (a b : Bool). a && b) (vector_fits-pools plan pools (bound_vector pool.bound) as_many) (vector_fits-pools plan pools pool.blocked as_many) in
-    ap (λ (all : Bool). length cert.pools == length pools && ranks_fit other cert.ranks && all) (list_all-agree (pool_cert_fits other) (pool_cert_fits plan) cert.pools pool_fits)
+    let part_fits = λ (entry : ℕ × PoolCert).
+    ap₂ (λ (a b : Bool). a && b) (bound_fits-pools plan pools entry.0 entry.1.bound as_many (same entry.0)) (vector_fits-pools plan pools entry.1.blocked as_many) in
+    ap (λ (all : Bool). length cert.pools == length pools && ranks_fit other cert.ranks && all)
+    (list_all-agree (λ (entry : ℕ × PoolCert). pool_cert_fits other entry.0 entry.1) (λ (entry : ℕ × PoolCert). pool_cert_fits plan entry.0 entry.1) (enumerate_from 0 cert.pools) part_fits)
     ∙ rw as_many refl
 
 pub cert_fits-shape : (plan : Plan) (cert : Cert) → cert_fits (shape plan) cert ≡ cert_fits plan cert
-cert_fits-shape plan cert = cert_fits-pools plan (shape plan).pools cert (length-shape plan)
+cert_fits-shape plan cert = cert_fits-pools plan (shape plan).pools cert (length-shape plan) (λ p. ap (λ (pool : Pool). pool.may_reject) (pool_at-shape plan p))

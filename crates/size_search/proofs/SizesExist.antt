@@ -1,5 +1,5 @@
 -- If no cause holds, sizes above the steady total are enough.
-use Rattle.std.proofs.Common.{◌≡◌, ℕ, zero, suc, ◌+◌, ◌-◌, ◌*◌, ◌<◌, ◌≤◌, max, true, ◌&&◌, List, [], ◌∷◌, ◌++◌, length, map, get_or, sum_by, IsTrue, refl, ap, ap₂, ◌∙◌, arith}
+use Rattle.std.proofs.Common.{◌≡◌, ℕ, zero, suc, ◌+◌, ◌-◌, ◌*◌, ◌<◌, ◌≤◌, max, Bool, true, false, ◌&&◌, List, [], ◌∷◌, ◌++◌, length, map, get_or, sum_by, IsTrue, refl, ap, ap₂, ◌∙◌, arith}
 use Rattle.std.specs.List.{list_all, enumerate_from}
 use Rattle.std.proofs.lemmas.Bool.{and_parts, and_from, le-leb}
 use Rattle.std.proofs.lemmas.List.{length-map, get_or-map}
@@ -7,13 +7,13 @@ use Rattle.std.proofs.lemmas.List.Sums.{sum_by-cons}
 use Rattle.job_bodies.specs.declared.action.Action.{Action}
 use Rattle.job_bodies.specs.declared.action.Action.TheVariants.{Work, Submit, Get}
 use Rattle.job_bodies.specs.declared.limits.TheConstants.{MAX_SIZE}
-use Rattle.job_bodies.specs.Plan.{Pool, Class, Client, Plan, no_pool, pool_at, class_at, submitted_class}
+use Rattle.job_bodies.specs.Plan.{Pool, Class, Client, Plan, no_pool, pool_at, class_at, client_at, submitted_class}
 use Rattle.job_bodies.specs.WellFormed.{has_valid_sizes, IsWellFormed}
 use Rattle.weights.specs.Vector.{Vector, queued_weight, done_weight, workers_weight, has_small_numbers, is_small}
 use Rattle.size_search.specs.Widened.{outline}
 use Rattle.size_search.proofs.Numbered.{map-twice}
 use Rattle.size_search.proofs.Changes.{nameplate, well_formed_changed}
-use Rattle.size_search.specs.Submitted.{IsWithoutCause, repeated_bodies}
+use Rattle.size_search.specs.Submitted.{IsAllGot, IsWithoutCause, LosesRejected, by_client, by_job, may_be_rejected, repeated_bodies}
 use Rattle.size_search.specs.Steady.{weight_at, weights_from, job_end, class_row, client_end, client_row, jobs_within, jobs, steady_vector, steady_total, steady_cert}
 use Rattle.size_search.proofs.Accepting.{accepting}
 use Rattle.size_search.specs.NoSizesHelp.{HasSizes, SizesExist}
@@ -91,11 +91,26 @@ total-pools plan pools =
 
 -- ---- the causes do not depend on sizes
 
-pub free-pools : (plan : Plan) (pools : List Pool) → IsWithoutCause plan → IsWithoutCause (with_pools plan pools)
+pub free-pools : (plan : Plan) (pools : List Pool) → IsAllGot plan → IsAllGot (with_pools plan pools)
 free-pools plan pools free = record {
   no_circle = λ k known. free.no_circle k (submitted_in (with_pools plan pools) plan ((class_at plan k).body ∷ []) refl known);
   clients_get = λ c i cause. free.clients_get c i (record { repeats = cause.repeats; never_got = cause.never_got });
   jobs_get = λ k i cause. free.jobs_get k i (record { submitted = submitted_in (with_pools plan pools) plan (repeated_bodies plan) refl cause.submitted; never_got = cause.never_got });
+}
+
+-- a job is of a pool that may reject jobs, or of one that must not
+either_pool : (b : Bool) → (b ≡ false → ⊥) → (b ≡ true → ⊥) → ⊥
+either_pool true must may = may refl
+either_pool false must may = must refl
+
+-- if no cause holds, and no submit to a pool that may reject jobs is made forever and never got, no submit at all is
+pub all_got : (plan : Plan) → IsWithoutCause plan → ¬ LosesRejected plan → IsAllGot plan
+all_got plan free none = record {
+  no_circle = free.no_circle;
+  clients_get = λ c i cause.
+      either_pool (may_be_rejected plan (client_at plan c).body i) (λ must. free.clients_get c i (record { never_got = cause; of_pool = must })) (λ may. none (by_client (record { never_got = cause; of_pool = may })));
+  jobs_get = λ k i cause.
+      either_pool (may_be_rejected plan (class_at plan k).body i) (λ must. free.jobs_get k i (record { never_got = cause; of_pool = must })) (λ may. none (by_job (record { never_got = cause; of_pool = may })));
 }
 
 -- ---- sizes above the total
@@ -109,7 +124,7 @@ all_valid n (pool ∷ pools) low high =
     let same : n ≤ n = omega arith in
     and_from _ _ (and_from _ _ (and_from _ _ (and_from _ _ (le-leb 1 n low) (le-leb n MAX_SIZE high)) (and_from _ _ (le-leb n n same) (le-leb n MAX_SIZE high))) (and_from _ _ (le-leb 1 n low) (le-leb n MAX_SIZE high))) (all_valid n pools low high)
 
-sizes_where_free : (plan : Plan) → IsWellFormed plan → IsTrue (has_small_numbers (steady_vector plan)) → steady_total plan < MAX_SIZE → IsWithoutCause plan → HasSizes plan
+sizes_where_free : (plan : Plan) → IsWellFormed plan → IsTrue (has_small_numbers (steady_vector plan)) → steady_total plan < MAX_SIZE → IsAllGot plan → HasSizes plan
 sizes_where_free plan well small low free =
     let n = steady_total plan + 1 in
     let pools = map (sized n) plan.pools in
@@ -127,7 +142,7 @@ sizes_where_free plan well small low free =
           let pool : pool_at other p ≡ sized n (pool_at plan p) = get_or-map (sized n) plan.pools p no_pool no_pool known in
           let queue = ap (λ (any : Pool). any.queue) pool in
           let core = ap (λ (any : Pool). any.core) pool in
-          (omega (arith, queue, total-pools plan pools), omega (arith, core, total-pools plan pools)));
+          (λ must. omega (arith, queue, total-pools plan pools), omega (arith, core, total-pools plan pools)));
     }
 
 pub free_where_sizes : (plan : Plan) → HasSizes plan → IsWithoutCause plan
@@ -138,4 +153,4 @@ free_where_sizes plan sizes = record {
 }
 
 pub sizes_exist : SizesExist
-sizes_exist plan well small low = (free_where_sizes plan, sizes_where_free plan well small low)
+sizes_exist plan well small low none = (free_where_sizes plan, λ free. sizes_where_free plan well small low (all_got plan free none))

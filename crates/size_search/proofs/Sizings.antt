@@ -72,8 +72,16 @@ sized_where_fitted plan wide fit cert widest found cores = record {
     core = λ p. omega (arith, found.fits.no_smaller.core p, ap (λ (pool : Pool). pool.core) (wider_pool plan wide p widest.wider));
     queue = λ p. omega (arith, found.fits.no_smaller.queue p, ap (λ (pool : Pool). pool.queue) (wider_pool plan wide p widest.wider));
   };
+  keeps_queues = record { same_queue = λ p may. found.fits.resized.keeps_queues.same_queue p (wide_may p ∙ may) ∙ wide_queue p };
   least = λ other resized larger accepts. found.least other (record {
-    resized = record { well_formed = resized.well_formed; same_shape = resized.same_shape ∙ found.fits.resized.same_shape };
+    resized = record {
+      well_formed = resized.well_formed;
+      same_shape = resized.same_shape ∙ found.fits.resized.same_shape;
+      keeps_queues = record {
+        same_queue = λ p may.
+            resized.keeps_queues.same_queue p ((has_shape wide fit found.fits.resized.same_shape).may_reject p ∙ may) ∙ found.fits.resized.keeps_queues.same_queue p may;
+      };
+    };
     no_smaller = no_smaller_than_wider plan wide other widest.wider larger;
     accepts = accepts;
   });
@@ -82,6 +90,12 @@ sized_where_fitted plan wide fit cert widest found cores = record {
   max_is_core = max_is_core;
 }
   where
+    wide_queue : (p : ℕ) → (pool_at wide p).queue ≡ (pool_at plan p).queue
+    wide_queue p = ap (λ (pool : Pool). pool.queue) (wider_pool plan wide p widest.wider)
+
+    wide_may : (p : ℕ) → (pool_at wide p).may_reject ≡ (pool_at plan p).may_reject
+    wide_may p = ap (λ (pool : Pool). pool.may_reject) (wider_pool plan wide p widest.wider)
+
     maxes : (p : ℕ) → (pool_at fit p).max ≡ (pool_at wide p).max
     maxes p = (has_shape wide fit found.fits.resized.same_shape).max p
 
@@ -101,6 +115,7 @@ pub sized_where_accepted : (plan : Plan) (cert : Cert) → IsWellFormed plan →
 sized_where_accepted plan cert well accepts = record {
   fits = record { well_formed = well; same_outline = refl; no_smaller_max = λ p. omega arith; accepts = accepts };
   no_smaller = record { core = λ p. omega arith; queue = λ p. omega arith };
+  keeps_queues = record { same_queue = λ p may. refl };
   least = λ other resized larger accepted. larger;
   least_maxes = λ other fits p. fits.no_smaller_max p;
   least_cores = λ other fits larger p. larger.core p;

@@ -12,7 +12,7 @@ use Rattle.job_bodies.proofs.Bodies.{HasValidBodies}
 use Rattle.weights.specs.declared.get_return.GetReturn.TheVariants.{DoneWeight}
 use Rattle.weights.specs.Vector.{Vector, workers_weight, queued_weight, job_weight, done_weight, client_weight}
 use Rattle.soundness.proofs.VectorLaws.{BodyLaws, VectorLaws}
-use Rattle.size_search.specs.Submitted.{IsSubmitted, begins, follows, IsNeverGot, repeated_bodies, IsWithoutCause}
+use Rattle.size_search.specs.Submitted.{IsSubmitted, begins, follows, IsNeverGot, repeated_bodies, IsAllGot}
 use Rattle.size_search.specs.Steady.{most, weight_before, weight_at, job_end, client_end, steady_vector, steady_levels}
 use Rattle.size_search.proofs.Opened.{rest_at}
 use Rattle.size_search.proofs.Balance.{GivesAllBack, least-le, begins_as_it_ends}
@@ -44,9 +44,9 @@ body_laws_of plan v least body last weight is = record {
 no_body_laws : (plan : Plan) (v : Vector) (weight : ℕ → ℕ) → BodyLaws DoneWeight plan v weight []
 no_body_laws plan v weight = record { work = λ i u at. absurd cc; submit = λ i k at. absurd cc; get = λ i t at. absurd cc }
 
--- ---- the rows of a plan without a cause
+-- ---- the rows of a plan in which each submit is got
 
-pub is_class_row : (plan : Plan) → HasValidBodies plan → IsWithoutCause plan → (k : ℕ) → k < length plan.classes → IsClassRow plan (steady_vector plan) k
+pub is_class_row : (plan : Plan) → HasValidBodies plan → IsAllGot plan → (k : ℕ) → k < length plan.classes → IsClassRow plan (steady_vector plan) k
 is_class_row plan ordered free k inside = class_numbers plan (steady_vector plan) k (class_is plan ordered free.no_circle k inside)
 
 is_client_row : (plan : Plan) → HasValidBodies plan → (c : ℕ) → c < length plan.clients → (i : ℕ) → i ≤ length (client_at plan c).body
@@ -57,13 +57,13 @@ no_worker_weighs : (plan : Plan) (p : ℕ) → workers_weight (steady_vector pla
 no_worker_weighs plan p = get_or-changed (λ (pool : Pool). 0) plan.pools p no_pool
 
 -- a job weighs at least 1 in every state
-pub queued_weighs : (plan : Plan) → HasValidBodies plan → IsWithoutCause plan → (k : ℕ) → k < length plan.classes → 1 ≤ queued_weight (steady_vector plan) k
+pub queued_weighs : (plan : Plan) → HasValidBodies plan → IsAllGot plan → (k : ℕ) → k < length plan.classes → 1 ≤ queued_weight (steady_vector plan) k
 queued_weighs plan ordered free k inside =
     let body = (class_at plan k).body in
     let v = steady_vector plan in
     omega (arith, (is_class_row plan ordered free k inside).queued, least-le plan v 1 body (job_end v body) body (omega arith))
 
-pub job_weighs : (plan : Plan) → HasValidBodies plan → IsWithoutCause plan → (k i : ℕ) → k < length plan.classes → i ≤ length (class_at plan k).body → 1 ≤ job_weight (steady_vector plan) k i
+pub job_weighs : (plan : Plan) → HasValidBodies plan → IsAllGot plan → (k i : ℕ) → k < length plan.classes → i ≤ length (class_at plan k).body → 1 ≤ job_weight (steady_vector plan) k i
 job_weighs plan ordered free k i inside within =
     let body = (class_at plan k).body in
     let v = steady_vector plan in
@@ -79,7 +79,7 @@ never_got : (body : List Action) (i k : ℕ) → slice_get body i ≡ Some (Subm
 never_got body i k at none = record { is_submit = ap submits at; not_got = none }
 
 -- a job that repeating clients cause weighs as much done as queued, by induction on the level of its class
-done_as_queued : (plan : Plan) → HasValidBodies plan → IsWithoutCause plan → (n k : ℕ) → k < length plan.classes → get_or (steady_levels plan) k 0 < n → IsSubmitted plan (repeated_bodies plan) k
+done_as_queued : (plan : Plan) → HasValidBodies plan → IsAllGot plan → (n k : ℕ) → k < length plan.classes → get_or (steady_levels plan) k 0 < n → IsSubmitted plan (repeated_bodies plan) k
     → done_weight plan (steady_vector plan) k ≡ queued_weight (steady_vector plan) k
 done_as_queued plan ordered free zero k inside low known = absurd (omega (arith, low))
 done_as_queued plan ordered free (suc n) k inside low known =
@@ -103,7 +103,7 @@ client_inside plan c repeats = elim (cases_lt c (length plan.clients)) [
       absurd cc
 ]
 
-client_gives_back : (plan : Plan) → HasValidBodies plan → IsWithoutCause plan → (c : ℕ) → (client_at plan c).repeat ≡ true → GivesAllBack plan (steady_vector plan) (client_at plan c).body
+client_gives_back : (plan : Plan) → HasValidBodies plan → IsAllGot plan → (c : ℕ) → (client_at plan c).repeat ≡ true → GivesAllBack plan (steady_vector plan) (client_at plan c).body
 client_gives_back plan ordered free c repeats = record {
   got = λ i k at. got_or (has_get_of (client_at plan c).body i) (λ none. free.clients_get c i (record { repeats = repeats; never_got = never_got (client_at plan c).body i k at none }));
   same = λ i k at.
@@ -114,7 +114,7 @@ client_gives_back plan ordered free c repeats = record {
 
 -- ---- all rules
 
-class_laws : (plan : Plan) → HasValidBodies plan → IsWithoutCause plan → (k : ℕ) → BodyLaws DoneWeight plan (steady_vector plan) (job_weight (steady_vector plan) k) (class_at plan k).body
+class_laws : (plan : Plan) → HasValidBodies plan → IsAllGot plan → (k : ℕ) → BodyLaws DoneWeight plan (steady_vector plan) (job_weight (steady_vector plan) k) (class_at plan k).body
 class_laws plan ordered free k = elim (cases_lt k (length plan.classes)) [
   | inl inside ↦
       let v = steady_vector plan in
@@ -132,7 +132,7 @@ client_laws plan ordered c = elim (cases_lt c (length plan.clients)) [
   | inr past ↦ subst (λ (client : Client). BodyLaws DoneWeight plan (steady_vector plan) (client_weight (steady_vector plan) c) client.body) (sym (get_or_past plan.clients c no_client past)) (no_body_laws plan (steady_vector plan) (client_weight (steady_vector plan) c))
 ]
 
-loops : (plan : Plan) → HasValidBodies plan → IsWithoutCause plan → (c : ℕ) → (client_at plan c).repeat ≡ true → client_weight (steady_vector plan) c 0 ≤ client_weight (steady_vector plan) c (length (client_at plan c).body)
+loops : (plan : Plan) → HasValidBodies plan → IsAllGot plan → (c : ℕ) → (client_at plan c).repeat ≡ true → client_weight (steady_vector plan) c 0 ≤ client_weight (steady_vector plan) c (length (client_at plan c).body)
 loops plan ordered free c repeats =
     let v = steady_vector plan in
     let client = client_at plan c in
@@ -144,7 +144,7 @@ loops plan ordered free c repeats =
     let same = begins_as_it_ends plan v 0 client.body (client_end v client) (ordered.clients c) (client_gives_back plan ordered free c repeats) (omega (arith, ends)) in
     omega (arith, first, final, nothing_left, same)
 
-pub steady_laws : (plan : Plan) → HasValidBodies plan → IsWithoutCause plan → VectorLaws DoneWeight plan (steady_vector plan)
+pub steady_laws : (plan : Plan) → HasValidBodies plan → IsAllGot plan → VectorLaws DoneWeight plan (steady_vector plan)
 steady_laws plan ordered free = record {
   classes = class_laws plan ordered free;
   clients = client_laws plan ordered;

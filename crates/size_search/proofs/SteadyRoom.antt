@@ -1,5 +1,5 @@
 -- The steady certificate for pools with other sizes.
-use Rattle.std.proofs.Common.{◌≡◌, ℕ, zero, suc, ◌+◌, ◌<◌, ◌≤◌, max, true, List, [], ◌∷◌, length, map, get_or, IsTrue, refl, sym, ap, ap₂, subst, ◌∙◌, arith, inl, inr}
+use Rattle.std.proofs.Common.{◌≡◌, ℕ, zero, suc, ◌+◌, ◌<◌, ◌≤◌, max, Bool, true, false, cond, List, [], ◌∷◌, length, map, get_or, IsTrue, refl, sym, ap, ap₂, subst, ◌∙◌, arith, inl, inr}
 use Rattle.std.specs.List.{list_all}
 use Rattle.std.proofs.lemmas.Bool.{cases_lt}
 use Rattle.std.proofs.lemmas.List.{length-map, get_or-map, get_or_past}
@@ -16,8 +16,8 @@ use Rattle.size_search.proofs.Numbered.{map-twice}
 use Rattle.size_search.proofs.Shapes.{length-changed, map-agree}
 use Rattle.size_search.proofs.Changes.{nameplate, HasSizes, length-outline, valid_from_sizes, sizes_at, sized_from_places, well_formed_changed}
 use Rattle.size_search.proofs.LeastMaxes.{length-widened, widened-outline, widened_at}
-use Rattle.size_search.specs.Submitted.{IsWithoutCause}
-use Rattle.size_search.specs.Steady.{level_above, levels_within, pool_of, steady_vector, steady_total, steady_levels, steady_pool, steady_cert}
+use Rattle.size_search.specs.Submitted.{IsAllGot}
+use Rattle.size_search.specs.Steady.{level_above, levels_within, bound_of, pool_of, steady_vector, steady_total, steady_levels, steady_pool, steady_cert}
 use Rattle.size_search.proofs.Accepting.{accepting}
 use Rattle.size_search.proofs.SizesExist.{with_pools, clients-pools, jobs_within-pools, small-pools, total-pools, free-pools}
 
@@ -43,38 +43,54 @@ vector-pools : (plan : Plan) (pools : List Pool) → length pools ≡ length pla
 vector-pools plan pools as_many =
     by_rows _ _ _ _ _ _ (constants zero pools plan.pools as_many) (ap (λ (v : Vector). v.classes) (jobs_within-pools plan pools (length plan.classes))) (clients-pools plan pools)
 
+-- the part of a pool that may reject jobs, or must not
+abbrev part_of : Vector → Bool → PoolCert
+part_of v may_reject = record { bound = bound_of v may_reject; blocked = v }
+
 abbrev cert_of : List PoolCert → List ℕ → List ℕ → List ℕ → Cert
 cert_of pools ranks reach levels = record { pools = pools; ranks = record { pools = ranks; reach = reach; levels = levels } }
 
 by_parts : (p p' : List PoolCert) (r r' h l l' : List ℕ) → p' ≡ p → r' ≡ r → l' ≡ l → cert_of p' r' h l' ≡ cert_of p r h l
 by_parts p p' r r' h l l' pools ranks levels = rw (pools, ranks, levels) refl
 
-pub cert-pools : (plan : Plan) (pools : List Pool) → length pools ≡ length plan.pools → steady_cert (with_pools plan pools) ≡ steady_cert plan
-cert-pools plan pools as_many =
+-- pools of which the same may reject jobs have the same parts
+same_parts : (v : Vector) (pools others : List Pool) → length pools ≡ length others → ((p : ℕ) → p < length pools → (get_or pools p no_pool).may_reject ≡ (get_or others p no_pool).may_reject) → map (pool_of v) pools ≡ map (pool_of v) others
+same_parts v [] [] long same = refl
+same_parts v [] (other ∷ others) long same = absurd (omega (arith, long))
+same_parts v (pool ∷ pools) [] long same = absurd (omega (arith, long))
+same_parts v (pool ∷ pools) (other ∷ others) long same =
+    let first : pool_of v pool ≡ pool_of v other = ap (λ (b : Bool). part_of v b) (same 0 (omega arith)) in
+    ap₂ (λ (part : PoolCert) (parts : List PoolCert). part ∷ parts) first (same_parts v pools others (omega (arith, long)) (λ p inside. same (suc p) (omega (arith, inside))))
+
+pub cert-pools : (plan : Plan) (pools : List Pool) → length pools ≡ length plan.pools → ((p : ℕ) → p < length pools → (get_or pools p no_pool).may_reject ≡ (pool_at plan p).may_reject)
+    → steady_cert (with_pools plan pools) ≡ steady_cert plan
+cert-pools plan pools as_many same =
     by_parts _ _ _ _ _ _ _
-    (ap (λ (v : Vector). map (λ (pool : Pool). pool_of v) pools) (vector-pools plan pools as_many) ∙ constants (steady_pool plan) pools plan.pools as_many)
+    (ap (λ (v : Vector). map (pool_of v) pools) (vector-pools plan pools as_many) ∙ same_parts (steady_vector plan) pools plan.pools as_many same)
     (constants zero pools plan.pools as_many)
     (levels_within-pools plan pools (length plan.classes))
 
 -- ---- the steady certificate accepts the plan with all sizes that are enough
 
-pub accepts_with : (plan : Plan) (pools : List Pool) → IsWellFormed (with_pools plan pools) → IsWithoutCause plan → IsTrue (has_small_numbers (steady_vector plan)) → length pools ≡ length plan.pools
-    → ((p : ℕ) → p < length pools → (steady_total plan ≤ (get_or pools p no_pool).queue) × (steady_total plan < (get_or pools p no_pool).core)) → IsTrue (accepted (with_pools plan pools) (steady_cert plan))
-accepts_with plan pools well free small as_many enough =
+pub accepts_with : (plan : Plan) (pools : List Pool) → IsWellFormed (with_pools plan pools) → IsAllGot plan → IsTrue (has_small_numbers (steady_vector plan)) → length pools ≡ length plan.pools
+    → ((p : ℕ) → p < length pools → (get_or pools p no_pool).may_reject ≡ (pool_at plan p).may_reject)
+    → ((p : ℕ) → p < length pools → ((get_or pools p no_pool).may_reject ≡ false → steady_total plan ≤ (get_or pools p no_pool).queue) × (steady_total plan < (get_or pools p no_pool).core))
+    → IsTrue (accepted (with_pools plan pools) (steady_cert plan))
+accepts_with plan pools well free small as_many alike enough =
     let other = with_pools plan pools in
     let steady = accepting other well (free-pools plan pools free) (small-pools plan pools small) in
     let same = total-pools plan pools in
-    subst (λ (cert : Cert). IsTrue (accepted other cert)) (cert-pools plan pools as_many)
+    subst (λ (cert : Cert). IsTrue (accepted other cert)) (cert-pools plan pools as_many alike)
     (steady.is_accepted.1 (λ p inside.
     let of_pool = enough p inside in
-    (omega (arith, same, of_pool.0), omega (arith, same, of_pool.1))))
+    (λ must. omega (arith, same, of_pool.0 must), omega (arith, same, of_pool.1))))
 
 -- ---- sizes that are enough exist below the limit
 
 abbrev roomy : ℕ → Pool → Pool
 roomy n pool = record pool { core = n; max = max pool.max n; queue = n }
 
-pub some_fit_wide : (plan : Plan) → IsWellFormed plan → IsWithoutCause plan → IsTrue (has_small_numbers (steady_vector plan)) → steady_total plan < MAX_SIZE → NoneFitsWide plan (steady_cert plan) → ⊥
+pub some_fit_wide : (plan : Plan) → IsWellFormed plan → IsAllGot plan → IsTrue (has_small_numbers (steady_vector plan)) → steady_total plan < MAX_SIZE → NoneFitsWide plan (steady_cert plan) → ⊥
 some_fit_wide plan well free small low none = none other (record { well_formed = well'; same_outline = same; no_smaller_max = larger; accepts = accepts })
   where
     n : ℕ
@@ -117,20 +133,25 @@ some_fit_wide plan well free small low none = none other (record { well_formed =
         ]
 
     accepts : IsTrue (accepted other (steady_cert plan))
-    accepts = accepts_with plan pools well' free small (length-map plan.pools (roomy n)) (λ p inside.
+    accepts = accepts_with plan pools well' free small (length-map plan.pools (roomy n)) (λ p inside. ap (λ (pool : Pool). pool.may_reject) (at p inside).0) (λ p inside.
         let there = at p inside in
-        (omega (arith, ap (λ (pool : Pool). pool.queue) there.0), omega (arith, ap (λ (pool : Pool). pool.core) there.0)))
+        (λ must. omega (arith, ap (λ (pool : Pool). pool.queue) there.0), omega (arith, ap (λ (pool : Pool). pool.core) there.0)))
 
 -- ---- a plan that was widened for the steady certificate has room for its cores
 
 abbrev filled : ℕ → Pool → Pool
-filled n pool = record pool { core = max pool.core n; queue = max pool.queue n }
+filled n pool = record pool { core = max pool.core n; queue = cond pool.may_reject pool.queue (max pool.queue n) }
+
+-- a queue that stays unchanged or is raised is a valid queue
+kept_or_filled : (b : Bool) (q n m : ℕ) → q ≤ m → n ≤ m → (q ≤ cond b q (max q n)) × (cond b q (max q n) ≤ m)
+kept_or_filled true q n m low also = (omega arith, low)
+kept_or_filled false q n m low also = (omega arith, omega arith)
 
 -- if each maximum of these pools is above the total, some plan fits the plan with these pools
-room_is_left : (plan : Plan) (pools : List Pool) → IsWellFormed (with_pools plan pools) → IsWithoutCause plan → IsTrue (has_small_numbers (steady_vector plan)) → length pools ≡ length plan.pools
-    → ((p : ℕ) → p < length pools → steady_total plan < (get_or pools p no_pool).max) → NoneFits (with_pools plan pools) (steady_cert plan) → ⊥
-room_is_left plan pools well free small as_many room none =
-    none other (record { resized = record { well_formed = well'; same_shape = same }; no_smaller = record { core = λ p. (larger p).0; queue = λ p. (larger p).1 }; accepts = accepts })
+room_is_left : (plan : Plan) (pools : List Pool) → IsWellFormed (with_pools plan pools) → IsAllGot plan → IsTrue (has_small_numbers (steady_vector plan)) → length pools ≡ length plan.pools
+    → ((p : ℕ) → p < length pools → (get_or pools p no_pool).may_reject ≡ (pool_at plan p).may_reject) → ((p : ℕ) → p < length pools → steady_total plan < (get_or pools p no_pool).max) → NoneFits (with_pools plan pools) (steady_cert plan) → ⊥
+room_is_left plan pools well free small as_many alike room none =
+    none other (record { resized = record { well_formed = well'; same_shape = same; keeps_queues = record { same_queue = same_queue } }; no_smaller = record { core = λ p. (larger p).0; queue = λ p. (larger p).1 }; accepts = accepts })
   where
     n : ℕ
     n = steady_total plan + 1
@@ -146,6 +167,12 @@ room_is_left plan pools well free small as_many room none =
         let known : p < length pools = omega (arith, inside, length-map pools (filled n)) in
         (get_or-map (filled n) pools p no_pool no_pool known, known)
 
+    filled_queue : (p : ℕ) → p < length pools → ((get_or pools p no_pool).queue ≤ (filled n (get_or pools p no_pool)).queue) × ((filled n (get_or pools p no_pool)).queue ≤ MAX_SIZE)
+    filled_queue p inside =
+        let pool = get_or pools p no_pool in
+        let sizes = sizes_at (with_pools plan pools) p well inside in
+        kept_or_filled pool.may_reject pool.queue n MAX_SIZE sizes.most_queue (omega (arith, room p inside, sizes.most_max))
+
     valid : (p : ℕ) → p < length grown → HasSizes (get_or grown p no_pool)
     valid p inside =
         let there = at p inside in
@@ -155,8 +182,8 @@ room_is_left plan pools well free small as_many room none =
           core = omega (arith, sizes.core);
           max = omega (arith, sizes.max, of_room);
           most_max = sizes.most_max;
-          queue = omega (arith, sizes.queue);
-          most_queue = omega (arith, sizes.most_queue, of_room, sizes.most_max);
+          queue = omega (arith, sizes.queue, (filled_queue p there.1).0);
+          most_queue = omega (arith, (filled_queue p there.1).1);
         })
 
     well' : IsWellFormed other
@@ -165,25 +192,42 @@ room_is_left plan pools well free small as_many room none =
     same : shape other ≡ shape (with_pools plan pools)
     same = ap (with_pools plan) (map-twice (λ (pool : Pool). record pool { core = 0; queue = 0 }) (filled n) pools)
 
+    same_queue : (p : ℕ) → (get_or pools p no_pool).may_reject ≡ true → (get_or grown p no_pool).queue ≡ (get_or pools p no_pool).queue
+    same_queue p may =
+        elim (cases_lt p (length pools)) [
+          | inl inside ↦
+              let pool = get_or pools p no_pool in
+              ap (λ (any : Pool). any.queue) (get_or-map (filled n) pools p no_pool no_pool inside) ∙ ap (λ (b : Bool). cond b pool.queue (max pool.queue n)) may
+          | inr past ↦
+              ap (λ (pool : Pool). pool.queue) (get_or_past grown p no_pool (omega (arith, past, length-map pools (filled n))))
+              ∙ ap (λ (pool : Pool). pool.queue) (sym (get_or_past pools p no_pool past))
+        ]
+
     larger : (p : ℕ) → ((get_or pools p no_pool).core ≤ (get_or grown p no_pool).core) × ((get_or pools p no_pool).queue ≤ (get_or grown p no_pool).queue)
     larger p =
         elim (cases_lt p (length pools)) [
           | inl inside ↦
               let is = get_or-map (filled n) pools p no_pool no_pool inside in
-              (omega (arith, ap (λ (pool : Pool). pool.core) is), omega (arith, ap (λ (pool : Pool). pool.queue) is))
+              (omega (arith, ap (λ (pool : Pool). pool.core) is), omega (arith, ap (λ (pool : Pool). pool.queue) is, (filled_queue p inside).0))
           | inr past ↦
               let is = get_or_past pools p no_pool past in
               (omega (arith, ap (λ (pool : Pool). pool.core) is), omega (arith, ap (λ (pool : Pool). pool.queue) is))
         ]
 
     accepts : IsTrue (accepted other (steady_cert plan))
-    accepts = accepts_with plan grown well' free small (length-map pools (filled n) ∙ as_many) (λ p inside.
+    accepts = accepts_with plan grown well' free small (length-map pools (filled n) ∙ as_many) (λ p inside. ap (λ (pool : Pool). pool.may_reject) (at p inside).0 ∙ alike p (at p inside).1) (λ p inside.
         let there = at p inside in
-        (omega (arith, ap (λ (pool : Pool). pool.queue) there.0), omega (arith, ap (λ (pool : Pool). pool.core) there.0)))
+        let pool = get_or pools p no_pool in
+        let may : (get_or grown p no_pool).may_reject ≡ pool.may_reject = ap (λ (any : Pool). any.may_reject) there.0 in (
+          λ must.
+              let queue : (get_or grown p no_pool).queue ≡ max pool.queue n = ap (λ (any : Pool). any.queue) there.0 ∙ ap (λ (b : Bool). cond b pool.queue (max pool.queue n)) (sym may ∙ must) in
+              omega (arith, queue),
+          omega (arith, ap (λ (any : Pool). any.core) there.0),
+        ))
 
-pub some_fit_widened : (plan : Plan) → IsWellFormed plan → IsWithoutCause plan → IsTrue (has_small_numbers (steady_vector plan)) → steady_total plan < MAX_SIZE
+pub some_fit_widened : (plan : Plan) → IsWellFormed plan → IsAllGot plan → IsTrue (has_small_numbers (steady_vector plan)) → steady_total plan < MAX_SIZE
     → NoneFits (widened plan (steady_cert plan)) (steady_cert plan) → ⊥
-some_fit_widened plan well free small low none = room_is_left plan pools well' free small as_many left none
+some_fit_widened plan well free small low none = room_is_left plan pools well' free small as_many alike left none
   where
     cert : Cert
     cert = steady_cert plan
@@ -197,7 +241,10 @@ some_fit_widened plan well free small low none = room_is_left plan pools well' f
     at : (p : ℕ) → p < length plan.pools → get_or pools p no_pool ≡ with_max plan (steady_vector plan) (pool_at plan p)
     at p known =
         widened_at plan cert p known
-        ∙ ap (λ (part : PoolCert). with_max plan part.blocked (pool_at plan p)) (get_or-map (λ (pool : Pool). steady_pool plan) plan.pools p no_pool no_pool_cert known)
+        ∙ ap (λ (part : PoolCert). with_max plan part.blocked (pool_at plan p)) (get_or-map (steady_pool plan) plan.pools p no_pool no_pool_cert known)
+
+    alike : (p : ℕ) → p < length pools → (get_or pools p no_pool).may_reject ≡ (pool_at plan p).may_reject
+    alike p inside = ap (λ (pool : Pool). pool.may_reject) (at p (omega (arith, inside, as_many)))
 
     valid : (p : ℕ) → p < length pools → HasSizes (get_or pools p no_pool)
     valid p inside =

@@ -1,10 +1,10 @@
 -- The conditions of a certificate, divided into its totals and the others.
-use Rattle.std.proofs.Common.{◌≡◌, ℕ, ◌<◌, ◌≤◌, ◌-◌, ⊎_elim, Bool, true, false, cond, not, ◌&&◌, ltb, List, [], ◌∷◌, ◌++◌, length, map, filter, flat_map, refl, ap, ap₂, sym, subst, ◌∙◌, arith}
+use Rattle.std.proofs.Common.{◌≡◌, ℕ, ◌<◌, ◌≤◌, ◌-◌, ⊎_elim, Bool, true, false, cond, not, ◌&&◌, ltb, List, [], ◌∷◌, ◌++◌, length, map, filter, flat_map, Option, Some, None, refl, ap, ap₂, sym, subst, ◌∙◌, arith}
 use Rattle.std.specs.List.{enumerate_from, list_all}
 use Rattle.std.proofs.lemmas.Bool.{and_parts, and_from, ltb-false, le-ltb, cases_Bool, false≢true}
 use Rattle.std.proofs.lemmas.List.Folds.{list_all-append}
 use Rattle.support.specs.In.{In, here}
-use Rattle.support.proofs.Members.{In-append_left, In-append_right, In-append_cases, In-push_cases, In-map, In-map_from, In-flat_map_from, In-filter, In-filter_from, list_all_at_In, list_all_from_In}
+use Rattle.support.proofs.Members.{not_In_nil, In-append_left, In-append_right, In-append_cases, In-push_cases, In-map, In-map_from, In-flat_map_from, In-filter, In-filter_from, list_all_at_In, list_all_from_In}
 use Rattle.job_bodies.specs.declared.action.Action.{Action}
 use Rattle.job_bodies.specs.declared.action.Action.TheVariants.{Work, Submit, Get}
 use Rattle.job_bodies.specs.Plan.{Pool, Class, Client, Plan, pool_at}
@@ -27,12 +27,12 @@ use Rattle.cert_text.specs.Cert.{Cert, pool_cert_at, cert_fits}
 use Rattle.soundness.specs.declared.note.Section.{Section}
 use Rattle.soundness.specs.declared.note.Section.TheVariants as section
 use Rattle.soundness.specs.declared.note.Note.{Note}
-use Rattle.soundness.specs.Conditions.{note, in_section, bound_section, pool_conditions, conditions, failing}
+use Rattle.soundness.specs.Conditions.{note, in_section, bound_section, bound_conditions, pool_conditions, conditions, failing}
 use Rattle.soundness.specs.Accepted.{is_nil, accepted}
 use Rattle.soundness.proofs.CertLaws.{is_nil_means, section_holds, pool_inside}
-use Rattle.soundness.proofs.Faults.{pool_numbers, accepted_from_parts}
-use Rattle.size_search.specs.Fitted.{is_total, fails_only_at_totals, shape}
-use Rattle.size_search.proofs.Shapes.{length-shape, bound_body, bound_body-shape, blocked_body, blocked_body-shape, cert_fits-shape}
+use Rattle.soundness.proofs.Faults.{BoundRowsHold, pool_numbers, accepted_from_parts}
+use Rattle.size_search.specs.Fitted.{is_total, fails_only_at_totals, shape, limit_of}
+use Rattle.size_search.proofs.Shapes.{length-shape, bound_body, optional_body, optional_body-shape, total_of, blocked_body, blocked_body-shape, cert_fits-shape}
 
 -- ---- rows that are not totals
 
@@ -142,11 +142,11 @@ blocked_total plan p v = row B2 place.Total (total plan v) ((pool_at plan p).cor
 pub record HoldButTotals (plan : Plan) (cert : Cert) : Type 0 where
   pub fits : cert_fits plan cert ≡ true
   pub ranks : AllHold (rank_rows plan cert.ranks)
-  pub bounds : (p : ℕ) → p < length plan.pools → AllHold (bound_body plan p (pool_cert_at cert p).bound)
+  pub bounds : (p : ℕ) → p < length plan.pools → AllHold (optional_body plan p (pool_cert_at cert p).bound)
   pub blocked : (p : ℕ) → p < length plan.pools → AllHold (blocked_body plan cert.ranks p (pool_cert_at cert p).blocked)
 
 pub record TotalsHold (plan : Plan) (cert : Cert) : Type 0 where
-  pub bounds : (p : ℕ) → p < length plan.pools → total plan (bound_vector (pool_cert_at cert p).bound) ≤ bound_limit plan p (pool_cert_at cert p).bound
+  pub bounds : (p : ℕ) → p < length plan.pools → total_of plan (pool_cert_at cert p).bound ≤ limit_of plan p (pool_cert_at cert p).bound
   pub blocked : (p : ℕ) → p < length plan.pools → total plan (pool_cert_at cert p).blocked ≤ (pool_at plan p).core - 1
 
 -- ---- conditions of which only totals fail
@@ -166,6 +166,14 @@ hold_elsewhere plan cert part rows only_totals of_none among x i =
 in_bound_rows : (plan : Plan) (p : ℕ) (bound : Bound) (x : Row) → In x (bound_body plan p bound) → In x (bound_rows plan p bound)
 in_bound_rows plan p bound x i = subst (In x) (sym (bound_rows-split plan p bound)) (In-append_left (bound_total plan p bound ∷ []) i)
 
+-- if only totals fail, the rows of a bound that are not totals hold
+bound_holds_elsewhere : (plan : Plan) (cert : Cert) (p : ℕ) (bound : Option Bound) → list_all (λ note. is_total note.place) (failing plan cert) ≡ true
+    → ((x : Note) → In x (bound_conditions plan p bound) → In x (conditions plan cert)) → AllHold (optional_body plan p bound)
+bound_holds_elsewhere plan cert p None only_totals among x i = absurd (not_In_nil i)
+bound_holds_elsewhere plan cert p (Some bound) only_totals among x i =
+    let part = bound_section p bound in
+    hold_elsewhere plan cert part (bound_body plan p bound) only_totals (of_bound plan p bound) (λ y at. among (note part y) (In-map (note part) (in_bound_rows plan p bound y at))) x i
+
 pub hold_but_totals : (plan : Plan) (cert : Cert) → fails_only_at_totals plan cert ≡ true → HoldButTotals plan cert
 hold_but_totals plan cert only_totals =
     let parts = and_parts (cert_fits plan cert) (list_all (λ note. is_total note.place) (failing plan cert)) only_totals in
@@ -175,14 +183,12 @@ hold_but_totals plan cert only_totals =
           (λ x i. In-append_left (flat_map (λ (entry : ℕ × Pool). pool_conditions plan cert entry.0) (enumerate_from 0 plan.pools)) (In-map (note section.Ranks) i));
       bounds = λ p inside.
           let pool = pool_cert_at cert p in
-          let part = bound_section p pool.bound in
           let of_blocked = in_section (section.Blocked p) (blocked_rows plan p (is_counted plan cert.ranks) pool.blocked) in
-          hold_elsewhere plan cert part (bound_body plan p pool.bound) parts.1 (of_bound plan p pool.bound)
-          (λ x i. pool_inside plan cert p (note part x) inside (In-append_left of_blocked (In-map (note part) (in_bound_rows plan p pool.bound x i))));
+          bound_holds_elsewhere plan cert p pool.bound parts.1 (λ x i. pool_inside plan cert p x inside (In-append_left of_blocked i));
       blocked = λ p inside.
           let pool = pool_cert_at cert p in
           let part = section.Blocked p in
-          let of_bound = in_section (bound_section p pool.bound) (bound_rows plan p pool.bound) in
+          let of_bound = bound_conditions plan p pool.bound in
           hold_elsewhere plan cert part (blocked_body plan cert.ranks p pool.blocked) parts.1 (of_blocked plan cert.ranks p pool.blocked)
           (λ x i. pool_inside plan cert p (note part x) inside (In-append_right of_bound (In-map (note part) (In-append_left (blocked_total plan p pool.blocked ∷ []) i))));
     }
@@ -203,6 +209,13 @@ fails_at_total part rows t n hold at_total wrong i =
     (λ (last : found.0 ≡ t). ap (λ (y : Note). is_total y.place) (sym found.2) ∙ (ap (λ (x : Row). is_total x.place) last ∙ at_total))
     (In-push_cases rows t found.1)
 
+-- if all rows of a bound hold except its total, a note of the bound that fails is at the place of a total
+bound_fails_at_total : (plan : Plan) (p : ℕ) (bound : Option Bound) (n : Note) → AllHold (optional_body plan p bound) → ltb n.right n.left ≡ true → In n (bound_conditions plan p bound) → is_total n.place ≡ true
+bound_fails_at_total plan p None n hold wrong i = absurd (not_In_nil i)
+bound_fails_at_total plan p (Some bound) n hold wrong i =
+    let part = bound_section p bound in
+    fails_at_total part (bound_body plan p bound) (bound_total plan p bound) n hold (bound_total-place plan p bound) wrong (subst (λ (xs : List Row). In n (in_section part xs)) (bound_rows-split plan p bound) i)
+
 pub fails_only_at_totals_from : (plan : Plan) (cert : Cert) → HoldButTotals plan cert → fails_only_at_totals plan cert ≡ true
 fails_only_at_totals_from plan cert hold =
     and_from (cert_fits plan cert) (list_all (λ note. is_total note.place) (failing plan cert)) hold.fits
@@ -213,12 +226,11 @@ fails_only_at_totals_from plan cert hold =
     of_pool : (n : Note) (p : ℕ) → p < length plan.pools → ltb n.right n.left ≡ true → In n (pool_conditions plan cert p) → is_total n.place ≡ true
     of_pool n p inside wrong i =
         let pool = pool_cert_at cert p in
-        let part = bound_section p pool.bound in
         let counted = is_counted plan cert.ranks in
         ⊎_elim
-        (λ first. fails_at_total part (bound_body plan p pool.bound) (bound_total plan p pool.bound) n (hold.bounds p inside) (bound_total-place plan p pool.bound) wrong (subst (λ (xs : List Row). In n (in_section part xs)) (bound_rows-split plan p pool.bound) first))
+        (λ first. bound_fails_at_total plan p pool.bound n (hold.bounds p inside) wrong first)
         (λ second. fails_at_total (section.Blocked p) (blocked_body plan cert.ranks p pool.blocked) (blocked_total plan p pool.blocked) n (hold.blocked p inside) refl wrong second)
-        (In-append_cases (in_section part (bound_rows plan p pool.bound)) (in_section (section.Blocked p) (blocked_rows plan p counted pool.blocked)) i)
+        (In-append_cases (bound_conditions plan p pool.bound) (in_section (section.Blocked p) (blocked_rows plan p counted pool.blocked)) i)
 
     at_each : (n : Note) → ltb n.right n.left ≡ true → In n (conditions plan cert) → is_total n.place ≡ true
     at_each n wrong i =
@@ -240,6 +252,14 @@ at_totals_where_accepted plan cert is_accepted =
     and_from (cert_fits plan cert) (list_all (λ note. is_total note.place) (failing plan cert)) parts.0
     (ap (list_all (λ (n : Note). is_total n.place)) (is_nil_means (failing plan cert) parts.1))
 
+-- if no condition fails, the total of a bound is within its limit
+bound_within : (plan : Plan) (cert : Cert) (p : ℕ) (bound : Option Bound) → failing plan cert ≡ [] → ((x : Note) → In x (bound_conditions plan p bound) → In x (conditions plan cert)) → total_of plan bound ≤ limit_of plan p bound
+bound_within plan cert p None none among = omega arith
+bound_within plan cert p (Some bound) none among =
+    let hold = section_holds plan cert (bound_section p bound) (bound_rows plan p bound) none among in
+    let last : In (bound_total plan p bound) (bound_body plan p bound ++ bound_total plan p bound ∷ []) = In-append_right (bound_body plan p bound) here in
+    total_within plan p bound (hold (bound_total plan p bound) (subst (In (bound_total plan p bound)) (sym (bound_rows-split plan p bound)) last))
+
 pub totals_where_accepted : (plan : Plan) (cert : Cert) → accepted plan cert ≡ true → TotalsHold plan cert
 totals_where_accepted plan cert is_accepted =
     let parts = and_parts (cert_fits plan cert) (is_nil (failing plan cert)) is_accepted in
@@ -247,14 +267,11 @@ totals_where_accepted plan cert is_accepted =
     record {
       bounds = λ p inside.
           let pool = pool_cert_at cert p in
-          let part = bound_section p pool.bound in
           let of_blocked = in_section (section.Blocked p) (blocked_rows plan p (is_counted plan cert.ranks) pool.blocked) in
-          let hold = section_holds plan cert part (bound_rows plan p pool.bound) none (λ x i. pool_inside plan cert p x inside (In-append_left of_blocked i)) in
-          let last : In (bound_total plan p pool.bound) (bound_body plan p pool.bound ++ bound_total plan p pool.bound ∷ []) = In-append_right (bound_body plan p pool.bound) here in
-          total_within plan p pool.bound (hold (bound_total plan p pool.bound) (subst (In (bound_total plan p pool.bound)) (sym (bound_rows-split plan p pool.bound)) last));
+          bound_within plan cert p pool.bound none (λ x i. pool_inside plan cert p x inside (In-append_left of_blocked i));
       blocked = λ p inside.
           let pool = pool_cert_at cert p in
-          let of_bound = in_section (bound_section p pool.bound) (bound_rows plan p pool.bound) in
+          let of_bound = bound_conditions plan p pool.bound in
           let hold = section_holds plan cert (section.Blocked p) (blocked_rows plan p (is_counted plan cert.ranks) pool.blocked) none (λ x i. pool_inside plan cert p x inside (In-append_right of_bound i)) in
           hold (blocked_total plan p pool.blocked) (In-append_right (blocked_body plan cert.ranks p pool.blocked) here);
     }
@@ -263,12 +280,16 @@ totals_where_accepted plan cert is_accepted =
 hold_with : (rows : List Row) (t : Row) → AllHold rows → t.left ≤ t.right → AllHold (rows ++ t ∷ [])
 hold_with rows t hold within x i = ⊎_elim (λ before. hold x before) (λ (last : x ≡ t). subst (λ (y : Row). y.left ≤ y.right) (sym last) within) (In-push_cases rows t i)
 
+-- the rows of a bound hold if its total is within its limit and the others hold
+bound_rows_hold : (plan : Plan) (p : ℕ) (bound : Option Bound) → AllHold (optional_body plan p bound) → total_of plan bound ≤ limit_of plan p bound → BoundRowsHold plan p bound
+bound_rows_hold plan p None hold within = tt
+bound_rows_hold plan p (Some bound) hold within =
+    subst AllHold (sym (bound_rows-split plan p bound)) (hold_with (bound_body plan p bound) (bound_total plan p bound) hold (total_holds plan p bound within))
+
 pub accepted_from_totals : (plan : Plan) (cert : Cert) → HoldButTotals plan cert → TotalsHold plan cert → accepted plan cert ≡ true
 accepted_from_totals plan cert hold totals =
     accepted_from_parts plan cert hold.fits hold.ranks
-    (λ p inside.
-    let bound = (pool_cert_at cert p).bound in
-    subst AllHold (sym (bound_rows-split plan p bound)) (hold_with (bound_body plan p bound) (bound_total plan p bound) (hold.bounds p inside) (total_holds plan p bound (totals.bounds p inside))))
+    (λ p inside. bound_rows_hold plan p (pool_cert_at cert p).bound (hold.bounds p inside) (totals.bounds p inside))
     (λ p inside.
     let v = (pool_cert_at cert p).blocked in
     hold_with (blocked_body plan cert.ranks p v) (blocked_total plan p v) (hold.blocked p inside) (totals.blocked p inside))
@@ -287,7 +308,7 @@ hold_in_shape plan other cert same hold =
       ranks = subst AllHold (sym (same_in_shape (λ (any : Plan). rank_rows any cert.ranks) plan other (λ any. refl) same)) hold.ranks;
       bounds = λ p inside.
           let bound = (pool_cert_at cert p).bound in
-          subst AllHold (sym (same_in_shape (λ (any : Plan). bound_body any p bound) plan other (λ any. bound_body-shape any p bound) same)) (hold.bounds p (omega arith));
+          subst AllHold (sym (same_in_shape (λ (any : Plan). optional_body any p bound) plan other (λ any. optional_body-shape any p bound) same)) (hold.bounds p (omega arith));
       blocked = λ p inside.
           let v = (pool_cert_at cert p).blocked in
           subst AllHold (sym (same_in_shape (λ (any : Plan). blocked_body any cert.ranks p v) plan other (λ any. blocked_body-shape any cert.ranks p v) same)) (hold.blocked p (omega arith));

@@ -7,14 +7,14 @@ use Rattle.support.proofs.Members.{list_all_at_In, In-get_or}
 use Rattle.job_bodies.specs.declared.limits.TheConstants.{MAX_SIZE}
 use Rattle.job_bodies.specs.Plan.{Pool, Plan, no_pool, pool_at}
 use Rattle.job_bodies.specs.WellFormed.{has_valid_sizes, IsWellFormed}
-use Rattle.cert_text.specs.Cert.{Cert, cert_fits}
+use Rattle.cert_text.specs.Cert.{Cert, pool_cert_at, cert_fits}
 use Rattle.soundness.specs.declared.note.Note.{Note}
 use Rattle.soundness.specs.Conditions.{failing}
 use Rattle.size_search.specs.declared.unfit.Unfit.{Unfit}
 use Rattle.size_search.specs.declared.unfit.Unfit.TheVariants.{Shape, Condition, Core, Queue}
-use Rattle.size_search.specs.Fitted.{is_total, raised, fails_only_at_totals, fitted, IsLeastFit, NoneFits}
+use Rattle.size_search.specs.Fitted.{is_total, raised, has_queue, have_queues, fails_only_at_totals, fitted, IsLeastFit, NoneFits}
 use Rattle.size_search.specs.Widened.{widened, NoneFitsWide}
-use Rattle.size_search.specs.Unfit.{failing_elsewhere, first_unfit, unfit_pool, why_unfit, why_not_widened, ReportedCoresNeedLargerMaxes}
+use Rattle.size_search.specs.Unfit.{failing_elsewhere, first_unfit, first_tight, unfit_sizes, unfit_pool, why_unfit, why_not_widened, ReportedCoresNeedLargerMaxes}
 use Rattle.size_search.proofs.Changes.{HasSizes, has_sizes, valid_from_sizes, sized_from_places, sizes_at, well_formed_changed}
 use Rattle.size_search.proofs.LeastSizes.{has_shape, raised-shape, raised_at, raised_no_smaller, raised_is_well_formed, fitted_from, least_fit, none_fits}
 use Rattle.size_search.proofs.LeastMaxes.{length-widened, widened-outline, widened_at, wide_fit_fits, wide_fit_has_room, widened_maxes_are_least}
@@ -92,6 +92,38 @@ valid_fits p pool valid =
     let room = ap₂ (λ (a b : Bool). a || b) (le-ltb pool.max pool.core sizes.max) (le-ltb MAX_SIZE pool.max sizes.most_max) in
     ap₂ (λ (b d : Bool). cond b (Some (Core p)) (cond d (Some (Queue p)) None)) room (le-ltb MAX_SIZE pool.queue sizes.most_queue)
 
+-- ---- queues that are too small
+
+-- the queue of the pool is as large as the bound of its number requires
+abbrev enough_at : Plan → Cert → ℕ × Pool → Bool
+enough_at plan cert entry = has_queue plan (pool_cert_at cert entry.0).bound entry.1
+
+-- if no queue is a reason, each queue is as large as its bound requires
+none_tight : (plan : Plan) (cert : Cert) (entries : List (ℕ × Pool)) → first_tight plan cert entries ≡ None → list_all (enough_at plan cert) entries ≡ true
+none_tight plan cert [] none = refl
+none_tight plan cert (entry ∷ entries) none = at_first (enough_at plan cert entry) refl (λ later. none_tight plan cert entries later) none
+  where
+    at_first : (b : Bool) → enough_at plan cert entry ≡ b → (first_tight plan cert entries ≡ None → list_all (enough_at plan cert) entries ≡ true) → cond b (first_tight plan cert entries) (Some (Queue entry.0)) ≡ None
+        → list_all (enough_at plan cert) (entry ∷ entries) ≡ true
+    at_first true enough rest e = and_from (enough_at plan cert entry) (list_all (enough_at plan cert) entries) enough (rest e)
+    at_first false tight rest e = absurd cc
+
+-- if each queue is as large as its bound requires, no queue is a reason
+not_tight : (plan : Plan) (cert : Cert) (entries : List (ℕ × Pool)) → list_all (enough_at plan cert) entries ≡ true → first_tight plan cert entries ≡ None
+not_tight plan cert [] all = refl
+not_tight plan cert (entry ∷ entries) all =
+    let parts = and_parts (enough_at plan cert entry) (list_all (enough_at plan cert) entries) all in
+    ap (λ (b : Bool). cond b (first_tight plan cert entries) (Some (Queue entry.0))) parts.0 ∙ not_tight plan cert entries parts.1
+
+-- a queue that is too small is never reported as a core
+tight_is_no_core : (plan : Plan) (cert : Cert) (entries : List (ℕ × Pool)) (reported : ℕ) → first_tight plan cert entries ≡ Some (Core reported) → ⊥
+tight_is_no_core plan cert [] reported some = cc
+tight_is_no_core plan cert (entry ∷ entries) reported some = at_first (enough_at plan cert entry) (λ later. tight_is_no_core plan cert entries reported later) some
+  where
+    at_first : (b : Bool) → (first_tight plan cert entries ≡ Some (Core reported) → ⊥) → cond b (first_tight plan cert entries) (Some (Queue entry.0)) ≡ Some (Core reported) → ⊥
+    at_first true rest e = rest e
+    at_first false rest e = cc
+
 -- ---- the fitted plan
 
 -- there is no reason why the plan is not fitted
@@ -99,13 +131,15 @@ record NotUnfit (plan : Plan) (cert : Cert) : Type 0 where
   fits : cert_fits plan cert ≡ true
   elsewhere : failing_elsewhere plan cert ≡ None
   sizes : first_unfit (enumerate_from 0 (raised plan cert).pools) ≡ None
+  queues : have_queues plan cert ≡ true
 
 not_unfit : (plan : Plan) (cert : Cert) → why_unfit plan cert ≡ None → NotUnfit plan cert
 not_unfit plan cert none =
-    let sizes = first_unfit (enumerate_from 0 (raised plan cert).pools) in
-    let whole = fit_parts (cert_fits plan cert) (option_or (option_map Condition (failing_elsewhere plan cert)) sizes) none in
-    let parts = or_parts (option_map Condition (failing_elsewhere plan cert)) sizes whole.1 in
-    record { fits = whole.0; elsewhere = no_condition (failing_elsewhere plan cert) parts.0; sizes = parts.1 }
+    let numbered = enumerate_from 0 (raised plan cert).pools in
+    let whole = fit_parts (cert_fits plan cert) (option_or (option_map Condition (failing_elsewhere plan cert)) (unfit_sizes plan cert)) none in
+    let parts = or_parts (option_map Condition (failing_elsewhere plan cert)) (unfit_sizes plan cert) whole.1 in
+    let of_sizes = or_parts (first_unfit numbered) (first_tight plan cert numbered) parts.1 in
+    record { fits = whole.0; elsewhere = no_condition (failing_elsewhere plan cert) parts.0; sizes = of_sizes.0; queues = none_tight plan cert numbered of_sizes.1 }
 
 -- if there is no reason, the raised plan has valid sizes
 sized : (plan : Plan) (cert : Cert) → IsWellFormed plan → NotUnfit plan cert → list_all has_valid_sizes (raised plan cert).pools ≡ true
@@ -131,29 +165,32 @@ fitted_where_not_unfit plan cert well none =
     let found = not_unfit plan cert none in
     fitted_from plan cert
     (and_from (cert_fits plan cert) (list_all (λ note. is_total note.place) (failing plan cert)) found.fits (all_pass (λ (note : Note). is_total note.place) (failing plan cert) found.elsewhere))
-    (sized plan cert well found)
+    (sized plan cert well found) found.queues
 
 pub well_formed_where_not_unfit : (plan : Plan) (cert : Cert) → IsWellFormed plan → why_unfit plan cert ≡ None → IsWellFormed (raised plan cert)
 well_formed_where_not_unfit plan cert well none = raised_is_well_formed plan cert well (sized plan cert well (not_unfit plan cert none))
 
 -- if there is a fitted plan, there is no reason
-not_unfit_where_fitted : (plan : Plan) (cert : Cert) → fails_only_at_totals plan cert ≡ true → list_all has_valid_sizes (raised plan cert).pools ≡ true → why_unfit plan cert ≡ None
-not_unfit_where_fitted plan cert only_totals all_sized =
+not_unfit_where_fitted : (plan : Plan) (cert : Cert) → fails_only_at_totals plan cert ≡ true → list_all has_valid_sizes (raised plan cert).pools ≡ true → have_queues plan cert ≡ true → why_unfit plan cert ≡ None
+not_unfit_where_fitted plan cert only_totals all_sized queues =
     let parts = and_parts (cert_fits plan cert) (list_all (λ note. is_total note.place) (failing plan cert)) only_totals in
     let pools = (raised plan cert).pools in
     let none = all_not_unfit 0 pools (λ p q inside. valid_fits q (get_or pools p no_pool) (list_all_at_In has_valid_sizes all_sized (In-get_or pools p no_pool inside))) in
-    ap (λ (fits : Bool). cond fits (option_or (option_map Condition (failing_elsewhere plan cert)) (first_unfit (enumerate_from 0 pools))) (Some Shape)) parts.0
-    ∙ ap₂ (λ (found : Option Note) (sizes : Option Unfit). option_or (option_map Condition found) sizes) (none_found (λ (note : Note). is_total note.place) (failing plan cert) parts.1) none
+    let sizes : unfit_sizes plan cert ≡ None = ap₂ (λ (first second : Option Unfit). option_or first second) none (not_tight plan cert (enumerate_from 0 pools) queues) in
+    ap (λ (fits : Bool). cond fits (option_or (option_map Condition (failing_elsewhere plan cert)) (unfit_sizes plan cert)) (Some Shape)) parts.0
+    ∙ ap₂ (λ (found : Option Note) (of_sizes : Option Unfit). option_or (option_map Condition found) of_sizes) (none_found (λ (note : Note). is_total note.place) (failing plan cert) parts.1) sizes
 
 -- if there is a reason, there is no fitted plan
 pub none_where_unfit : (plan : Plan) (cert : Cert) (unfit : Unfit) → why_unfit plan cert ≡ Some unfit → fitted plan cert ≡ None
 none_where_unfit plan cert unfit some =
     let only_totals = fails_only_at_totals plan cert in
     let all_sized = list_all has_valid_sizes (raised plan cert).pools in
+    let queues = have_queues plan cert in
     ap (λ (b : Bool). cond b (Some (raised plan cert)) None)
-    (false_from_ne_true (only_totals && all_sized) (λ both.
-    let parts = and_parts only_totals all_sized both in
-    let none = not_unfit_where_fitted plan cert parts.0 parts.1 in
+    (false_from_ne_true (only_totals && all_sized && queues) (λ all.
+    let parts = and_parts (only_totals && all_sized) queues all in
+    let front = and_parts only_totals all_sized parts.0 in
+    let none = not_unfit_where_fitted plan cert front.0 front.1 parts.1 in
     absurd cc))
 
 -- the postcondition of `fitted`: if there is no reason, the raised plan has the least sizes
@@ -258,11 +295,18 @@ of_sizes true None sizes reported some = some
 of_sizes true (Some note) sizes reported some = absurd cc
 of_sizes false found sizes reported some = absurd cc
 
+-- a core is a reason only if it is the first invalid size
+of_first : (first second : Option Unfit) (reported : ℕ) → (second ≡ Some (Core reported) → ⊥) → option_or first second ≡ Some (Core reported) → first ≡ Some (Core reported)
+of_first None second reported no_core some = absurd (no_core some)
+of_first (Some unfit) second reported no_core some = some
+
 -- if a core is the reason, its pool needs a larger maximum
 pub reported_cores_need_larger_maxes : ReportedCoresNeedLargerMaxes
 reported_cores_need_larger_maxes plan other cert p well some fits =
     let pools = (raised plan cert).pools in
-    let reported = reported_at 0 pools p (of_sizes (cert_fits plan cert) (failing_elsewhere plan cert) (first_unfit (enumerate_from 0 pools)) p some) in
+    let numbered = enumerate_from 0 pools in
+    let sizes = of_sizes (cert_fits plan cert) (failing_elsewhere plan cert) (unfit_sizes plan cert) p some in
+    let reported = reported_at 0 pools p (of_first (first_unfit numbered) (first_tight plan cert numbered) p (tight_is_no_core plan cert numbered p) sizes) in
     let at : reported.place ≡ p = omega (arith, reported.is_above.number) in
     let inside : p < length plan.pools = omega (arith, reported.inside, (has_shape plan (raised plan cert) (raised-shape plan cert)).as_many) in
     let is = raised_at plan cert p inside in

@@ -4,19 +4,23 @@ use Rattle.std.specs.List.{list_all, enumerate_from}
 use Rattle.std.proofs.lemmas.Bool.{and_parts, and_from, cases_lt, false≢true, false_from_ne_true}
 use Rattle.std.proofs.lemmas.List.{get_or-map, get_or_past, nil_from_length, length-map}
 use Rattle.std.proofs.lemmas.List.Sums.{sum_by-cons}
-use Rattle.support.proofs.Members.{list_all_at_In, In-get_or}
 use Rattle.job_bodies.specs.declared.action.Action.{Action}
 use Rattle.job_bodies.specs.declared.action.Action.TheVariants.{Work, Submit, Get}
 use Rattle.job_bodies.specs.declared.limits.TheConstants.{MAX_SIZE}
-use Rattle.job_bodies.specs.Plan.{Pool, Class, Client, Plan, no_pool, no_client, class_at, submitted_class, has_get_of}
+use Rattle.job_bodies.specs.Plan.{Pool, Class, Client, Plan, no_pool, no_client, pool_at, class_at, client_at, submitted_class, has_get_of}
+use Rattle.job_bodies.specs.ValidBody.{IsValidBody}
 use Rattle.job_bodies.specs.WellFormed.{IsWellFormed}
 use Rattle.job_bodies.proofs.Bodies.{ordered}
 use Rattle.weights.specs.Vector.{Vector, done_weight, client_weight, client_weights, workers_weight, is_small, has_small_numbers, has_shape, vector_fits}
 use Rattle.weights.specs.Ranks.{ranks_fit}
-use Rattle.cert_text.specs.Cert.{PoolCert, no_vector, no_pool_cert, pool_cert_fits, cert_fits}
+use Rattle.cert_text.specs.Cert.{PoolCert, no_vector, no_pool_cert, cert_fits}
+use Rattle.cert_text.proofs.Fitting.{parts_fit}
 use Rattle.soundness.specs.Conditions.{failing}
 use Rattle.soundness.specs.Accepted.{accepted, is_nil}
 use Rattle.size_search.specs.Steady.{sum_below, greatest_upto, submitted_weight, awaited_weight, open_weight, most, weight_at, weights_from, client_end, client_row, jobs, jobs_within, steady_vector, steady_total, steady_pool, steady_cert}
+use Rattle.size_search.specs.Submitted.{IsNeverGot, LosesRejected, by_client, by_job}
+use Rattle.size_search.specs.Sized.{IsSteadyTooLarge, IsTooLarge}
+use Rattle.size_search.proofs.Losses.{class_submitted}
 
 -- ---- vectors in which jobs have no weight
 
@@ -128,9 +132,20 @@ no_pools_no_classes plan well none =
 bare_plan : (plan : Plan) → IsWellFormed plan → length plan.pools ≡ 0 → plan ≡ without plan.clients
 bare_plan plan well none = is_without plan (nil_from_length plan.pools none) (no_pools_no_classes plan well none)
 
+-- if a body has a submit, the plan has a pool
+submit_to_a_pool : (plan : Plan) (body : List Action) (i : ℕ) → IsWellFormed plan → IsValidBody plan body → IsNeverGot body i → 0 < length plan.pools
+submit_to_a_pool plan body i well valid never_got =
+    let submitted = class_submitted (slice_get body i) never_got.is_submit in
+    let of_class = (ordered plan well).pools submitted.0 (valid.submit i submitted.0 submitted.1) in
+    omega (arith, of_class)
+
+lost_to_a_pool : (plan : Plan) → IsWellFormed plan → LosesRejected plan → 0 < length plan.pools
+lost_to_a_pool plan well (by_client {c = c} {i = i} lost) = submit_to_a_pool plan (client_at plan c).body i well ((ordered plan well).clients c) lost.never_got.never_got
+lost_to_a_pool plan well (by_job {k = k} {i = i} lost) = submit_to_a_pool plan (class_at plan k).body i well ((ordered plan well).classes k) lost.never_got.never_got
+
 -- if the steady certificate of a plan is too large, the plan has a pool
-pub too_large_for_a_pool : (plan : Plan) → IsWellFormed plan → ((has_small_numbers (steady_vector plan) ≡ false) ⊎ (MAX_SIZE ≤ steady_total plan)) → 0 < length plan.pools
-too_large_for_a_pool plan well large =
+steady_too_large_for_a_pool : (plan : Plan) → IsWellFormed plan → IsSteadyTooLarge plan → 0 < length plan.pools
+steady_too_large_for_a_pool plan well large =
     elim (cases_lt 0 (length plan.pools)) [
       | inl some ↦ some
       | inr past ↦
@@ -143,6 +158,9 @@ too_large_for_a_pool plan well large =
           large
     ]
 
+pub too_large_for_a_pool : (plan : Plan) → IsWellFormed plan → IsTooLarge plan → 0 < length plan.pools
+too_large_for_a_pool plan well large = ⊎_elim (λ steady. steady_too_large_for_a_pool plan well steady) (λ lost. lost_to_a_pool plan well lost) large
+
 -- if the steady certificate of a plan is accepted, its weights are within the limit
 pub small_where_accepted : (plan : Plan) → IsWellFormed plan → IsTrue (accepted plan (steady_cert plan)) → has_small_numbers (steady_vector plan) ≡ true
 small_where_accepted plan well is_accepted =
@@ -150,11 +168,8 @@ small_where_accepted plan well is_accepted =
       | inl some ↦
           let cert = steady_cert plan in
           let fits = (and_parts (cert_fits plan cert) (is_nil (failing plan cert)) is_accepted).0 in
-          let pools = (and_parts _ (list_all (pool_cert_fits plan) cert.pools) fits).1 in
-          let first : get_or cert.pools 0 no_pool_cert ≡ steady_pool plan = get_or-map (λ (pool : Pool). steady_pool plan) plan.pools 0 no_pool no_pool_cert some in
-          let at = In-get_or cert.pools 0 no_pool_cert (omega (arith, some, length-map plan.pools (λ (pool : Pool). steady_pool plan))) in
-          let of_first : pool_cert_fits plan (steady_pool plan) ≡ true = ap (pool_cert_fits plan) (sym first) ∙ list_all_at_In (pool_cert_fits plan) pools at in
-          let blocked = (and_parts (vector_fits plan (steady_vector plan)) (vector_fits plan (steady_vector plan)) of_first).1 in
-          (and_parts (has_shape plan (steady_vector plan)) (has_small_numbers (steady_vector plan)) blocked).1
+          let first : get_or cert.pools 0 no_pool_cert ≡ steady_pool plan (pool_at plan 0) = get_or-map (steady_pool plan) plan.pools 0 no_pool no_pool_cert some in
+          let of_first : vector_fits plan (steady_vector plan) ≡ true = subst (λ (part : PoolCert). vector_fits plan part.blocked ≡ true) first ((parts_fit plan cert fits).pools 0 some).blocked in
+          (and_parts (has_shape plan (steady_vector plan)) (has_small_numbers (steady_vector plan)) of_first).1
       | inr past ↦ ap (λ (any : Plan). has_small_numbers (steady_vector any)) (bare_plan plan well (omega (arith, past))) ∙ small_without plan.clients
     ]

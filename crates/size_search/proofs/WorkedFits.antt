@@ -8,7 +8,7 @@ use Rattle.weights.specs.Row.{row}
 use Rattle.cert_text.specs.Cert.{Cert}
 use Rattle.soundness.specs.declared.note.Section.TheVariants as section
 use Rattle.soundness.specs.Conditions.{note, failing}
-use Rattle.cert_check.proofs.WorkedPlans.{a_pool, a_class, clients, asks, works, one_pool, one_pool_once, forgetting, nested, fan_out, two_pools, weighing, pool_cert, pair_of_ones, one_of_ones, one_of_zeros, standing_cert, lifetime_cert, forgetting_cert, lends, nested_ranks, nested_cert, fan_out_cert, two_pools_cert}
+use Rattle.cert_check.proofs.WorkedPlans.{a_pool, a_class, clients, asks, works, one_pool, one_pool_once, rejecting, forgetting, nested, nested_rejecting, fan_out, two_pools, weighing, pool_cert, pair_of_ones, one_of_ones, one_of_zeros, standing_cert, unbounded_cert, lifetime_cert, forgetting_cert, lends, nested_ranks, nested_cert, nested_unbounded_cert, fan_out_cert, two_pools_cert}
 use Rattle.size_search.specs.declared.unfit.Unfit.TheVariants.{Shape, Condition, Core, Queue}
 use Rattle.size_search.specs.Fitted.{fitted, smallest}
 use Rattle.size_search.specs.Widened.{widened}
@@ -79,6 +79,34 @@ nested_one_worker_widened = refl
 
 pub cross_pools_widened : fitted (widened (two_pools 1) two_pools_cert) two_pools_cert ≡ Some (two_pools 2)
 cross_pools_widened = refl
+
+-- ---- pools that may reject jobs
+
+-- without a bound, a queue of any size is enough
+pub rejecting_queue : fitted (rejecting 1 1 1 2) unbounded_cert ≡ Some (rejecting 1 1 1 2)
+rejecting_queue = refl
+
+-- the queue is not raised to what a bound requires
+pub rejecting_bound : fitted (rejecting 1 1 1 2) (standing_cert 1) ≡ None
+rejecting_bound = refl
+
+pub rejecting_bound_unfit : why_unfit (rejecting 1 1 1 2) (standing_cert 1) ≡ Some (Queue 0)
+rejecting_bound_unfit = refl
+
+-- a queue that is large enough for a bound stays unchanged
+pub rejecting_bound_fits : fitted (rejecting 1 1 2 2) (standing_cert 1) ≡ Some (rejecting 1 1 2 2)
+rejecting_bound_fits = refl
+
+-- the smallest plan keeps the queue
+pub rejecting_smallest : fitted (smallest (rejecting 2 2 9 2)) (standing_cert 1) ≡ Some (rejecting 1 2 9 2)
+rejecting_smallest = refl
+
+-- the blocked bound can need a larger core, and a larger maximum with it
+pub rejecting_core : why_unfit (nested_rejecting 1) nested_unbounded_cert ≡ Some (Core 0)
+rejecting_core = refl
+
+pub rejecting_widened : fitted (widened (nested_rejecting 1) nested_unbounded_cert) nested_unbounded_cert ≡ Some (nested_rejecting 2)
+rejecting_widened = refl
 
 -- ---- lifetime vectors
 

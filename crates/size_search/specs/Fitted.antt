@@ -1,5 +1,5 @@
 -- The least cores and queues with which a certificate accepts a plan.
-use Rattle.std.specs.Prelude.{◌≡◌, ◌≤◌, ℕ, ◌+◌, ◌-◌, max, Bool, true, false, ◌&&◌, if◌then◌else◌, map, Option, Some, None, IsTrue}
+use Rattle.std.specs.Prelude.{◌≡◌, ◌≤◌, ℕ, ◌+◌, ◌-◌, max, Bool, true, false, ◌&&◌, not, nat_lt, if◌then◌else◌, map, Option, Some, None, IsTrue}
 use Rattle.std.specs.List.{list_all, enumerate_from}
 use Rattle.job_bodies.specs.Plan.{Pool, Plan, pool_at, first_workers}
 use Rattle.job_bodies.specs.WellFormed.{IsWellFormed, has_valid_sizes}
@@ -20,23 +20,30 @@ abbrev pub core_needed : Plan → Vector → ℕ
 core_needed plan v = total plan v + 1
 
 -- the queue that rule S2 or L3 requires: the total or, for a lifetime bound, the total minus the number of threads that are not prestarted
-abbrev pub queue_needed : Plan → Bound → Pool → ℕ
-queue_needed plan (Standing v) pool = total plan v
-queue_needed plan (Lifetime v) pool = total plan v + first_workers pool - pool.max
+abbrev pub queue_of_bound : Plan → Bound → Pool → ℕ
+queue_of_bound plan (Standing v) pool = total plan v
+queue_of_bound plan (Lifetime v) pool = total plan v + first_workers pool - pool.max
+
+-- the queue that the bound of a pool requires; 0 if there is no bound
+abbrev pub queue_needed : Plan → Option Bound → Pool → ℕ
+queue_needed plan None pool = 0
+queue_needed plan (Some bound) pool = queue_of_bound plan bound pool
 
 -- ---- the plan with raised sizes
 
 abbrev pub with_core : Plan → Vector → Pool → Pool
 with_core plan v pool = record pool { core = max pool.core (core_needed plan v) }
 
-abbrev pub with_queue : Plan → Bound → Pool → Pool
-with_queue plan bound pool = record pool { queue = max pool.queue (queue_needed plan bound pool) }
+-- the queue of a pool that may reject jobs stays unchanged
+abbrev pub with_queue : Plan → Option Bound → Pool → Pool
+with_queue plan bound pool = record pool { queue = if pool.may_reject then pool.queue else max pool.queue (queue_needed plan bound pool) }
 
 -- the pool with its core raised, and then its queue: a prestarted pool with a larger core can need a larger queue
 abbrev pub raised_pool : Plan → PoolCert → Pool → Pool
 raised_pool plan cert pool = with_queue plan cert.bound (with_core plan cert.blocked pool)
 
--- the plan with each core and each queue raised to what the certificate needs, unless it is already that large
+-- the plan with each core and each queue raised to what the certificate needs, unless it is already that large; the queue of a pool that
+-- may reject jobs stays unchanged
 abbrev pub raised : Plan → Cert → Plan
 raised plan cert = record plan { pools = map (λ entry. raised_pool plan (pool_cert_at cert entry.0) entry.1) (enumerate_from 0 plan.pools) }
 
@@ -49,32 +56,45 @@ is_total _ = false
 abbrev pub fails_only_at_totals : Plan → Cert → Bool
 fails_only_at_totals plan cert = cert_fits plan cert && list_all (λ note. is_total note.place) (failing plan cert)
 
--- the raised plan, or None if a condition fails that does not depend on cores and queues, if a raised core is above its pool's maximum, or
--- if a raised queue is above the limit
+-- the pool's queue is as large as the bound requires
+abbrev pub has_queue : Plan → Option Bound → Pool → Bool
+has_queue plan bound pool = not (nat_lt pool.queue (queue_needed plan bound pool))
+
+-- each queue of the raised plan is as large as its bound requires; only the unchanged queue of a pool that may reject jobs can be smaller
+abbrev pub have_queues : Plan → Cert → Bool
+have_queues plan cert = list_all (λ entry. has_queue plan (pool_cert_at cert entry.0).bound entry.1) (enumerate_from 0 (raised plan cert).pools)
+
+-- the raised plan, or None if a condition fails that does not depend on cores and queues, if a raised core is above its pool's maximum, if
+-- a raised queue is above the limit, or if the unchanged queue of a pool that may reject jobs is smaller than its bound requires
 abbrev pub fitted : Plan → Cert → Option Plan
-fitted plan cert = if fails_only_at_totals plan cert && list_all has_valid_sizes (raised plan cert).pools then Some (raised plan cert) else None
+fitted plan cert =
+    if fails_only_at_totals plan cert && list_all has_valid_sizes (raised plan cert).pools && have_queues plan cert
+    then Some (raised plan cert)
+    else None
 
 -- ---- properties of the fitted plan
 
--- the plan with this number as each core and each queue
-abbrev pub with_sizes : ℕ → Plan → Plan
-with_sizes n plan = record plan { pools = map (λ (pool : Pool). record pool { core = n; queue = n }) plan.pools }
-
 -- the plan without its cores and queues
 abbrev pub shape : Plan → Plan
-shape plan = with_sizes 0 plan
+shape plan = record plan { pools = map (λ (pool : Pool). record pool { core = 0; queue = 0 }) plan.pools }
+
+-- each pool that may reject jobs has the same queue in the other plan
+pub record KeepsQueues (plan other : Plan) : Type 0 where
+  pub same_queue : (p : ℕ) → IsTrue (pool_at plan p).may_reject → (pool_at other p).queue ≡ (pool_at plan p).queue
 
 -- no core and no queue of the other plan is smaller than in this one
 pub record IsNoSmaller (other plan : Plan) : Type 0 where
   pub core : (p : ℕ) → (pool_at plan p).core ≤ (pool_at other p).core
   pub queue : (p : ℕ) → (pool_at plan p).queue ≤ (pool_at other p).queue
 
--- the other plan differs from this one only in cores and queues
+-- the other plan differs from this one only in cores and in the queues of pools that must not reject jobs
 pub record IsResized (plan other : Plan) : Type 0 where
   pub well_formed : IsWellFormed other
   pub same_shape : shape other ≡ shape plan
+  pub keeps_queues : KeepsQueues plan other
 
--- the certificate accepts the other plan, which differs from this one only in larger cores and queues
+-- the certificate accepts the other plan, which differs from this one only in larger cores and larger queues of pools that must not reject
+-- jobs
 pub record IsFit (plan : Plan) (cert : Cert) (other : Plan) : Type 0 where
   pub resized : IsResized plan other
   pub no_smaller : IsNoSmaller other plan
@@ -85,7 +105,8 @@ pub record IsLeastFit (plan : Plan) (cert : Cert) (fit : Plan) : Type 0 where
   pub fits : IsFit plan cert fit
   pub least : (other : Plan) → IsFit plan cert other → IsNoSmaller other fit
 
--- no plan fits (`IsFit`): the certificate accepts no plan that differs from this one only in larger cores and queues
+-- no plan fits (`IsFit`): the certificate accepts no plan that differs from this one only in larger cores and larger queues of pools that
+-- must not reject jobs
 abbrev pub NoneFits : Plan → Cert → Type 0
 NoneFits plan cert = (other : Plan) → ¬ IsFit plan cert other
 
@@ -99,16 +120,25 @@ pub record FittedSizesAreLeast : Type 0 where
 abbrev pub AcceptedPlansFit : Type 0
 AcceptedPlansFit = (plan : Plan) (cert : Cert) → IsWellFormed plan → IsTrue (accepted plan cert) → fitted plan cert ≡ Some plan
 
+-- the limit of the total of the bound of pool p; 0 if there is no bound
+abbrev pub limit_of : Plan → ℕ → Option Bound → ℕ
+limit_of plan p None = 0
+limit_of plan p (Some bound) = bound_limit plan p bound
+
 -- a certificate that accepts a plan also accepts it with other cores and queues, if no core and no limit of a bound is smaller
 abbrev pub LargerSizesAreAccepted : Type 0
 LargerSizesAreAccepted = (plan other : Plan) (cert : Cert) → shape other ≡ shape plan → IsTrue (accepted plan cert) → ((p : ℕ) → (pool_at plan p).core ≤ (pool_at other p).core)
-    → ((p : ℕ) → bound_limit plan p (pool_cert_at cert p).bound ≤ bound_limit other p (pool_cert_at cert p).bound) → IsTrue (accepted other cert)
+    → ((p : ℕ) → limit_of plan p (pool_cert_at cert p).bound ≤ limit_of other p (pool_cert_at cert p).bound) → IsTrue (accepted other cert)
 
 -- ---- the least sizes, whatever sizes the plan declares
 
--- the plan with cores and queues of 1
+-- the pool with a core of 1, and a queue of 1 unless it may reject jobs
+abbrev pub smallest_pool : Pool → Pool
+smallest_pool pool = record pool { core = 1; queue = if pool.may_reject then pool.queue else 1 }
+
+-- the plan with cores and queues of 1; the queue of a pool that may reject jobs stays unchanged
 abbrev pub smallest : Plan → Plan
-smallest plan = with_sizes 1 plan
+smallest plan = record plan { pools = map smallest_pool plan.pools }
 
 -- fitting the smallest plan gives the least cores and queues with which the certificate accepts the plan
 pub record SmallestFitIsLeast : Type 0 where

@@ -5,9 +5,10 @@ use Rattle.job_bodies.specs.Plan.{Plan, pool_at}
 use Rattle.weights.specs.Vector.{has_small_numbers}
 use Rattle.cert_text.specs.Cert.{Cert}
 use Rattle.soundness.specs.Accepted.{accepted}
-use Rattle.size_search.specs.Fitted.{IsResized, IsNoSmaller}
+use Rattle.size_search.specs.Fitted.{KeepsQueues, IsResized, IsNoSmaller}
 use Rattle.size_search.specs.Widened.{IsWideFit, HasLeastCores}
 use Rattle.size_search.specs.Steady.{steady_vector, steady_total}
+use Rattle.size_search.specs.Submitted.{LosesRejected}
 use Rattle.size_search.specs.Causes.{IsCause}
 use Rattle.size_search.specs.declared.found.NoSizes.TheVariants.{Cause, TooLarge}
 use Rattle.size_search.specs.declared.found.SizesFound.{SizesFound}
@@ -16,21 +17,28 @@ use Rattle.size_search.specs.declared.found.SizesFound.TheVariants.{Found, NotFo
 -- Call a plan *larger* if it differs from the given one only in sizes, and none is smaller. The fit is larger, and the certificate accepts
 -- it. No larger plan that the certificate accepts has a smaller maximum or a smaller core, and none that has the fit's maximums has a
 -- smaller queue. With larger maximums a smaller queue can be enough: in a lifetime bound, each thread that is not prestarted starts with a
--- job, which needs no place in the queue. A maximum of the fit that is larger than the plan's equals the core of its pool.
+-- job, which needs no place in the queue. A maximum of the fit that is larger than the plan's equals the core of its pool. The queue of a
+-- pool that may reject jobs stays unchanged.
 pub record IsSized (plan : Plan) (cert : Cert) (fit : Plan) : Type 0 where
   pub fits : IsWideFit plan cert fit
   pub no_smaller : IsNoSmaller fit plan
+  pub keeps_queues : KeepsQueues plan fit
   pub least : (other : Plan) → IsResized fit other → IsNoSmaller other plan → IsTrue (accepted other cert) → IsNoSmaller other fit
   pub least_maxes : (other : Plan) → IsWideFit plan cert other → (p : ℕ) → (pool_at fit p).max ≤ (pool_at other p).max
   pub least_cores : HasLeastCores plan cert fit
   pub max_is_core : (p : ℕ) → (pool_at plan p).max < (pool_at fit p).max → (pool_at fit p).max ≡ (pool_at fit p).core
 
 -- a weight of the plan's steady certificate is above its limit, or the certificate's total is at least the limit of sizes
+abbrev pub IsSteadyTooLarge : Plan → Type 0
+IsSteadyTooLarge plan = (has_small_numbers (steady_vector plan) ≡ false) ⊎ (MAX_SIZE ≤ steady_total plan)
+
+-- the steady certificate is too large, or no size is enough for it, because a submit to a pool that may reject jobs is made forever and never
+-- got
 abbrev pub IsTooLarge : Plan → Type 0
-IsTooLarge plan = (has_small_numbers (steady_vector plan) ≡ false) ⊎ (MAX_SIZE ≤ steady_total plan)
+IsTooLarge plan = IsSteadyTooLarge plan ⊎ LosesRejected plan
 
 -- the result is true of the plan: the sizes that were found are `IsSized`, or the cause that was found holds, or the steady certificate is
--- too large and the pool that is named exists
+-- too large (`IsTooLarge`) and the pool that is named exists
 abbrev pub IsFound : Plan → SizesFound → Type 0
 IsFound plan (Found fit cert) = IsSized plan cert fit
 IsFound plan (NotFound (Cause cause)) = IsCause plan cause

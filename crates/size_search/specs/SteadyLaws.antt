@@ -1,5 +1,5 @@
 -- The acceptance of steady certificates.
-use Rattle.std.specs.Prelude.{◌≡◌, ◌≤◌, ◌<◌, ◌↔◌, ℕ, length, IsTrue}
+use Rattle.std.specs.Prelude.{◌≡◌, ◌≤◌, ◌<◌, ◌↔◌, ℕ, length, IsTrue, IsFalse}
 use Rattle.support.specs.In.{In}
 use Rattle.job_bodies.specs.Plan.{Plan, pool_at}
 use Rattle.job_bodies.specs.WellFormed.{IsWellFormed}
@@ -9,12 +9,12 @@ use Rattle.cert_text.specs.Cert.{cert_fits}
 use Rattle.soundness.specs.declared.note.Note.{Note}
 use Rattle.soundness.specs.Conditions.{failing}
 use Rattle.soundness.specs.Accepted.{accepted}
-use Rattle.size_search.specs.Submitted.{IsWithoutCause}
+use Rattle.size_search.specs.Submitted.{IsAllGot}
 use Rattle.size_search.specs.Steady.{steady_vector, steady_total, steady_cert}
 
--- every queue is at least the total, and every core is larger than the total
+-- the queue of every pool that must not reject jobs is at least the total, and every core is larger than the total
 abbrev pub AreEnough : Plan → Type 0
-AreEnough plan = (p : ℕ) → p < length plan.pools → (steady_total plan ≤ (pool_at plan p).queue) × (steady_total plan < (pool_at plan p).core)
+AreEnough plan = (p : ℕ) → p < length plan.pools → (IsFalse (pool_at plan p).may_reject → steady_total plan ≤ (pool_at plan p).queue) × (steady_total plan < (pool_at plan p).core)
 
 -- the steady certificate fits the plan, only conditions on its total can fail, and it is accepted exactly when the sizes are enough
 pub record IsSteadyAccepted (plan : Plan) : Type 0 where
@@ -22,6 +22,7 @@ pub record IsSteadyAccepted (plan : Plan) : Type 0 where
   pub only_totals : (x : Note) → In x (failing plan (steady_cert plan)) → x.place ≡ Total
   pub is_accepted : IsTrue (accepted plan (steady_cert plan)) ↔ AreEnough plan
 
--- if a plan has no cause and the weights are within their limit, its steady certificate is `IsSteadyAccepted`
+-- if no class submits itself, no repeating client causes a submit that is never got, and the weights are within their limit, the steady
+-- certificate of the plan is `IsSteadyAccepted`
 abbrev pub SteadyCertificatesAccept : Type 0
-SteadyCertificatesAccept = (plan : Plan) → IsWellFormed plan → IsWithoutCause plan → IsTrue (has_small_numbers (steady_vector plan)) → IsSteadyAccepted plan
+SteadyCertificatesAccept = (plan : Plan) → IsWellFormed plan → IsAllGot plan → IsTrue (has_small_numbers (steady_vector plan)) → IsSteadyAccepted plan

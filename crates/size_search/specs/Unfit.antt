@@ -5,12 +5,12 @@ use Rattle.std.specs.Option.{option_or, option_map}
 use Rattle.job_bodies.specs.declared.limits.TheConstants.{MAX_SIZE}
 use Rattle.job_bodies.specs.Plan.{Pool, Plan, pool_at}
 use Rattle.job_bodies.specs.WellFormed.{IsWellFormed}
-use Rattle.cert_text.specs.Cert.{Cert, cert_fits}
+use Rattle.cert_text.specs.Cert.{Cert, pool_cert_at, cert_fits}
 use Rattle.soundness.specs.declared.note.Note.{Note}
 use Rattle.soundness.specs.Conditions.{failing}
 use Rattle.size_search.specs.declared.unfit.Unfit.{Unfit}
 use Rattle.size_search.specs.declared.unfit.Unfit.TheVariants.{Shape, Condition, Core, Queue}
-use Rattle.size_search.specs.Fitted.{is_total, raised}
+use Rattle.size_search.specs.Fitted.{is_total, has_queue, raised}
 use Rattle.size_search.specs.Widened.{widened, IsWideFit}
 
 -- the first failing condition that does not depend on cores and queues
@@ -27,12 +27,18 @@ abbrev pub first_unfit : List (ℕ × Pool) → Option Unfit
 first_unfit [] = None
 first_unfit (entry ∷ entries) = option_or (unfit_pool entry.0 entry.1) (first_unfit entries)
 
--- the reason why the plan has no fitted plan, or None; a failing condition that no size changes takes precedence over an invalid size
+-- the reason for the first pool of the list whose queue is smaller than its bound requires, or None
+abbrev pub first_tight : Plan → Cert → List (ℕ × Pool) → Option Unfit
+first_tight plan cert [] = None
+first_tight plan cert (entry ∷ entries) = if has_queue plan (pool_cert_at cert entry.0).bound entry.1 then first_tight plan cert entries else Some (Queue entry.0)
+
+-- the reason why the sizes of the raised plan are not enough, or None; an invalid size takes precedence over a queue that is too small
+abbrev pub unfit_sizes : Plan → Cert → Option Unfit
+unfit_sizes plan cert = option_or (first_unfit (enumerate_from 0 (raised plan cert).pools)) (first_tight plan cert (enumerate_from 0 (raised plan cert).pools))
+
+-- the reason why the plan has no fitted plan, or None; a failing condition that no size changes takes precedence over the sizes
 abbrev pub why_unfit : Plan → Cert → Option Unfit
-why_unfit plan cert =
-    if cert_fits plan cert
-    then option_or (option_map Condition (failing_elsewhere plan cert)) (first_unfit (enumerate_from 0 (raised plan cert).pools))
-    else Some Shape
+why_unfit plan cert = if cert_fits plan cert then option_or (option_map Condition (failing_elsewhere plan cert)) (unfit_sizes plan cert) else Some Shape
 
 -- the reason why the plan has no widened plan, or None
 abbrev pub why_not_widened : Plan → Cert → Option Unfit

@@ -9,10 +9,10 @@ use least_vectors::Kind;
 use std::alloc::Global;
 use weights::Bound;
 
-/// Returns the vector that bounds the pool's queue. This is the standing vector, or the lifetime
-/// vector if the lifetime vector requires a smaller increase of the queue. `pool_threads` has the
-/// current core and maximum of this pool, and `maxes` has the current maximums of all pools.
-/// Returns this pool as the obstacle if the search finds no such vector.
+/// Returns the vector that bounds the pool's queue, or `None` if the pool may reject jobs and the
+/// search finds no vector that its queue is large enough for. `pool_threads` has the current core
+/// and maximum of this pool, and `maxes` has the current maximums of all pools. Returns this pool as
+/// the obstacle if it must not reject jobs and the search finds no vector.
 pub(crate) fn bound_of(
     alloc: Global,
     cache: &mut VectorCache,
@@ -20,34 +20,82 @@ pub(crate) fn bound_of(
     pool: &Pool,
     pool_threads: PoolThreads,
     maxes: &[u64],
-) -> Result<Bound, AttemptError> {
+) -> Result<Option<Bound>, AttemptError> {
+    if pool.may_reject {
+        // The final maximum can be smaller than the current one, but not than the declared one. A
+        // lifetime vector must fit the queue with each of them, because the queue stays unchanged.
+        let least_threads = PoolThreads {
+            core: pool_threads.core,
+            max: pool.max,
+        };
+        let bound = least_bound(alloc, cache, number, pool, least_threads, maxes)?;
+        return Ok(match bound {
+            Some(least) if least.missing == 0 => Some(least.bound),
+            _ => None,
+        });
+    }
+    match least_bound(alloc, cache, number, pool, pool_threads, maxes)? {
+        Some(least) => Ok(Some(least.bound)),
+        None => Err(AttemptError::Obstacle(Obstacle::Pool(number))),
+    }
+}
+
+/// A vector that bounds a pool's queue.
+#[derive(Drop)]
+struct LeastBound {
+    bound: Bound,
+    /// The amount by which the vector requires a larger queue than the pool has.
+    missing: u64,
+}
+
+/// Returns the standing vector of the pool, or its lifetime vector if that requires a smaller
+/// increase of the queue. Returns `None` if the search finds no such vector.
+fn least_bound(
+    alloc: Global,
+    cache: &mut VectorCache,
+    number: usize,
+    pool: &Pool,
+    pool_threads: PoolThreads,
+    maxes: &[u64],
+) -> Result<Option<LeastBound>, AttemptError> {
     let mut hit = cache.lightest(alloc, number, Kind::Standing, maxes, pool.queue)?;
-    let missing = hit.total.saturating_sub(pool.queue);
+    let mut missing = hit.total.saturating_sub(pool.queue);
     let mut is_lifetime = false;
     if missing > 0 {
         let lifetime = cache.lightest(alloc, number, Kind::Lifetime, maxes, 0)?;
-        is_lifetime = lifetime_queue(pool, pool_threads, lifetime.total).saturating_sub(pool.queue)
-            < missing;
+        let missing_of_lifetime = lifetime_queue(pool, pool_threads, lifetime.total).saturating_sub(
+            pool.queue,
+        );
+        is_lifetime = missing_of_lifetime < missing;
         if is_lifetime {
             hit = lifetime;
+            missing = missing_of_lifetime;
         }
     }
     let Some(workers) = cache.workers_at(hit) else {
-        return Err(AttemptError::Obstacle(Obstacle::Pool(number)));
+        return Ok(None);
     };
     let kind = if is_lifetime {
         Kind::Lifetime
     } else {
         Kind::Standing
     };
-    match cache
-        .resized_plan(maxes)
-        .vector(alloc, number, kind, workers)?
-    {
-        Some(vector) if is_lifetime => Ok(Bound::Lifetime(vector)),
-        Some(vector) => Ok(Bound::Standing(vector)),
-        None => Err(AttemptError::Obstacle(Obstacle::Pool(number))),
-    }
+    Ok(
+        match cache
+            .resized_plan(maxes)
+            .vector(alloc, number, kind, workers)?
+        {
+            Some(vector) if is_lifetime => Some(LeastBound {
+                bound: Bound::Lifetime(vector),
+                missing,
+            }),
+            Some(vector) => Some(LeastBound {
+                bound: Bound::Standing(vector),
+                missing,
+            }),
+            None => None,
+        },
+    )
 }
 
 /// Returns the queue capacity that the pool needs to accept this number of jobs in its lifetime.

@@ -1,9 +1,9 @@
 //! The search for a cause: a reason why no certificate accepts a plan, whatever its sizes.
 
-ghost use Rattle.std.specs.Prelude.{◌≡◌, ◌<◌, ◌↔◌, ℕ, [], ◌∷◌, true, IfOk, IfSome, IfNone, length};
-ghost use Rattle.job_bodies.specs.Plan.{class_at};
+ghost use Rattle.std.specs.Prelude.{◌≡◌, ◌<◌, ◌↔◌, ℕ, [], ◌∷◌, false, true, IfOk, IfSome, IfNone, length};
+ghost use Rattle.job_bodies.specs.Plan.{class_at, pool_at};
 ghost use Rattle.job_bodies.specs.WellFormed.{IsWellFormed};
-ghost use Rattle.size_search.specs.Submitted.{IsSubmitted, IsNeverGot, NoCircle, NeverGotByClients, NeverGotByJobs, IsWithoutCause, repeated_bodies};
+ghost use Rattle.size_search.specs.Submitted.{IsSubmitted, IsNeverGot, NoCircle, LostByClients, LostByJobs, IsAllGot, IsWithoutCause, LosesRejected, may_be_rejected, repeated_bodies};
 ghost use Rattle.size_search.specs.Reaching.{Has};
 ghost use Rattle.size_search.specs.Causes.{IsCause};
 
@@ -12,6 +12,7 @@ use crate::submitted::submitted_by_repeating_clients;
 use crate::submitted_classes::SubmittedClasses;
 use job_bodies::{Action, Plan, has_get_of};
 use std::alloc::{AllocError, Global};
+use weights::submitted_class;
 
 /// Returns a cause: a reason why no certificate accepts the plan, whatever its sizes. Returns
 /// `None` if the plan has no cause.
@@ -27,11 +28,32 @@ pub fn cause_of(alloc: Global, plan: &Plan) -> Result<Option<Cause>, AllocError>
     if let Some(cause) = circle(alloc, plan)? {
         return Ok(Some(cause));
     }
-    if let Some(cause) = never_got_by_clients(plan) {
-        return Ok(Some(cause));
+    if let Some((client, action)) = lost_by_clients(plan, false) {
+        return Ok(Some(Cause::ClientNeverGets(client, action)));
     }
     let submitted_classes = submitted_by_repeating_clients(alloc, plan)?;
-    Ok(never_got_by_jobs(plan, &submitted_classes))
+    if let Some((class, action)) = lost_by_jobs(plan, &submitted_classes, false) {
+        return Ok(Some(Cause::ClassNeverGets(class, action)));
+    }
+    Ok(None)
+}
+
+/// Returns whether a repeating client causes a submit that is never got, to a pool that may reject
+/// jobs. This is not a cause, but the plan's steady certificate then accepts the plan with no sizes.
+/// [`cause_of`] must have found no cause.
+pub(crate) fn loses_rejected(alloc: Global, plan: &Plan) -> Result<bool, AllocError>
+    requires { IsWithoutCause plan.now }
+    ensures loses { IfOk result (λ loses. loses ≡ true → LosesRejected plan.now) }
+    ensures none { IfOk result (λ loses. loses ≡ false → IsAllGot plan.now) }
+{
+    if let Some(_lost) = lost_by_clients(plan, true) {
+        return Ok(true);
+    }
+    let submitted_classes = submitted_by_repeating_clients(alloc, plan)?;
+    match lost_by_jobs(plan, &submitted_classes, true) {
+        Some(_lost) => Ok(true),
+        None => Ok(false),
+    }
 }
 
 /// Returns, as a cause, the first class that submits itself, directly or through other classes.
@@ -62,52 +84,95 @@ fn submits_itself(alloc: Global, plan: &Plan, number: usize) -> Result<bool, All
     Ok(submitted_classes.has(number))
 }
 
-/// Returns, as a cause, the first submit without a get in the body of a client kind that repeats.
-/// Returns `None` if there is none.
-fn never_got_by_clients(plan: &Plan) -> Option<Cause>
-    ensures cause { IfSome result (IsCause plan.now) }
-    ensures none { IfNone result ((c i : ℕ) → ¬ NeverGotByClients plan.now c i) }
+/// Returns the first submit without a get in the body of a client kind that repeats, as the number
+/// of the client kind and the position of the submit. Considers only submits to pools that may
+/// reject jobs or, if `may_reject` is false, only those to other pools. Returns `None` if there is
+/// none.
+fn lost_by_clients(plan: &Plan, may_reject: bool) -> Option<(usize, usize)>
+    ensures lost { IfSome result (λ found. LostByClients plan.now may_reject found.0 found.1) }
+    ensures none { IfNone result ((c i : ℕ) → ¬ LostByClients plan.now may_reject c i) }
 {
     for number in 0..plan.clients().len() {
         let client = &plan.clients()[number];
         if client.repeat {
-            if let Some(action) = submit_without_get(&client.body) {
-                return Some(Cause::ClientNeverGets(number, action));
+            if let Some(action) = submit_without_get(plan, &client.body, may_reject) {
+                return Some((number, action));
             }
         }
     }
     None
 }
 
-/// Returns, as a cause, the first submit without a get in the body of a class in
-/// `submitted_classes`. The set must have the classes that repeating clients submit, directly or
-/// through other jobs. Returns `None` if there is none.
-fn never_got_by_jobs(plan: &Plan, submitted_classes: &SubmittedClasses) -> Option<Cause>
+/// Returns the first submit without a get in the body of a class in `submitted_classes`, as the
+/// number of the class and the position of the submit. The set must have the classes that repeating
+/// clients submit, directly or through other jobs. Considers only submits to pools that may reject
+/// jobs or, if `may_reject` is false, only those to other pools. Returns `None` if there is none.
+fn lost_by_jobs(
+    plan: &Plan,
+    submitted_classes: &SubmittedClasses,
+    may_reject: bool,
+) -> Option<(usize, usize)>
     requires { (k : ℕ) → Has submitted_classes.now k ↔ IsSubmitted plan.now (repeated_bodies plan.now) k }
-    ensures cause { IfSome result (IsCause plan.now) }
-    ensures none { IfNone result ((k i : ℕ) → ¬ NeverGotByJobs plan.now k i) }
+    ensures lost { IfSome result (λ found. LostByJobs plan.now may_reject found.0 found.1) }
+    ensures none { IfNone result ((k i : ℕ) → ¬ LostByJobs plan.now may_reject k i) }
 {
     for number in 0..plan.classes().len() {
         let class = &plan.classes()[number];
         if submitted_classes.has(number) {
-            if let Some(action) = submit_without_get(&class.body) {
-                return Some(Cause::ClassNeverGets(number, action));
+            if let Some(action) = submit_without_get(plan, &class.body, may_reject) {
+                return Some((number, action));
             }
         }
     }
     None
 }
 
-/// Returns the position of the first submit of the body that has no get, or `None` if each submit
-/// has one.
-fn submit_without_get(body: &[Action]) -> Option<usize>
-    ensures found { IfSome result (IsNeverGot body.now) }
-    ensures none { IfNone result ((i : ℕ) → ¬ IsNeverGot body.now i) }
+/// Returns the position of the first submit of the body that has no get and goes to a pool that may
+/// reject jobs or, if `may_reject` is false, to another pool. Returns `None` if there is none.
+fn submit_without_get(plan: &Plan, body: &[Action], may_reject: bool) -> Option<usize>
+    ensures found { IfSome result
+        (λ i. IsNeverGot body.now i × (may_be_rejected plan.now body.now i ≡ may_reject)) }
+    ensures none { IfNone result
+        ((i : ℕ) → IsNeverGot body.now i → ¬ (may_be_rejected plan.now body.now i ≡ may_reject)) }
 {
     for position in 0..body.len() {
-        if matches!(body[position], Action::Submit(_)) && !has_get_of(body, position) {
+        if is_without_get(body, position) && may_be_rejected(plan, body, position) == may_reject {
             return Some(position);
         }
     }
     None
+}
+
+/// Returns whether the action at this position is a submit that has no get.
+fn is_without_get(body: &[Action], position: usize) -> bool
+    requires { position < length body.now }
+    ensures { (result ≡ true) ↔ IsNeverGot body.now position }
+{
+    matches!(body[position], Action::Submit(_)) && !has_get_of(body, position)
+}
+
+/// Returns whether the pool to which the submit at this position goes may reject jobs.
+fn may_be_rejected(plan: &Plan, body: &[Action], position: usize) -> bool
+    ensures { result ≡ may_be_rejected plan.now body.now position }
+{
+    may_reject(plan, pool_of(plan, submitted_class(body, position)))
+}
+
+/// Returns the index of the class's pool, or 0 if there is no such class.
+fn pool_of(plan: &Plan, class: usize) -> usize
+    ensures { result ≡ (class_at plan.now class).pool }
+{
+    match plan.class_at(class) {
+        Some(class) => class.pool,
+        None => 0,
+    }
+}
+
+fn may_reject(plan: &Plan, pool: usize) -> bool
+    ensures { result ≡ (pool_at plan.now pool).may_reject }
+{
+    match plan.pool_at(pool) {
+        Some(pool) => pool.may_reject,
+        None => false,
+    }
 }

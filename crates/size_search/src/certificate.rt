@@ -1,8 +1,7 @@
 //! The steady certificate of a plan: a certificate in which one vector is both the standing vector
-//! and the blocked vector of every pool.
+//! and the blocked vector of every pool. A pool that may reject jobs has no standing vector.
 
 ghost use Rattle.std.specs.Prelude.{◌≡◌, IfOk, IfSome, IfNone, true, false, map};
-ghost use Rattle.job_bodies.specs.Plan as plan_spec;
 ghost use Rattle.weights.specs.Vector.{has_small_numbers};
 ghost use Rattle.size_search.specs.Submitted.{NoCircle};
 ghost use Rattle.size_search.specs.Steady as spec;
@@ -10,7 +9,7 @@ ghost use Rattle.size_search.specs.Steady as spec;
 use crate::levels::steady_levels;
 use crate::rows::{clients_of, jobs_of};
 use cert_text::{Cert, PoolCert};
-use job_bodies::Plan;
+use job_bodies::{Plan, Pool};
 use std::alloc::{AllocError, Global};
 use weights::{Bound, Ranks, Vector};
 
@@ -65,24 +64,34 @@ fn steady_vector(alloc: Global, plan: &Plan, levels: &[u64]) -> Result<Option<Ve
     }))
 }
 
+/// Returns the vector as the bound of a pool, or `None` if the pool may reject jobs.
+fn bound_of(alloc: Global, vector: &Vector, may_reject: bool) -> Result<Option<Bound>, AllocError>
+    ensures { IfOk result (λ bound. bound ≡ spec.bound_of vector.now may_reject) }
+{
+    if may_reject {
+        return Ok(None);
+    }
+    let vector = copied(alloc, vector)?;
+    Ok(Some(Bound::Standing(vector)))
+}
+
 /// Returns the part of the steady certificate for one pool: the vector is both its bound and its
 /// blocked vector.
-fn pool_of(alloc: Global, vector: &Vector) -> Result<PoolCert, AllocError>
-    ensures { IfOk result (λ pool. pool ≡ spec.pool_of vector.now) }
+fn pool_of(alloc: Global, vector: &Vector, pool: &Pool) -> Result<PoolCert, AllocError>
+    ensures { IfOk result (λ part. part ≡ spec.pool_of vector.now pool.now) }
 {
-    let bound = Bound::Standing(copied(alloc, vector)?);
+    let bound = bound_of(alloc, vector, pool.may_reject)?;
     let blocked = copied(alloc, vector)?;
     Ok(PoolCert { bound, blocked })
 }
 
 /// Returns the parts of the steady certificate for all pools.
 fn pools_of(alloc: Global, plan: &Plan, vector: &Vector) -> Result<Vec<PoolCert>, AllocError>
-    ensures { IfOk result (λ pools.
-        pools.items ≡ map (λ (pool : plan_spec.Pool). spec.pool_of vector.now) plan.now.pools) }
+    ensures { IfOk result (λ pools. pools.items ≡ map (spec.pool_of vector.now) plan.now.pools) }
 {
     let mut pools = Vec::with_capacity(alloc, plan.pools().len())?;
-    for _pool in plan.pools() {
-        pools.push(pool_of(alloc, vector)?)?;
+    for pool in plan.pools() {
+        pools.push(pool_of(alloc, vector, pool)?)?;
     }
     Ok(pools)
 }
@@ -92,7 +101,7 @@ fn pools_of(alloc: Global, plan: &Plan, vector: &Vector) -> Result<Vec<PoolCert>
 /// through other classes.
 ///
 /// With large enough sizes, this certificate accepts the plan if no repeating client causes a
-/// submit that is never got.
+/// submit that is never got. It does not depend on the queue of a pool that may reject jobs.
 ///
 /// # Errors
 ///

@@ -13,7 +13,8 @@ use weights::{Ranks, Vector};
 /// Returns the certificate that results from a [`RankAssignment`] in which every pool has a rank.
 /// The sizes that this certificate needs can be smaller than the sizes of the assignment, so the
 /// caller computes them anew from the plan's sizes. Returns an obstacle as the error if a pool has
-/// no rank, or if its bound or blocked vector is not found.
+/// no rank, if its blocked vector is not found, or if the bound of a pool that must not reject jobs
+/// is not found.
 pub(crate) fn cert_of(
     alloc: Global,
     cache: &mut VectorCache,
@@ -33,7 +34,8 @@ pub(crate) fn cert_of(
     })
 }
 
-/// Returns the bound and the blocked vector of each pool.
+/// Returns the bound and the blocked vector of each pool. A pool that may reject jobs has a bound
+/// only if its queue is large enough for it.
 fn pool_certs(
     alloc: Global,
     cache: &mut VectorCache,

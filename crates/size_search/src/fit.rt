@@ -1,15 +1,15 @@
 //! The least cores and queues with which a certificate accepts a plan.
 
-ghost use Rattle.std.specs.Prelude.{◌≡◌, ◌<◌, ◌^◌, IfOk, IfErr, IsTrue, None, Some, length, not};
-ghost use Rattle.std.specs.List.{find};
-ghost use Rattle.job_bodies.specs.Plan.{pool_at};
+ghost use Rattle.std.specs.Prelude.{◌≡◌, ◌<◌, ◌^◌, if◌then◌else◌, IfOk, IfErr, IsTrue, None, Some, length, max, not, slice_index_or};
+ghost use Rattle.std.specs.List.{enumerate_from, find};
+ghost use Rattle.job_bodies.specs.Plan.{no_pool, pool_at};
 ghost use Rattle.job_bodies.specs.WellFormed.{IsWellFormed};
 ghost use Rattle.weights.specs.Vector.{vector_fits};
 ghost use Rattle.weights.specs.Bound.{bound_vector};
-ghost use Rattle.cert_text.specs.Cert.{cert_fits, pool_cert_at};
+ghost use Rattle.cert_text.specs.Cert.{bound_fits, cert_fits, pool_cert_at};
 ghost use Rattle.size_search.specs.Fitted as spec;
 ghost use Rattle.size_search.specs.Widened.{HasLeastCores};
-ghost use Rattle.size_search.specs.Unfit.{failing_elsewhere, why_unfit};
+ghost use Rattle.size_search.specs.Unfit.{failing_elsewhere, first_tight, unfit_sizes, why_unfit};
 
 use crate::Unfit;
 use crate::unfit::unfit_pools;
@@ -33,12 +33,12 @@ pub(crate) fn core_needed(plan: &Plan, blocked: &Vector) -> u64
 /// Returns the queue capacity that a pool with this core and maximum needs for this bound. If the
 /// bound is a lifetime vector, each thread that is not prestarted starts with a job, which needs no
 /// place in the queue.
-fn queue_needed(plan: &Plan, bound: &Bound, pool: &Pool) -> u64
+fn queue_of_bound(plan: &Plan, bound: &Bound, pool: &Pool) -> u64
     requires well_formed { IsWellFormed plan.now }
     requires fits { IsTrue (vector_fits plan.now (bound_vector bound.now)) }
     // No certificate needs a core of 2^63 or more.
     requires core { pool.now.core < 2 ^ 63 }
-    ensures { result ≡ spec.queue_needed plan.now bound.now pool.now }
+    ensures { result ≡ spec.queue_of_bound plan.now bound.now pool.now }
 {
     match bound {
         Bound::Standing(vector) => vector.total(plan),
@@ -48,8 +48,35 @@ fn queue_needed(plan: &Plan, bound: &Bound, pool: &Pool) -> u64
     }
 }
 
+/// Returns the queue capacity that pool `number`, with the core and maximum of `pool`, needs for
+/// this bound, or 0 if there is no bound.
+fn queue_needed(plan: &Plan, bound: &Option<Bound>, number: usize, pool: &Pool) -> u64
+    requires well_formed { IsWellFormed plan.now }
+    requires fits { IsTrue (bound_fits plan.now number bound.now) }
+    requires core { pool.now.core < 2 ^ 63 }
+    ensures { result ≡ spec.queue_needed plan.now bound.now pool.now }
+{
+    match bound {
+        Some(bound) => queue_of_bound(plan, bound, pool),
+        None => 0,
+    }
+}
+
+/// Returns the queue capacity of the pool, raised to `needed`. A pool that may reject jobs keeps its
+/// capacity.
+fn raised_queue(pool: &Pool, needed: u64) -> u64
+    ensures { result ≡ (if pool.now.may_reject then pool.now.queue else max pool.now.queue needed) }
+{
+    if pool.may_reject {
+        pool.queue
+    } else {
+        pool.queue.max(needed)
+    }
+}
+
 /// Returns the pool with this number, with its core and then its queue raised to what the
-/// certificate needs. A prestarted pool with a larger core can need a larger queue.
+/// certificate needs. A prestarted pool with a larger core can need a larger queue. The queue of a
+/// pool that may reject jobs stays unchanged.
 fn raised_pool(alloc: Global, plan: &Plan, cert: &Cert, number: usize) -> Result<Pool, AllocError>
     requires fits { IsTrue (cert_fits plan.now cert.now) }
     requires number { number < length plan.now.pools }
@@ -60,7 +87,8 @@ fn raised_pool(alloc: Global, plan: &Plan, cert: &Cert, number: usize) -> Result
     let needs = cert.pool_at(number);
     let mut raised = plan.pools()[number].try_clone(alloc)?;
     raised.core = raised.core.max(core_needed(plan, &needs.blocked));
-    raised.queue = raised.queue.max(queue_needed(plan, &needs.bound, &raised));
+    let needed = queue_needed(plan, &needs.bound, number, &raised);
+    raised.queue = raised_queue(&raised, needed);
     Ok(raised)
 }
 
@@ -107,6 +135,51 @@ fn failing_elsewhere(alloc: Global, plan: &Plan, cert: &Cert) -> Result<Option<N
     Ok(first_elsewhere(&failing))
 }
 
+/// Returns whether the queue of the raised pool with this number is smaller than the certificate
+/// needs. This is possible only if the pool may reject jobs, so that its queue stays unchanged.
+fn is_tight(plan: &Plan, cert: &Cert, raised: &[Pool], number: usize) -> bool
+    requires well_formed { IsWellFormed plan.now }
+    requires fits { IsTrue (cert_fits plan.now cert.now) }
+    requires raised { raised.now ≡ (spec.raised plan.now cert.now).pools }
+    requires number { number < length raised.now }
+    ensures { result
+        ≡ not (spec.has_queue plan.now (pool_cert_at cert.now number).bound (slice_index_or raised.now number no_pool)) }
+{
+    let needs = cert.pool_at(number);
+    let pool = &raised[number];
+    pool.queue < queue_needed(plan, &needs.bound, number, pool)
+}
+
+/// Returns, as the reason, the first raised pool whose queue is smaller than the certificate needs,
+/// or `None` if there is none.
+fn tight_queue(plan: &Plan, cert: &Cert, raised: &[Pool]) -> Option<Unfit>
+    requires well_formed { IsWellFormed plan.now }
+    requires fits { IsTrue (cert_fits plan.now cert.now) }
+    requires raised { raised.now ≡ (spec.raised plan.now cert.now).pools }
+    ensures { result ≡ first_tight plan.now cert.now (enumerate_from 0 raised.now) }
+{
+    for number in 0..raised.len() {
+        if is_tight(plan, cert, raised, number) {
+            return Some(Unfit::Queue(number));
+        }
+    }
+    None
+}
+
+/// Returns the reason why the sizes that the certificate needs are not possible, or `None` if they
+/// are. `raised` has the plan's pools with these sizes.
+fn unfit_sizes(plan: &Plan, cert: &Cert, raised: &[Pool]) -> Option<Unfit>
+    requires well_formed { IsWellFormed plan.now }
+    requires fits { IsTrue (cert_fits plan.now cert.now) }
+    requires raised { raised.now ≡ (spec.raised plan.now cert.now).pools }
+    ensures { result ≡ unfit_sizes plan.now cert.now }
+{
+    match unfit_pools(raised) {
+        Some(unfit) => Some(unfit),
+        None => tight_queue(plan, cert, raised),
+    }
+}
+
 /// Returns the reason why no cores and queues make the certificate accept the plan, or `None` if
 /// there is none. `raised` has the plan's pools with the sizes that the certificate needs.
 fn unfit(
@@ -115,13 +188,14 @@ fn unfit(
     cert: &Cert,
     raised: &[Pool],
 ) -> Result<Option<Unfit>, AllocError>
+    requires well_formed { IsWellFormed plan.now }
     requires fits { IsTrue (cert_fits plan.now cert.now) }
     requires raised { raised.now ≡ (spec.raised plan.now cert.now).pools }
     ensures { IfOk result (λ found. found ≡ why_unfit plan.now cert.now) }
 {
     match failing_elsewhere(alloc, plan, cert)? {
         Some(note) => Ok(Some(Unfit::Condition(note))),
-        None => Ok(unfit_pools(raised)),
+        None => Ok(unfit_sizes(plan, cert, raised)),
     }
 }
 
@@ -130,6 +204,9 @@ fn unfit(
 /// certificate accepts the plan. A plan that is already accepted is returned unchanged. Larger
 /// maximums would not allow smaller cores. If there are no such cores and queues, returns the plan
 /// and the reason.
+///
+/// The queue of a pool that may reject jobs stays unchanged. If the certificate has a bound of such
+/// a pool, the queue must be large enough for it.
 ///
 /// # Errors
 ///
@@ -161,12 +238,18 @@ pub fn fitted(
     }
 }
 
+fn smallest_queue(pool: &Pool) -> u64
+    ensures { result ≡ (if pool.now.may_reject then pool.now.queue else 1) }
+{
+    if pool.may_reject { pool.queue } else { 1 }
+}
+
 fn smallest_pool(alloc: Global, pool: &Pool) -> Result<Pool, AllocError>
-    ensures { IfOk result (λ small. small ≡ record pool.now { core = 1; queue = 1 }) }
+    ensures { IfOk result (λ small. small ≡ spec.smallest_pool pool.now) }
 {
     let mut small = pool.try_clone(alloc)?;
     small.core = 1;
-    small.queue = 1;
+    small.queue = smallest_queue(pool);
     Ok(small)
 }
 
@@ -181,9 +264,10 @@ fn smallest_pools(alloc: Global, plan: &Plan) -> Result<Vec<Pool>, AllocError>
     Ok(small)
 }
 
-/// Returns the plan with each core and each queue set to 1. [`fitted`] raises the sizes of that
-/// plan to the least cores and queues with which the certificate accepts the plan. These sizes can
-/// be smaller than the declared sizes.
+/// Returns the plan with each core and each queue set to 1, except the queues of pools that may
+/// reject jobs, which stay unchanged. [`fitted`] raises the sizes of that plan to the least cores
+/// and queues with which the certificate accepts the plan. These sizes can be smaller than the
+/// declared sizes.
 ///
 /// # Errors
 ///

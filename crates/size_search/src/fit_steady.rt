@@ -1,5 +1,6 @@
 //! The least sizes for the steady certificate, in which one vector is both the bound and the
-//! blocked vector of every pool. They are used if the rounds find no sizes.
+//! blocked vector of every pool, except that a pool that may reject jobs has no bound. They are
+//! used if the rounds find no sizes.
 
 ghost use Rattle.std.specs.Prelude.{◌≡◌, ◌≤◌, IfOk, IfSome, IfNone, IsTrue};
 ghost use Rattle.job_bodies.specs.WellFormed.{IsWellFormed};
@@ -7,10 +8,11 @@ ghost use Rattle.job_bodies.specs.declared.limits.TheConstants.{MAX_SIZE};
 ghost use Rattle.weights.specs.Vector.{has_small_numbers};
 ghost use Rattle.size_search.specs.Widened.{IsLeastWide};
 ghost use Rattle.size_search.specs.Widened as spec;
-ghost use Rattle.size_search.specs.Submitted.{IsWithoutCause};
+ghost use Rattle.size_search.specs.Submitted.{IsAllGot, IsWithoutCause};
 ghost use Rattle.size_search.specs.Steady.{steady_vector, steady_total, steady_cert};
 ghost use Rattle.size_search.specs.Sized.{IsSized, IsFound, IsTooLarge};
 
+use crate::causes::loses_rejected;
 use crate::found::{NoSizes, Obstacle, SizesFound};
 use crate::{fitted, steady, widened};
 use cert_text::Cert;
@@ -18,14 +20,32 @@ use job_bodies::Plan;
 use std::alloc::{AllocError, Global};
 
 /// Returns the plan with the least sizes that its steady certificate needs, or
-/// [`NoSizes::TooLarge`] if they are too large. `TooLarge` names the pool of `obstacle`, at which
-/// the attempt to find sizes by rounds failed.
+/// [`NoSizes::TooLarge`] if they are too large or no sizes are enough. `TooLarge` names the pool of
+/// `obstacle`, at which the attempt to find sizes by rounds failed.
 pub(crate) fn fit_steady(
     alloc: Global,
     plan: &Plan,
     obstacle: Obstacle,
 ) -> Result<SizesFound, AllocError>
     requires free { IsWithoutCause plan.now }
+    requires well_formed { IsWellFormed plan.now }
+    ensures found { IfOk result (IsFound plan.now) }
+{
+    let is_lost = loses_rejected(alloc, plan)?;
+    if is_lost {
+        return Ok(too_large(plan, obstacle));
+    }
+    fit_steady_where_got(alloc, plan, obstacle)
+}
+
+/// Returns the plan with the least sizes that its steady certificate needs, or
+/// [`NoSizes::TooLarge`] with the pool of `obstacle` if they are too large.
+fn fit_steady_where_got(
+    alloc: Global,
+    plan: &Plan,
+    obstacle: Obstacle,
+) -> Result<SizesFound, AllocError>
+    requires free { IsAllGot plan.now }
     requires well_formed { IsWellFormed plan.now }
     ensures found { IfOk result (IsFound plan.now) }
 {
@@ -43,7 +63,7 @@ fn fit_steady_cert(
     cert: Cert,
     obstacle: Obstacle,
 ) -> Result<SizesFound, AllocError>
-    requires free { IsWithoutCause plan.now }
+    requires free { IsAllGot plan.now }
     requires well_formed { IsWellFormed plan.now }
     requires steady { cert ≡ steady_cert plan.now }
     requires small { IsTrue (has_small_numbers (steady_vector plan.now)) }
@@ -66,7 +86,7 @@ fn too_large(plan: &Plan, obstacle: Obstacle) -> SizesFound
 /// Returns the plan with the least sizes for its steady certificate, or `None` if the certificate's
 /// total is at least `MAX_SIZE`.
 fn least_steady_sizes(alloc: Global, plan: &Plan, cert: &Cert) -> Result<Option<Plan>, AllocError>
-    requires free { IsWithoutCause plan.now }
+    requires free { IsAllGot plan.now }
     requires well_formed { IsWellFormed plan.now }
     requires steady { cert.now ≡ steady_cert plan.now }
     requires small { IsTrue (has_small_numbers (steady_vector plan.now)) }
@@ -90,7 +110,7 @@ fn least_wide(
     wide: Plan,
     cert: &Cert,
 ) -> Result<Option<Plan>, AllocError>
-    requires free { IsWithoutCause plan.now }
+    requires free { IsAllGot plan.now }
     requires well_formed { IsWellFormed plan.now }
     requires steady { cert.now ≡ steady_cert plan.now }
     requires small { IsTrue (has_small_numbers (steady_vector plan.now)) }

@@ -8,7 +8,8 @@ ghost use Rattle.size_search.specs.Unfit.{ReportedCoresNeedLargerMaxes};
 /// States that the fitted plan is larger, that the certificate accepts it, and that no larger plan
 /// that the certificate accepts has a smaller core or queue. If there is no fitted plan, the
 /// certificate accepts no larger plan. A plan is *larger* here if it differs from the given one
-/// only in cores and queues, and none of them is smaller.
+/// only in cores and queues, none of them is smaller, and each pool that may reject jobs has the
+/// same queue.
 pub fn fitted_sizes_are_least()
     ensures { FittedSizesAreLeast }
 {}
@@ -26,7 +27,7 @@ pub fn larger_sizes_are_accepted()
 {}
 
 /// States that fitting a plan whose cores and queues are 1 gives the least cores and queues with
-/// which the certificate accepts the plan.
+/// which the certificate accepts the plan. The queue of a pool that may reject jobs stays unchanged.
 pub fn smallest_fit_is_least()
     ensures { SmallestFitIsLeast }
 {}

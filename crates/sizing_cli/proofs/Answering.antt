@@ -15,7 +15,7 @@ use Rattle.event_lines.specs.EventLine.{Line, all_from}
 use Rattle.sizing_cli.specs.declared.status.Status.{Status}
 use Rattle.sizing_cli.specs.declared.status.Status.TheVariants.{Done, Refused, BadText, Undecided}
 use Rattle.sizing_cli.specs.Answer.{Answer, then_status, followed_by, bad_event}
-use Rattle.sizing_cli.specs.Transcript.{is_last, reply_answer, event_reply, ending, reply_to, transcript}
+use Rattle.sizing_cli.specs.Transcript.{is_last, reply_answer, event_reply, count_rejection, ending, reply_to, transcript}
 use Rattle.sizing_cli.specs.Report.{replay_of_lines}
 use Rattle.sizing_cli.specs.PartialTranscript.{IsWithEnding, RepliesIn, RepliesToLine}
 
@@ -56,20 +56,20 @@ followed_by-assoc a b c = ap₂ (λ (t : List ℕ) (s : Status). record { text =
 -- ---- the lines so far
 
 -- the whole answer after `number` lines: the replay is over, or the remaining lines are replayed from this state
-abbrev pub replay_behind : Plan → State → Answer → ℕ → Bool → Result (List Line) ℕ → Answer
-replay_behind plan s front number is_over (Err bad) = bad_event bad
-replay_behind plan s front number is_over (Ok rest) = followed_by front (if is_over then ending s else transcript plan s (number + 1) rest)
+abbrev pub replay_behind : Plan → State → ℕ → Answer → ℕ → Bool → Result (List Line) ℕ → Answer
+replay_behind plan s rejected front number is_over (Err bad) = bad_event bad
+replay_behind plan s rejected front number is_over (Ok rest) = followed_by front (if is_over then ending plan s rejected else transcript plan s rejected (number + 1) rest)
 
 -- `number` lines are read, the world is the view of a state, and the remaining lines complete the whole answer
-pub record IsReplayedUpTo (plan : Plan) (lines : List (Option Line)) (world : View) (answer : Answer) (number : ℕ) (is_over : Bool) (left : List (Option Line)) : Type 0 where
+pub record IsReplayedUpTo (plan : Plan) (lines : List (Option Line)) (world : View) (rejected : ℕ) (answer : Answer) (number : ℕ) (is_over : Bool) (left : List (Option Line)) : Type 0 where
   pub state : State
   pub reached : IsReached plan state
   pub live : live_view plan state ≡ world
-  pub whole : replay_behind plan state answer number is_over (all_from number left) ≡ replay_of_lines plan (all_from 0 lines)
+  pub whole : replay_behind plan state rejected answer number is_over (all_from number left) ≡ replay_of_lines plan (all_from 0 lines)
   pub count : number + length left ≡ length lines
 
 -- before the first line
-pub replayed_at_start : (plan : Plan) (lines : List (Option Line)) (world : View) → world ≡ live_view plan (start plan) → IsReplayedUpTo plan lines world (record { text = []; status = Done }) 0 false lines
+pub replayed_at_start : (plan : Plan) (lines : List (Option Line)) (world : View) → world ≡ live_view plan (start plan) → IsReplayedUpTo plan lines world 0 (record { text = []; status = Done }) 0 false lines
 replayed_at_start plan lines world live = record { state = start plan; reached = ([], refl); live = sym live; whole = from_nothing (all_from 0 lines); count = omega arith }
   where
     nothing_before : (status : Status) → then_status Done status ≡ status
@@ -78,46 +78,46 @@ replayed_at_start plan lines world live = record { state = start plan; reached =
     nothing_before BadText = refl
     nothing_before Undecided = refl
 
-    from_nothing : (all : Result (List Line) ℕ) → replay_behind plan (start plan) (record { text = []; status = Done }) 0 false all ≡ replay_of_lines plan all
+    from_nothing : (all : Result (List Line) ℕ) → replay_behind plan (start plan) 0 (record { text = []; status = Done }) 0 false all ≡ replay_of_lines plan all
     from_nothing (Err bad) = refl
-    from_nothing (Ok all) = ap (λ (s : Status). record { text = (transcript plan (start plan) 1 all).text; status = s }) (nothing_before (transcript plan (start plan) 1 all).status)
+    from_nothing (Ok all) = ap (λ (s : Status). record { text = (transcript plan (start plan) 0 1 all).text; status = s }) (nothing_before (transcript plan (start plan) 0 1 all).status)
 
 -- after one more reply, the rest is the replay from the new state, or the ending
-more_replies : (plan : Plan) (s : State) (old new : Answer) (number : ℕ) (reply : Reply) (line : Line) (rest : Result (List Line) ℕ) → (reply_to plan s line).1 ≡ reply → new ≡ followed_by old (reply_answer plan (number + 1) reply)
-    → replay_behind plan (reply_to plan s line).0 new (number + 1) (is_last reply) rest ≡ replay_behind plan s old number false (rest >>= λ ls. Ok (line ∷ ls))
-more_replies plan s old new number reply line (Err bad) same is = refl
-more_replies plan s old new number reply line (Ok rest) same is =
+more_replies : (plan : Plan) (s : State) (rejected : ℕ) (old new : Answer) (number : ℕ) (reply : Reply) (line : Line) (rest : Result (List Line) ℕ) → (reply_to plan s line).1 ≡ reply → new ≡ followed_by old (reply_answer plan (number + 1) reply)
+    → replay_behind plan (reply_to plan s line).0 (count_rejection reply rejected) new (number + 1) (is_last reply) rest ≡ replay_behind plan s rejected old number false (rest >>= λ ls. Ok (line ∷ ls))
+more_replies plan s rejected old new number reply line (Err bad) same is = refl
+more_replies plan s rejected old new number reply line (Ok rest) same is =
     let x : State × Reply = reply_to plan s line in
-    let behind = λ (r : Reply). cond (is_last r) (ending x.0) (transcript plan x.0 (number + 1 + 1) rest) in
+    let behind = λ (r : Reply). cond (is_last r) (ending plan x.0 (count_rejection r rejected)) (transcript plan x.0 (count_rejection r rejected) (number + 1 + 1) rest) in
     ap (λ (a : Answer). followed_by a (behind reply)) is
     ∙ followed_by-assoc old (reply_answer plan (number + 1) reply) (behind reply)
     ∙ ap (λ (r : Reply). followed_by old (followed_by (reply_answer plan (number + 1) r) (behind r))) (sym same)
 
-pub replayed_one_more : (plan : Plan) (lines left rest : List (Option Line)) (before after : View) (old new : Answer) (number : ℕ) (is_over : Bool) (reply : Reply) (line : Line) → left ≡ Some line ∷ rest
-    → is_over ≡ false → IsReplayedUpTo plan lines before old number is_over left → RepliesToLine plan before after line reply → new ≡ followed_by old (reply_answer plan (number + 1) reply)
-    → IsReplayedUpTo plan lines after new (number + 1) (is_last reply) rest
-replayed_one_more plan lines left rest before after old new number is_over reply line next goes_on replayed_part replies is =
+pub replayed_one_more : (plan : Plan) (lines left rest : List (Option Line)) (before after : View) (rejected : ℕ) (old new : Answer) (number : ℕ) (is_over : Bool) (reply : Reply) (line : Line) → left ≡ Some line ∷ rest
+    → is_over ≡ false → IsReplayedUpTo plan lines before rejected old number is_over left → RepliesToLine plan before after line reply → new ≡ followed_by old (reply_answer plan (number + 1) reply)
+    → IsReplayedUpTo plan lines after (count_rejection reply rejected) new (number + 1) (is_last reply) rest
+replayed_one_more plan lines left rest before after rejected old new number is_over reply line next goes_on replayed_part replies is =
     let here = replies replayed_part.state replayed_part.reached replayed_part.live in
     record {
       state = (reply_to plan replayed_part.state line).0;
       reached = here.0;
       live = here.1;
-      whole = more_replies plan replayed_part.state old new number reply line (all_from (number + 1) rest) here.2 is
-          ∙ sym (ap₂ (λ (over : Bool) (ls : List (Option Line)). replay_behind plan replayed_part.state old number over (all_from number ls)) goes_on next)
+      whole = more_replies plan replayed_part.state rejected old new number reply line (all_from (number + 1) rest) here.2 is
+          ∙ sym (ap₂ (λ (over : Bool) (ls : List (Option Line)). replay_behind plan replayed_part.state rejected old number over (all_from number ls)) goes_on next)
           ∙ replayed_part.whole;
       count = omega (arith, replayed_part.count, ap (λ (ls : List (Option Line)). length ls) next);
     }
 
 -- after the last line
-pub replayed_to_end : (plan : Plan) (lines left : List (Option Line)) (world : View) (answer whole : Answer) (number : ℕ) (is_over : Bool) → left ≡ []
-    → IsReplayedUpTo plan lines world answer number is_over left → IsWithEnding world answer whole → whole ≡ replay_of_lines plan (all_from 0 lines)
-replayed_to_end plan lines left world answer whole number is_over none replayed_part ended =
-    ended plan replayed_part.state replayed_part.reached replayed_part.live
+pub replayed_to_end : (plan : Plan) (lines left : List (Option Line)) (world : View) (rejected : ℕ) (answer whole : Answer) (number : ℕ) (is_over : Bool) → left ≡ []
+    → IsReplayedUpTo plan lines world rejected answer number is_over left → IsWithEnding plan world rejected answer whole → whole ≡ replay_of_lines plan (all_from 0 lines)
+replayed_to_end plan lines left world rejected answer whole number is_over none replayed_part ended =
+    ended replayed_part.state replayed_part.reached replayed_part.live
     ∙ sym (nothing_more is_over)
-    ∙ sym (ap (λ (ls : List (Option Line)). replay_behind plan replayed_part.state answer number is_over (all_from number ls)) none)
+    ∙ sym (ap (λ (ls : List (Option Line)). replay_behind plan replayed_part.state rejected answer number is_over (all_from number ls)) none)
     ∙ replayed_part.whole
   where
-    nothing_more : (over : Bool) → replay_behind plan replayed_part.state answer number over (Ok []) ≡ followed_by answer (ending replayed_part.state)
+    nothing_more : (over : Bool) → replay_behind plan replayed_part.state rejected answer number over (Ok []) ≡ followed_by answer (ending plan replayed_part.state rejected)
     nothing_more true = refl
     nothing_more false = refl
 

@@ -29,11 +29,11 @@ found_safe : (options : AskOptions) (source : PlanSource) (text : List ℕ) (pla
 found_safe options source text plan given left answer is_plan answers done = by_finding answers.finding answers.is_finding (sym answers.answers.status ∙ done)
   where
     by_finding : (finding : PlanFinding) → IsFinding plan finding → status_of options.strict answers.answers.warnings finding ≡ Done → IsSafePlan text
-    by_finding (Safe cert) accepts is_done = record {
+    by_finding (Safe cert rejections) is_safe is_done = record {
       plan = plan;
       is_plan = is_plan;
       cert = cert;
-      promises = promises plan cert (plans_read_are_well_formed text plan is_plan) accepts;
+      promises = promises plan cert (plans_read_are_well_formed text plan is_plan) is_safe.0;
     }
     by_finding (NotSafe witness sizes) is_witness is_done =
         let no : Refused ≡ Done = is_done in

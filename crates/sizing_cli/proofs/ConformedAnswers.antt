@@ -31,7 +31,7 @@ done_of_no_findings findings done = by_length (length findings == 0) refl done
 with_outcome : (input : List ℕ) (bundle : Bundle) (plan : Plan) → bundle_of input ≡ Some bundle → plan_of bundle.plan ≡ Ok plan → (outcome : Conformance)
     → IsConformance plan bundle.second outcome → (answer_of plan bundle.second outcome).status ≡ Done → IsConformingInput input
 with_outcome input bundle plan is_bundle is_plan (Invalid fault) outcome done = absurd cc
-with_outcome input bundle plan is_bundle is_plan (Compared findings) outcome done =
+with_outcome input bundle plan is_bundle is_plan (Compared findings rejections) outcome done =
     let all = outcome.conforms (done_of_no_findings findings.items done) in
     record { bundle = bundle; is_bundle = is_bundle; plan = plan; is_plan = is_plan; no_fault = outcome.bad; conforms = all.0; valid = all.1 }
 

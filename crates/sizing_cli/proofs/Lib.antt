@@ -22,3 +22,4 @@ pub mod ReadParts
 mod WrittenBefore
 pub mod SavedTexts
 mod ReplaceableTexts
+pub mod RejectionLists

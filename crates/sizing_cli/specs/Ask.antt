@@ -105,7 +105,7 @@ pub record AnswersCertFault (form : Form) (source : PlanSource) (fault : CertFau
 
 -- the status of a finding; a safe plan with warnings has the status of a no if `strict` is set
 abbrev pub status_of : Bool → List Warning → PlanFinding → Status
-status_of strict warnings (Safe cert) = if strict && not (length warnings == 0) then Refused else Done
+status_of strict warnings (Safe cert rejections) = if strict && not (length warnings == 0) then Refused else Done
 status_of strict warnings (NotSafe witness sizes) = Refused
 status_of strict warnings (NotDecided sizes) = Undecided
 
@@ -119,9 +119,14 @@ abbrev pub is_stale : Plan → Option Cert → Bool
 is_stale plan None = false
 is_stale plan (Some cert) = not (accepted plan cert)
 
+-- the finding is that the plan is safe by this certificate
+abbrev pub IsSafeBy : Cert → PlanFinding → Type 0
+IsSafeBy cert (Safe found rejections) = found ≡ cert
+IsSafeBy cert _ = ⊥
+
 -- the finding rests on the given certificate if that accepts the plan
 abbrev pub RestsOnGiven : Plan → Option Cert → PlanFinding → Type 0
-RestsOnGiven plan given finding = IfSome given (λ cert. IsTrue (accepted plan cert) → finding ≡ Safe cert)
+RestsOnGiven plan given finding = IfSome given (λ cert. IsTrue (accepted plan cert) → IsSafeBy cert finding)
 
 -- the number of places that each pool needs with the sizes that were found, by their certificate
 abbrev pub needed_by_sizes : SizesFound → List (Option ℕ)
@@ -130,7 +135,7 @@ needed_by_sizes (NotFound cause) = []
 
 -- the number of places that each pool needs, by the certificate that was found
 abbrev pub needed_of : Plan → PlanFinding → List (Option ℕ)
-needed_of plan (Safe cert) = needed_places plan cert
+needed_of plan (Safe cert rejections) = needed_places plan cert
 needed_of plan (NotSafe witness sizes) = needed_by_sizes sizes
 needed_of plan (NotDecided sizes) = needed_by_sizes sizes
 
@@ -142,7 +147,7 @@ pub record IsAcceptedAtCore (plan : Plan) (lowered : LoweredPlan) : Type 0 where
 
 -- only a plan that is not decided has a lowered plan
 abbrev pub IsLowered : Plan → PlanFinding → Option LoweredPlan → Type 0
-IsLowered plan (Safe cert) lowered = lowered ≡ None
+IsLowered plan (Safe cert rejections) lowered = lowered ≡ None
 IsLowered plan (NotSafe witness sizes) lowered = lowered ≡ None
 IsLowered plan (NotDecided sizes) lowered = IfSome lowered (IsAcceptedAtCore plan)
 
@@ -200,7 +205,7 @@ IsCertificateText plan cert None = HasLongText cert
 -- the certificate's text that a finding leaves: that of the certificate that accepts the plan, or None if there is no such
 -- certificate
 abbrev pub IsFindingCertificate : Plan → PlanFinding → Option (List ℕ) → Type 0
-IsFindingCertificate plan (Safe cert) left = IsCertificateText plan cert left
+IsFindingCertificate plan (Safe cert rejections) left = IsCertificateText plan cert left
 IsFindingCertificate plan (NotSafe witness sizes) left = left ≡ None
 IsFindingCertificate plan (NotDecided sizes) left = left ≡ None
 

@@ -1,8 +1,8 @@
 -- The possible answers of `conform` to an input: a relation, since it does not fix the order in which paths through a body
 -- are tried.
-use Rattle.std.specs.Prelude.{◌≡◌, ◌==◌, ℕ, Bool, true, false, nat_lt, if◌then◌else◌, List, [], ◌∷◌, ◌++◌, length, codes, Option, Some, None, Result, Ok, Err, MatchBool}
+use Rattle.std.specs.Prelude.{◌≡◌, ◌==◌, ℕ, Bool, true, false, nat_lt, if◌then◌else◌, List, [], ◌∷◌, ◌++◌, length, flat_map, codes, decimal, Option, Some, None, Result, Ok, Err, MatchBool}
 use Rattle.std.specs.List.{list_all}
-use Rattle.job_bodies.specs.Plan.{Plan}
+use Rattle.job_bodies.specs.Plan.{Plan, pool_at}
 use Rattle.job_bodies.specs.FaultText.{fault_line}
 use Rattle.job_bodies.specs.declared.fault.PlanFault.{PlanFault}
 use Rattle.plan_text.specs.PlanOf.{plan_of}
@@ -15,12 +15,14 @@ use Rattle.recordings.specs.declared.fault.RecordingFault.{RecordingFault}
 use Rattle.conformance.specs.declared.comparison.Conformance.{Conformance}
 use Rattle.conformance.specs.declared.comparison.Conformance.TheVariants.{Invalid, Compared}
 use Rattle.conformance.specs.declared.finding.Finding.{Finding}
+use Rattle.conformance.specs.declared.rejections.PoolRejections.{PoolRejections}
+use Rattle.conformance.specs.Rejections.{rejections_of}
 use Rattle.conformance.specs.declared.finding.Finding.TheVariants as finding
 use Rattle.conformance.specs.Conforms.{Conforms, HasNoInvalidation}
 use Rattle.conformance.specs.Findings.{AreFindingsOf}
 use Rattle.conformance.specs.FindingText.{findings_text}
 use Rattle.conformance.specs.Lines.{lines_of}
-use Rattle.conformance.specs.Outcome.{AreInOrder, IfCompared, fault_of}
+use Rattle.conformance.specs.Outcome.{AreInOrder, IfCompared, IfCounted, fault_of}
 use Rattle.job_bodies.specs.declared.limits.TheConstants.{MAX_RECORDED_BYTES}
 use Rattle.sizing_cli.specs.declared.status.Status.{Status}
 use Rattle.sizing_cli.specs.declared.status.Status.TheVariants.{Done, Refused, Undecided}
@@ -49,17 +51,25 @@ status_of findings = if length findings == 0 then Done else (if list_all is_unde
 abbrev pub conform_text : Plan → List Finding → List ℕ
 conform_text plan findings = if length findings == 0 then codes "conforms" ++ 10 ∷ [] else findings_text plan findings
 
-abbrev pub findings_answer : Plan → List Finding → Answer
-findings_answer plan findings = record { text = conform_text plan findings; status = status_of findings }
+-- the line of a pool that rejected jobs as the plan allows, with their number; nothing if there are none
+abbrev pub rejections_line : Plan → PoolRejections → List ℕ
+rejections_line plan of_pool =
+    if of_pool.count == 0 then []
+    else (if of_pool.count == 1
+    then codes "pool " ++ ((pool_at plan of_pool.pool).name ++ (codes " rejected 1 job, as the plan allows" ++ 10 ∷ []))
+    else codes "pool " ++ ((pool_at plan of_pool.pool).name ++ (codes " rejected " ++ (decimal of_pool.count ++ (codes " jobs, as the plan allows" ++ 10 ∷ [])))))
+
+abbrev pub findings_answer : Plan → List Finding → List PoolRejections → Answer
+findings_answer plan findings rejections = record { text = conform_text plan findings ++ flat_map (rejections_line plan) rejections; status = status_of findings }
 
 abbrev pub answer_of : Plan → List ℕ → Conformance → Answer
 answer_of plan recording (Invalid found) = bad_recording recording found
-answer_of plan recording (Compared findings) = findings_answer plan findings.items
+answer_of plan recording (Compared findings rejections) = findings_answer plan findings.items rejections.items
 
 -- ---- the findings
--- if there are no findings, the recording conforms and no line of it invalidates that result
+-- if there are no findings, the recording conforms, and each line of it that invalidates that result is a rejection that the plan allows
 abbrev pub AreAllFindings : Plan → List ℕ → List Finding → Type 0
-AreAllFindings plan recording findings = findings ≡ [] → Conforms plan (lines_of recording) × HasNoInvalidation (lines_of recording)
+AreAllFindings plan recording findings = findings ≡ [] → Conforms plan (lines_of recording) × HasNoInvalidation plan (lines_of recording)
 
 -- either the recording's first malformed line; or, if it has none, all findings, each once, in the order of the lines
 pub record IsConformance (plan : Plan) (recording : List ℕ) (outcome : Conformance) : Type 0 where
@@ -67,6 +77,7 @@ pub record IsConformance (plan : Plan) (recording : List ℕ) (outcome : Conform
   pub found : IfCompared outcome (AreFindingsOf plan (lines_of recording))
   pub conforms : IfCompared outcome (AreAllFindings plan recording)
   pub ascending : IfCompared outcome AreInOrder
+  pub rejections : IfCounted outcome (λ counts. counts ≡ rejections_of plan (lines_of recording))
 
 -- the answers for a plan and a recording
 pub record AnswersRecording (plan : Plan) (recording : List ℕ) (answer : Answer) : Type 0 where
@@ -86,8 +97,8 @@ AnswersBundle (Some bundle) answer = AnswersReading bundle.second (plan_of bundl
 abbrev pub IsConformAnswer : List ℕ → Answer → Type 0
 IsConformAnswer input answer = MatchBool (nat_lt MAX_RECORDED_BYTES (length input)) (answer ≡ input_too_long) (AnswersBundle (bundle_of input) answer)
 
--- what status 0 means: the input is a plan and a recording that conforms to it, and no line of the recording invalidates
--- that result
+-- what status 0 means: the input is a plan and a recording that conforms to it, and each line of the recording that invalidates
+-- that result is a rejection that the plan allows
 pub record IsConformingInput (input : List ℕ) : Type 0 where
   pub bundle : Bundle
   pub is_bundle : bundle_of input ≡ Some bundle
@@ -95,4 +106,4 @@ pub record IsConformingInput (input : List ℕ) : Type 0 where
   pub is_plan : plan_of bundle.plan ≡ Ok plan
   pub no_fault : IsFirstFault (lines_read bundle.second) None
   pub conforms : Conforms plan (lines_of bundle.second)
-  pub valid : HasNoInvalidation (lines_of bundle.second)
+  pub valid : HasNoInvalidation plan (lines_of bundle.second)

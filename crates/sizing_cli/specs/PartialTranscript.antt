@@ -11,9 +11,9 @@ use Rattle.sizing_cli.specs.Answer.{Answer, followed_by, bad_event}
 use Rattle.sizing_cli.specs.Report.{replay_of_lines}
 use Rattle.sizing_cli.specs.Transcript.{ending, reply_to}
 
--- the whole answer is the answer so far followed by its ending
-abbrev pub IsWithEnding : View → Answer → Answer → Type 0
-IsWithEnding world front whole = (plan : Plan) (s : State) → IsReached plan s → live_view plan s ≡ world → whole ≡ followed_by front (ending s)
+-- the whole answer is the answer so far followed by its ending, after this number of rejected jobs
+abbrev pub IsWithEnding : Plan → View → ℕ → Answer → Answer → Type 0
+IsWithEnding plan world rejected front whole = (s : State) → IsReached plan s → live_view plan s ≡ world → whole ≡ followed_by front (ending plan s rejected)
 
 -- the state is reachable, has this view, and gives this reply
 abbrev pub RepliesIn : Plan → State × Reply → View → Reply → Type 0
@@ -24,7 +24,7 @@ abbrev pub RepliesToLine : Plan → View → View → Line → Reply → Type 0
 RepliesToLine plan before after line reply = (s : State) → IsReached plan s → live_view plan s ≡ before → RepliesIn plan (reply_to plan s line) after reply
 
 -- the outcome of the lines: either all have replies and only the ending is missing, or the line of this number is malformed
-abbrev pub IsTranscribed : Plan → List (Option Line) → View → Answer → Option ℕ → Type 0
-IsTranscribed plan lines world answer None =
-    (whole : Answer) → IsWithEnding world answer whole → whole ≡ replay_of_lines plan (all_from 0 lines)
-IsTranscribed plan lines world answer (Some bad) = bad_event bad ≡ replay_of_lines plan (all_from 0 lines)
+abbrev pub IsTranscribed : Plan → List (Option Line) → View → ℕ → Answer → Option ℕ → Type 0
+IsTranscribed plan lines world rejected answer None =
+    (whole : Answer) → IsWithEnding plan world rejected answer whole → whole ≡ replay_of_lines plan (all_from 0 lines)
+IsTranscribed plan lines world rejected answer (Some bad) = bad_event bad ≡ replay_of_lines plan (all_from 0 lines)

@@ -18,7 +18,7 @@ use Rattle.refusal_notes.specs.Explanation.{explanation}
 use Rattle.written_machine.specs.Reach.{start}
 use Rattle.locked_runner.specs.RunNumbers.{jobs, units}
 use Rattle.locked_runner.specs.declared.limits.RunLimit.{RunLimit}
-use Rattle.locked_runner.specs.declared.limits.RunLimit.TheVariants.{Clients, Threads, Events}
+use Rattle.locked_runner.specs.declared.limits.RunLimit.TheVariants.{Rejections, Clients, Threads, Events}
 use Rattle.locked_runner.specs.Limits.{is_too_large, limit_of}
 use Rattle.event_lines.specs.EventLine.{Line, event_lines}
 use Rattle.command_line.specs.declared.command.ReviewCommand.{ReviewCommand}
@@ -33,7 +33,7 @@ use Rattle.sizing_cli.specs.Transcript.{transcript}
 
 abbrev pub replay_of_lines : Plan → Result (List Line) ℕ → Answer
 replay_of_lines plan (Err line) = bad_event line
-replay_of_lines plan (Ok lines) = transcript plan (start plan) 1 lines
+replay_of_lines plan (Ok lines) = transcript plan (start plan) 0 1 lines
 
 -- the replay of the event lines on the plan; if a line is malformed, only the number of the first such line
 abbrev pub replay : Plan → List ℕ → Answer
@@ -70,6 +70,7 @@ abbrev pub not_run : Answer
 not_run = record { text = codes "no" ++ 10 ∷ []; status = Refused }
 
 abbrev pub limit_words : RunLimit → List ℕ
+limit_words Rejections = codes "a pool that may reject jobs"
 limit_words Clients = codes "more than 64 clients"
 limit_words Threads = codes "more than 64 threads of all pools together"
 limit_words Events = codes "more than 1000000 events"

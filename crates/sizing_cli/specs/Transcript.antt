@@ -1,5 +1,5 @@
 -- The answer of a replay: the steps of the written machine from a state, and its waiting sets.
-use Rattle.std.specs.Prelude.{ℕ, ◌+◌, Bool, true, false, if◌then◌else◌, List, [], ◌∷◌, count_by, Option, Some, None}
+use Rattle.std.specs.Prelude.{ℕ, suc, ◌+◌, Bool, true, false, if◌then◌else◌, List, [], ◌∷◌, count_by, Option, Some, None}
 use Rattle.job_bodies.specs.Plan.{Plan}
 use Rattle.written_machine.specs.declared.event.Outcome.{Outcome}
 use Rattle.written_machine.specs.declared.event.Outcome.TheVariants as outcome
@@ -10,6 +10,7 @@ use Rattle.event_lines.specs.declared.reply.Reply.{Reply}
 use Rattle.event_lines.specs.declared.reply.Reply.TheVariants as reply
 use Rattle.event_lines.specs.EventLine.{Line, Perform, Stuck}
 use Rattle.event_lines.specs.Reply.{reply_text, numbered, summary}
+use Rattle.locked_runner.specs.Limits.{may_reject}
 use Rattle.sizing_cli.specs.declared.status.Status.TheVariants.{Done, Refused}
 use Rattle.sizing_cli.specs.Answer.{Answer, followed_by}
 
@@ -36,9 +37,22 @@ reply_answer plan number reply = record { text = numbered number (reply_text pla
 abbrev pub unfinished : State → ℕ
 unfinished s = count_by (λ job. is_unfinished job.stage) s.jobs
 
--- the last line of a replay that ends in this state
-abbrev pub ending : State → Answer
-ending s = record { text = summary s.refusals (unfinished s); status = Done }
+-- a job was rejected as the plan allows
+abbrev pub is_rejection : Reply → Bool
+is_rejection (reply.Performed (outcome.Rejected p j)) = true
+is_rejection _ = false
+
+-- the number of rejected jobs after a reply
+abbrev pub count_rejection : Reply → ℕ → ℕ
+count_rejection reply rejected = if is_rejection reply then suc rejected else rejected
+
+-- the number of rejected jobs, if a pool of the plan may reject jobs
+abbrev pub shown_rejections : Plan → ℕ → Option ℕ
+shown_rejections plan rejected = if may_reject plan then Some rejected else None
+
+-- the last line of a replay that ends in this state, after this number of rejected jobs
+abbrev pub ending : Plan → State → ℕ → Answer
+ending plan s rejected = record { text = summary s.refusals (shown_rejections plan rejected) (unfinished s); status = Done }
 
 -- the state after an event, and the reply to it
 abbrev pub event_reply : State → Option (State × Outcome) → State × Reply
@@ -51,11 +65,13 @@ reply_to plan s (Perform event) = event_reply s (step plan s event)
 reply_to plan s (Stuck members) = (s, reply.Stuck (is_waiting_set plan s members))
 
 -- the answer with this reply, followed by the rest of the replay, or by the last line if no line is replayed after the
--- reply
-abbrev pub reply_then : Plan → ℕ → State × Reply → (State → Answer) → Answer
-reply_then plan number x rest = followed_by (reply_answer plan number x.1) (if is_last x.1 then ending x.0 else rest x.0)
+-- reply; `rejected` jobs were rejected before the reply
+abbrev pub reply_then : Plan → ℕ → ℕ → State × Reply → (State → ℕ → Answer) → Answer
+reply_then plan rejected number x rest =
+    let rejected' = count_rejection x.1 rejected in
+    followed_by (reply_answer plan number x.1) (if is_last x.1 then ending plan x.0 rejected' else rest x.0 rejected')
 
--- the replay of the lines from a state, with numbers from `number`
-abbrev pub transcript : Plan → State → ℕ → List Line → Answer
-transcript plan s number [] = ending s
-transcript plan s number (line ∷ lines) = reply_then plan number (reply_to plan s line) (λ s'. transcript plan s' (number + 1) lines)
+-- the replay of the lines from a state, with numbers from `number`, after this number of rejected jobs
+abbrev pub transcript : Plan → State → ℕ → ℕ → List Line → Answer
+transcript plan s rejected number [] = ending plan s rejected
+transcript plan s rejected number (line ∷ lines) = reply_then plan rejected number (reply_to plan s line) (λ s' rejected'. transcript plan s' rejected' (number + 1) lines)

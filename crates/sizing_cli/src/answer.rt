@@ -111,6 +111,7 @@ fn limit_words(limit: RunLimit) -> &'static str
     ensures { result.now ≡ limit_words limit }
 {
     match limit {
+        RunLimit::Rejections => "a pool that may reject jobs",
         RunLimit::Clients => "more than 64 clients",
         RunLimit::Threads => "more than 64 threads of all pools together",
         RunLimit::Events => "more than 1000000 events",

@@ -1,14 +1,15 @@
 //! The `conform` command: compares a recording with a plan.
 
-ghost use Rattle.std.specs.Prelude.{◌≡◌, IfOk};
+ghost use Rattle.std.specs.Prelude.{◌≡◌, IfOk, flat_map};
 ghost use Rattle.std.specs.List.{list_all};
+ghost use Rattle.support.specs.Pushed.{Pushes};
 ghost use Rattle.sizing_cli.specs.Conform as spec;
 
 use crate::Status;
 use crate::answer::{Answer, bad_recording, input_too_long, no_separator, plan_fault};
 use crate::bundle::bundle_of;
 use crate::texts::plan_in;
-use conformance::{Conformance, Finding, conform, push_findings};
+use conformance::{Conformance, Finding, PoolRejections, conform, push_findings};
 use job_bodies::{MAX_RECORDED_BYTES, Plan};
 use std::alloc::{AllocError, Global};
 
@@ -39,12 +40,21 @@ fn compare(alloc: Global, plan: &Plan, recording: &[u8]) -> Result<Answer, Alloc
 {
     match conform(alloc, plan, recording)? {
         Conformance::Invalid(fault) => bad_recording(alloc, recording, fault),
-        Conformance::Compared(findings) => findings_answer(alloc, plan, &findings),
+        Conformance::Compared {
+            findings,
+            rejections,
+        } => findings_answer(alloc, plan, &findings, &rejections),
     }
 }
 
-fn findings_answer(alloc: Global, plan: &Plan, findings: &[Finding]) -> Result<Answer, AllocError>
-    ensures { IfOk result (λ answer. answer ≡ spec.findings_answer plan.now findings.now) }
+fn findings_answer(
+    alloc: Global,
+    plan: &Plan,
+    findings: &[Finding],
+    rejections: &[PoolRejections],
+) -> Result<Answer, AllocError>
+    ensures { IfOk result
+        (λ answer. answer ≡ spec.findings_answer plan.now findings.now rejections.now) }
 {
     let mut text = String::new(alloc);
     if findings.is_empty() {
@@ -52,8 +62,46 @@ fn findings_answer(alloc: Global, plan: &Plan, findings: &[Finding]) -> Result<A
     } else {
         push_findings(&mut text, plan, findings)?;
     }
+    push_rejections(&mut text, plan, rejections)?;
     let status = status_of(findings);
     Ok(Answer { text, status })
+}
+
+/// Appends a line for each pool that rejected jobs as the plan allows, with their number.
+fn push_rejections(
+    text: &mut String,
+    plan: &Plan,
+    mut rejections: &[PoolRejections],
+) -> Result<(), AllocError>
+    ensures { Pushes result text.old text.new
+        (flat_map (spec.rejections_line plan.now) rejections.now) }
+{
+    while let Some((of_pool, rest)) = rejections.split_first() {
+        push_rejections_line(text, plan, *of_pool)?;
+        rejections = rest;
+    }
+    Ok(())
+}
+
+fn push_rejections_line(
+    text: &mut String,
+    plan: &Plan,
+    of_pool: PoolRejections,
+) -> Result<(), AllocError>
+    ensures { Pushes result text.old text.new (spec.rejections_line plan.now of_pool) }
+{
+    let name = plan.pool_name(of_pool.pool);
+    let count = of_pool.count;
+    if count == 0 {
+        return Ok(());
+    }
+    if count == 1 {
+        return writeln!(text, "pool {name} rejected 1 job, as the plan allows");
+    }
+    writeln!(
+        text,
+        "pool {name} rejected {count} jobs, as the plan allows"
+    )
 }
 
 fn status_of(findings: &[Finding]) -> Status

@@ -4,13 +4,13 @@ ghost use Rattle.std.specs.Prelude.{◌≡◌, IfOk, IfErr, IsTrue, false, not};
 ghost use Rattle.soundness.specs.Accepted.{accepted};
 ghost use Rattle.size_search.specs.Steady.{steady_cert};
 ghost use Rattle.report.specs.Finding.{IsFinding, IsKnown};
-ghost use Rattle.report.specs.declared.finding.PlanFinding.TheVariants.{Safe};
 ghost use Rattle.sizing_cli.specs.Ask as spec;
 ghost use Rattle.sizing_cli.specs.ServeFault.{is_of_search};
 
 use crate::ServeFault;
 use crate::certificate::{SizesComparison, WORKERS, as_declared};
 use crate::noop_gate::NoopGate;
+use crate::rejections::rejections_of;
 use crate::witness::witness_of;
 use cert_check::accepts;
 use cert_search::search;
@@ -59,12 +59,13 @@ fn finding_with<R: Threads + Wait + Sync>(
     cert: Cert,
 ) -> Result<(PlanFinding, bool), ServeFault>
     ensures finding { IfOk result (λ found. IsFinding plan.now found.0) }
-    ensures rests { IfOk result (λ found. IsTrue (accepted plan.now cert) → found.0 ≡ Safe cert) }
+    ensures rests { IfOk result
+        (λ found. IsTrue (accepted plan.now cert) → spec.IsSafeBy cert found.0) }
     ensures stale { IfOk result (λ found. found.1 ≡ not (accepted plan.now cert)) }
     ensures fault { IfErr result (λ fault. IsTrue (is_of_search fault.number)) }
 {
     if accepts(plan, &cert) {
-        Ok((PlanFinding::Safe(cert), false))
+        Ok((safe_finding(alloc, plan, cert)?, false))
     } else {
         Ok((search_finding(rt, alloc, plan)?, true))
     }
@@ -79,7 +80,7 @@ fn search_finding<R: Threads + Wait + Sync>(
     ensures fault { IfErr result (λ fault. IsTrue (is_of_search fault.number)) }
 {
     match search(rt, alloc, plan, WORKERS, &NoopGate)? {
-        Some(cert) => Ok(PlanFinding::Safe(cert)),
+        Some(cert) => Ok(safe_finding(alloc, plan, cert)?),
         None => Ok(without_certificate(alloc, plan)?),
     }
 }
@@ -92,21 +93,32 @@ fn without_certificate(alloc: Global, plan: &Plan) -> Result<PlanFinding, AllocE
 {
     let witness = witness_of(alloc, plan, STATES)?.witness;
     let sizes = search_sizes(alloc, plan, None)?;
-    Ok(match witness {
-        Some(witness) => PlanFinding::NotSafe(witness, sizes),
-        None => without_witness(plan, sizes),
-    })
+    match witness {
+        Some(witness) => Ok(PlanFinding::NotSafe(witness, sizes)),
+        None => without_witness(alloc, plan, sizes),
+    }
 }
 
 /// Returns the finding for a plan without a witness: safe if the certificate of the sizes that were
 /// found accepts the declared ones, and otherwise undecided.
-fn without_witness(plan: &Plan, sizes: SizesFound) -> PlanFinding
+fn without_witness(alloc: Global, plan: &Plan, sizes: SizesFound) -> Result<PlanFinding, AllocError>
     requires known { IsKnown plan.now sizes }
     requires not_steady { accepted plan.now (steady_cert plan.now) ≡ false }
-    ensures { IsFinding plan.now result }
+    ensures { IfOk result (IsFinding plan.now) }
 {
     match as_declared(plan, sizes) {
-        SizesComparison::Accepted(cert) => PlanFinding::Safe(cert),
-        SizesComparison::Other(sizes) => PlanFinding::NotDecided(sizes),
+        SizesComparison::Accepted(cert) => safe_finding(alloc, plan, cert),
+        SizesComparison::Other(sizes) => Ok(PlanFinding::NotDecided(sizes)),
     }
+}
+
+/// Returns the finding that the plan is safe by this certificate, with the rejections that are
+/// found.
+fn safe_finding(alloc: Global, plan: &Plan, cert: Cert) -> Result<PlanFinding, AllocError>
+    requires { IsTrue (accepted plan.now cert) }
+    ensures finding { IfOk result (IsFinding plan.now) }
+    ensures by { IfOk result (spec.IsSafeBy cert) }
+{
+    let rejections = rejections_of(alloc, plan, &cert)?;
+    Ok(PlanFinding::Safe(cert, rejections))
 }

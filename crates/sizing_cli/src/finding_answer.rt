@@ -143,7 +143,7 @@ fn needed_of(
     ensures { IfOk result (λ needed. needed.items ≡ spec.needed_of plan.now finding.now) }
 {
     match finding {
-        PlanFinding::Safe(cert) => needed_places(alloc, plan, cert),
+        PlanFinding::Safe(cert, _) => needed_places(alloc, plan, cert),
         PlanFinding::NotSafe(_, sizes) | PlanFinding::NotDecided(sizes) => {
             needed_by_sizes(alloc, sizes)
         }
@@ -314,7 +314,7 @@ fn status_of(strict: bool, warnings: &[Warning], finding: &PlanFinding) -> Statu
     ensures { result ≡ spec.status_of strict warnings.now finding.now }
 {
     match finding {
-        PlanFinding::Safe(_) => {
+        PlanFinding::Safe(_, _) => {
             if strict && !warnings.is_empty() {
                 Status::Refused
             } else {
@@ -335,7 +335,7 @@ fn certificate_text(alloc: Global, finding: &PlanFinding) -> Result<Option<Vec<u
         → spec.IsFindingCertificate plan finding.now (option_map (λ text. text.items) left)) }
 {
     match finding {
-        PlanFinding::Safe(cert) => readable_text(alloc, cert),
+        PlanFinding::Safe(cert, _) => readable_text(alloc, cert),
         PlanFinding::NotSafe(_, _) => Ok(None),
         PlanFinding::NotDecided(_) => Ok(None),
     }

@@ -88,7 +88,7 @@ fn plan_answer(
     requires seen { spec.IsSeen (lines_of recording.now) seen.now }
     ensures { IfOk result (λ found. IfSome found (spec.AnswersLines strict recording.now)) }
 {
-    let Conformance::Compared(findings) = conform(alloc, &seen.plan, recording)? else {
+    let Conformance::Compared { findings, .. } = conform(alloc, &seen.plan, recording)? else {
         return Ok(None);
     };
     if are_of_actors(&findings) {

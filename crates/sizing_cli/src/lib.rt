@@ -34,6 +34,7 @@ mod noop_gate;
 mod output;
 mod recording_commands;
 mod refute;
+mod rejections;
 mod replay;
 mod review_answer;
 mod run;

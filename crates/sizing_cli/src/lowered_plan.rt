@@ -45,7 +45,7 @@ pub(crate) fn lowered_plan<R: Threads + Wait + Sync>(
 {
     match finding {
         PlanFinding::NotDecided(_) => search_lowered(rt, alloc, plan),
-        PlanFinding::Safe(_) | PlanFinding::NotSafe(_, _) => Ok(None),
+        PlanFinding::Safe(_, _) | PlanFinding::NotSafe(_, _) => Ok(None),
     }
 }
 

@@ -1,6 +1,6 @@
 //! The replay of event lines on a plan.
 
-ghost use Rattle.std.specs.Prelude.{◌≡◌, ◌<◌, ◌^◌, [], length, IfOk};
+ghost use Rattle.std.specs.Prelude.{◌≡◌, ◌<◌, ◌^◌, [], length, IfOk, OnOk};
 ghost use Rattle.written_machine.specs.Reach.{start};
 ghost use Rattle.interleaving.specs.LiveView.{live_view};
 ghost use Rattle.event_lines.specs.EventLine.{all_from, line_seen};
@@ -12,8 +12,9 @@ ghost use Rattle.sizing_cli.specs.Transcript as spec;
 
 use crate::answer::{Answer, bad_event};
 use event_lines::{EventLine, EventLines, Reply, push_summary};
-use interleaving::World;
+use interleaving::{Outcome, World};
 use job_bodies::Plan;
+use locked_runner::may_reject;
 use std::alloc::{AllocError, Global};
 use support::Counter;
 
@@ -28,26 +29,30 @@ pub fn replay_lines(alloc: Global, plan: &Plan, lines: EventLines<'_>) -> Result
 {
     let mut world = World::start(alloc, plan)?;
     let mut answer = Answer::empty(alloc);
-    match push_replies(alloc, plan, lines, &mut world, &mut answer)? {
-        None => finish(answer, &world),
+    let mut rejected = 0;
+    match push_replies(alloc, plan, lines, &mut world, &mut rejected, &mut answer)? {
+        None => finish(answer, plan, &world, rejected),
         Some(bad) => bad_event(alloc, bad),
     }
 }
 
-/// Appends the replies to the event lines, up to and including the first impossible event. Returns
-/// the number of the first malformed line, counted from 1, or `None` if no line is malformed.
+/// Appends the replies to the event lines, up to and including the first impossible event, and
+/// counts the jobs that pools rejected. Returns the number of the first malformed line, counted
+/// from 1, or `None` if no line is malformed.
 fn push_replies(
     alloc: Global,
     plan: &Plan,
     mut lines: EventLines<'_>,
     world: &mut World,
+    rejected: &mut u64,
     answer: &mut Answer,
 ) -> Result<Option<u64>, AllocError>
     requires few { length lines < 2 ^ 64 }
     requires started { world.old.view ≡ live_view plan.now (start plan.now) }
+    requires none { rejected.old ≡ 0 }
     requires empty { answer.old ≡ record { text = []; status = statuses.Done } }
     ensures { IfOk result
-        (IsTranscribed plan.now lines.entry world.new.view answer.new) }
+        (IsTranscribed plan.now lines.entry world.new.view rejected.new answer.new) }
 {
     let mut number = Counter::new(alloc);
     let mut is_over = false;
@@ -59,6 +64,7 @@ fn push_replies(
         if !is_over {
             let reply = reply_to(alloc, world, plan, line)?;
             answer.push_reply(plan, &number, reply)?;
+            count_rejection(rejected, reply)?;
             is_over = is_last(reply);
         }
     }
@@ -98,10 +104,42 @@ fn is_last(reply: Reply) -> bool
     matches!(reply, Reply::NotPossible)
 }
 
-/// Appends the line with the numbers of refusals and unfinished jobs, and returns the answer.
-fn finish(mut answer: Answer, world: &World) -> Result<Answer, AllocError>
-    ensures { IfOk result (λ whole. IsWithEnding world.now.view answer whole) }
+/// Adds 1 to the number of rejected jobs if the reply reports one.
+fn count_rejection(rejected: &mut u64, reply: Reply) -> Result<(), AllocError>
+    ensures { OnOk result (rejected.new ≡ spec.count_rejection reply rejected.old) }
 {
-    push_summary(&mut answer.text, world.refusals(), world.unfinished())?;
+    if is_rejection(reply) {
+        *rejected = rejected.checked_add(1).ok_or(AllocError)?;
+    }
+    Ok(())
+}
+
+fn is_rejection(reply: Reply) -> bool
+    ensures { result ≡ spec.is_rejection reply }
+{
+    matches!(reply, Reply::Performed(Outcome::Rejected(_, _)))
+}
+
+/// Appends the line with the numbers of refusals, of rejected jobs if a pool may reject jobs, and
+/// of unfinished jobs. Returns the answer.
+fn finish(
+    mut answer: Answer,
+    plan: &Plan,
+    world: &World,
+    rejected: u64,
+) -> Result<Answer, AllocError>
+    ensures { IfOk result (λ whole. IsWithEnding plan.now world.now.view rejected answer whole) }
+{
+    let shown = if may_reject(plan) {
+        Some(rejected)
+    } else {
+        None
+    };
+    push_summary(
+        &mut answer.text,
+        world.refusals(),
+        shown,
+        world.unfinished(),
+    )?;
     Ok(answer)
 }

@@ -1,5 +1,5 @@
 -- The inequalities that a standing vector or a lifetime vector satisfies if its rows hold.
-use Rattle.std.proofs.Common.{◌≡◌, ℕ, ◌+◌, ◌<◌, ◌≤◌, true, [], ◌∷◌, ◌++◌, length, map, flat_map, get_or, arith}
+use Rattle.std.proofs.Common.{◌≡◌, ℕ, ◌+◌, ◌<◌, ◌≤◌, true, [], ◌∷◌, ◌++◌, length, map, flat_map, get_or, Option, Some, None, arith}
 use Rattle.std.specs.List.{enumerate_from}
 use Rattle.support.specs.In.{here}
 use Rattle.support.proofs.Members.{In-append_left, In-append_right, In-map, In-flat_map, In-get_or}
@@ -84,3 +84,8 @@ bound_laws plan p (Lifetime v) fit hold = lifetime_laws plan p v fit hold
 pub bound_vector_laws : (plan : Plan) (p : ℕ) (bound : Bound) → BoundLaws plan p bound → VectorLaws (bound_get_return bound) plan (bound_vector bound)
 bound_vector_laws plan p (Standing v) of_bound = of_bound.laws
 bound_vector_laws plan p (Lifetime v) of_bound = of_bound.laws
+
+-- the inequalities of the bound of pool p; a pool without a bound may reject jobs
+abbrev pub PoolBoundLaws : Plan → ℕ → Option Bound → Type 0
+PoolBoundLaws plan p None = (pool_at plan p).may_reject ≡ true
+PoolBoundLaws plan p (Some bound) = BoundLaws plan p bound

@@ -1,12 +1,17 @@
--- The invariants of the reachable states of a plan in which each pool has a bound whose rows hold.
-use Rattle.std.proofs.Common.{◌≡◌, ℕ, ◌<◌, length, refl}
-use Rattle.job_bodies.specs.Plan.{Plan}
+-- The invariants of the reachable states of a plan in which each pool has a bound whose rows hold, or may reject jobs.
+use Rattle.std.specs.Prelude.{⊤}
+use Rattle.std.proofs.Common.{◌≡◌, ℕ, ◌<◌, ◌≤◌, true, false, List, length, Option, Some, None, refl, sym, ◌∙◌}
+use Rattle.std.proofs.lemmas.Bool.{false≢true}
+use Rattle.job_bodies.specs.declared.action.Action.{Action}
+use Rattle.job_bodies.specs.declared.action.Action.TheVariants as action
+use Rattle.job_bodies.specs.Plan.{Plan, pool_at}
 use Rattle.job_bodies.proofs.Bodies.{HasValidBodies, ordered}
 use Rattle.written_machine.specs.declared.event.Event.{Event}
 use Rattle.written_machine.specs.declared.event.Outcome.{Outcome}
-use Rattle.written_machine.specs.State.{State, pool_of}
+use Rattle.written_machine.specs.declared.parent.Parent.{Parent}
+use Rattle.written_machine.specs.State.{State, pool_of, pool_part, threads}
 use Rattle.written_machine.specs.Reach.{start}
-use Rattle.written_machine.proofs.Events.{Happens, works, starts, queues, is_refused, gets, finishes, loops, takes, retires}
+use Rattle.written_machine.proofs.Events.{IsAtAction, Happens, works, starts, queues, is_refused, is_rejected, gets, finishes, loops, takes, retires}
 use Rattle.written_machine.proofs.StateInvariant.{StateInvariant}
 use Rattle.written_machine.proofs.InvariantAtStart.{kept_start}
 use Rattle.written_machine.proofs.InvariantSubmits.{class_exists}
@@ -16,40 +21,74 @@ use Rattle.written_machine.proofs.Reached.{reached_keeps}
 use Rattle.weights.specs.declared.bound.Bound.{Bound}
 use Rattle.weights.specs.Bound.{bound_vector, bound_get_return}
 use Rattle.soundness.proofs.BoundLaws.{BoundLaws, bound_laws, bound_vector_laws}
+use Rattle.soundness.specs.WeightLaws.{RejectedAreLight}
 use Rattle.soundness.proofs.NeverRises.{IsBalanced, balanced_start, never_rises, balanced_step}
 use Rattle.soundness.proofs.NoRefusal.{not_refused}
-use Rattle.soundness.specs.Headline.{KeepsSizes, BoundedPlansRefuseNothing}
+use Rattle.soundness.specs.Headline.{HasBound, KeepsSizes, BoundedPlansRefuseNothing}
+
+-- the vector of the bound is balanced, if there is a bound
+abbrev pub IsBoundBalanced : Plan → Option Bound → State → Type 0
+IsBoundBalanced plan None s = ⊤
+IsBoundBalanced plan (Some bound) s = IsBalanced (bound_get_return bound) plan (bound_vector bound) s
 
 -- the invariants of a plan with these bounds: the state satisfies the invariants of reachable states, the vector of each bound is
 -- balanced, and no submit was refused
-pub record Bounded (plan : Plan) (bounds : ℕ → Bound) (s : State) : Type 0 where
+pub record Bounded (plan : Plan) (bounds : ℕ → Option Bound) (s : State) : Type 0 where
   pub kept : StateInvariant plan s
   pub have_jobs : HaveJobs plan s
-  pub balanced : (p : ℕ) → p < length plan.pools → IsBalanced (bound_get_return (bounds p)) plan (bound_vector (bounds p)) s
+  pub balanced : (p : ℕ) → p < length plan.pools → IsBoundBalanced plan (bounds p) s
   pub none_refused : s.refusals ≡ 0
 
--- the inequalities of each pool's bound hold
-abbrev pub BoundsHold : Plan → (ℕ → Bound) → Type 0
-BoundsHold plan bounds = (p : ℕ) → p < length plan.pools → BoundLaws plan p (bounds p)
+-- the inequalities of the bound of pool p hold, and a rejected job does not increase its weight; a pool without a bound may reject jobs
+abbrev pub BoundHolds : Plan → ℕ → Option Bound → Type 0
+BoundHolds plan p None = (pool_at plan p).may_reject ≡ true
+BoundHolds plan p (Some bound) = BoundLaws plan p bound × RejectedAreLight plan (bound_vector bound)
+
+abbrev pub BoundsHold : Plan → (ℕ → Option Bound) → Type 0
+BoundsHold plan bounds = (p : ℕ) → p < length plan.pools → BoundHolds plan p (bounds p)
+
+-- a bound whose rows hold satisfies its inequalities
+pub bound_holds : (plan : Plan) (p : ℕ) (bound : Option Bound) → HasBound plan p bound → BoundHolds plan p bound
+bound_holds plan p None has = has
+bound_holds plan p (Some bound) has = (bound_laws plan p bound has.0 has.1, has.2)
+
+-- the bound of each pool is balanced in the initial state
+bound_balanced_start : (plan : Plan) (bound : Option Bound) → IsBoundBalanced plan bound (start plan)
+bound_balanced_start plan None = tt
+bound_balanced_start plan (Some bound) = balanced_start (bound_get_return bound) plan (bound_vector bound)
+
+-- each event preserves the balance of the bound of pool p
+bound_balanced_step : (plan : Plan) (p : ℕ) (bound : Option Bound) (s s' : State) (o : Outcome) {e : Event} → HasValidBodies plan → BoundHolds plan p bound → StateInvariant plan s → Happens plan s e s' o → IsBoundBalanced plan bound s → IsBoundBalanced plan bound s'
+bound_balanced_step plan p None s s' o ordered holds kept happened balanced = tt
+bound_balanced_step plan p (Some bound) s s' o ordered holds kept happened balanced =
+    balanced_step (bound_get_return bound) plan (bound_vector bound) s s' (never_rises (bound_get_return bound) plan (bound_vector bound) s s' o ordered (bound_vector_laws plan p bound holds.0) holds.1 kept happened) balanced
+
+-- no submit to a pool that has a bound, or must not reject jobs, finds the queue full while the pool has max threads
+must_not_refuse : (plan : Plan) (bound : Option Bound) (s : State) (a : Parent) (body : List Action) (i k : ℕ) → HasValidBodies plan → BoundHolds plan (pool_of plan k) bound → StateInvariant plan s → HaveJobs plan s → IsBoundBalanced plan bound s
+    → IsAtAction plan s a body i (Some (action.Submit k)) → (pool_at plan (pool_of plan k)).may_reject ≡ false
+    → (pool_at plan (pool_of plan k)).queue ≤ length (pool_part s (pool_of plan k)).queue → (pool_at plan (pool_of plan k)).max ≤ threads plan s (pool_of plan k) → ⊥
+must_not_refuse plan None s a body i k ordered holds kept have balanced at must no_room all_started = false≢true (sym must ∙ holds)
+must_not_refuse plan (Some bound) s a body i k ordered holds kept have balanced at must no_room all_started = not_refused plan bound s a body i k ordered holds.0 kept have balanced at no_room all_started
 
 -- the initial state satisfies the invariants
-pub bounded_start : (plan : Plan) (bounds : ℕ → Bound) → HasValidBodies plan → Bounded plan bounds (start plan)
+pub bounded_start : (plan : Plan) (bounds : ℕ → Option Bound) → HasValidBodies plan → Bounded plan bounds (start plan)
 bounded_start plan bounds ordered = record {
   kept = kept_start plan ordered;
   have_jobs = have_jobs_start plan;
-  balanced = λ p inside. balanced_start (bound_get_return (bounds p)) plan (bound_vector (bounds p));
+  balanced = λ p inside. bound_balanced_start plan (bounds p);
   none_refused = refl;
 }
 
 -- no event refuses a submit if the invariants hold before the event
-refuses_nothing : (plan : Plan) (bounds : ℕ → Bound) (s s' : State) (o : Outcome) {e : Event} → HasValidBodies plan → BoundsHold plan bounds → Bounded plan bounds s → Happens plan s e s' o → s'.refusals ≡ 0
+refuses_nothing : (plan : Plan) (bounds : ℕ → Option Bound) (s s' : State) (o : Outcome) {e : Event} → HasValidBodies plan → BoundsHold plan bounds → Bounded plan bounds s → Happens plan s e s' o → s'.refusals ≡ 0
 refuses_nothing plan bounds s s' o ordered laws bounded (works a body i u at) = bounded.none_refused
 refuses_nothing plan bounds s s' o ordered laws bounded (starts a body i k at below) = bounded.none_refused
 refuses_nothing plan bounds s s' o ordered laws bounded (queues a body i k at at_core room) = bounded.none_refused
-refuses_nothing plan bounds s s' o ordered laws bounded (is_refused a body i k at no_room all_started) =
+refuses_nothing plan bounds s s' o ordered laws bounded (is_refused a body i k at must no_room all_started) =
     let p = pool_of plan k in
     let inside = ordered.pools k (class_exists plan s a body i k ordered at) in
-    absurd (not_refused plan (bounds p) s a body i k ordered (laws p inside) bounded.kept bounded.have_jobs (bounded.balanced p inside) at no_room all_started)
+    absurd (must_not_refuse plan (bounds p) s a body i k ordered (laws p inside) bounded.kept bounded.have_jobs (bounded.balanced p inside) at must no_room all_started)
+refuses_nothing plan bounds s s' o ordered laws bounded (is_rejected a body i k at may) = bounded.none_refused
 refuses_nothing plan bounds s s' o ordered laws bounded (gets a body i t j at is_child done) = bounded.none_refused
 refuses_nothing plan bounds s s' o ordered laws bounded (finishes j body i at) = bounded.none_refused
 refuses_nothing plan bounds s s' o ordered laws bounded (loops c client body i at is_client repeats) = bounded.none_refused
@@ -57,28 +96,25 @@ refuses_nothing plan bounds s s' o ordered laws bounded (takes p j queue idle is
 refuses_nothing plan bounds s s' o ordered laws bounded (retires p idle is_idle above_core) = bounded.none_refused
 
 -- each event preserves the invariants
-pub bounded_step : (plan : Plan) (bounds : ℕ → Bound) (s s' : State) (o : Outcome) {e : Event} → HasValidBodies plan → BoundsHold plan bounds → Bounded plan bounds s → Happens plan s e s' o → Bounded plan bounds s'
+pub bounded_step : (plan : Plan) (bounds : ℕ → Option Bound) (s s' : State) (o : Outcome) {e : Event} → HasValidBodies plan → BoundsHold plan bounds → Bounded plan bounds s → Happens plan s e s' o → Bounded plan bounds s'
 bounded_step plan bounds s s' o ordered laws bounded happened = record {
   kept = kept_step plan s s' o ordered bounded.kept happened;
   have_jobs = have_jobs_step plan s s' o bounded.kept bounded.have_jobs happened;
-  balanced = λ p inside.
-      let get_return = bound_get_return (bounds p) in
-      let v = bound_vector (bounds p) in
-      balanced_step get_return plan v s s' (never_rises get_return plan v s s' o ordered (bound_vector_laws plan p (bounds p) (laws p inside)) bounded.kept happened) (bounded.balanced p inside);
+  balanced = λ p inside. bound_balanced_step plan p (bounds p) s s' o ordered (laws p inside) bounded.kept happened (bounded.balanced p inside);
   none_refused = refuses_nothing plan bounds s s' o ordered laws bounded happened;
 }
 
 -- if the invariants hold, no submit was refused, and each pool is within its maximum and its queue's capacity
-pub keeps_sizes : (plan : Plan) (bounds : ℕ → Bound) (s : State) → Bounded plan bounds s → KeepsSizes plan s
+pub keeps_sizes : (plan : Plan) (bounds : ℕ → Option Bound) (s : State) → Bounded plan bounds s → KeepsSizes plan s
 keeps_sizes plan bounds s bounded = record {
   none_refused = bounded.none_refused;
   within_max = λ p inside. (bounded.kept.pools p inside).within_max;
   within_queue = λ p inside. (bounded.kept.pools p inside).within_queue;
 }
 
--- the law that a plan in which each pool has a bound whose rows hold refuses nothing
+-- the law that a plan in which each pool has a bound, or may reject jobs, refuses nothing
 pub bounded_plans_refuse_nothing : BoundedPlansRefuseNothing
 bounded_plans_refuse_nothing plan bounds well_formed hold events s reached =
     let is_ordered = ordered plan well_formed in
-    let laws : BoundsHold plan bounds = λ p inside. bound_laws plan p (bounds p) (hold p inside).0 (hold p inside).1 in
+    let laws : BoundsHold plan bounds = λ p inside. bound_holds plan p (bounds p) (hold p inside) in
     keeps_sizes plan bounds s (reached_keeps plan (Bounded plan bounds) (bounded_start plan bounds is_ordered) (λ s₁ e s₂ o held happened. bounded_step plan bounds s₁ s₂ o is_ordered laws held happened) s (events, reached))

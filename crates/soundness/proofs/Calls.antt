@@ -1,5 +1,6 @@
 -- The invariants of the calls in progress, and the proof that no call is refused.
-use Rattle.std.proofs.Common.{◌≡◌, ℕ, ◌+◌, ◌<◌, ◌≤◌, ⊎_elim, true, List, length, Some, sym, subst, arith}
+use Rattle.std.specs.Prelude.{⊤}
+use Rattle.std.proofs.Common.{◌≡◌, ℕ, ◌+◌, ◌<◌, ◌≤◌, ⊎_elim, true, false, List, length, Option, Some, None, sym, subst, ◌∙◌, arith}
 use Rattle.std.proofs.lemmas.Bool.{false≢true}
 use Rattle.job_bodies.specs.declared.action.Action.{Action}
 use Rattle.job_bodies.specs.declared.action.Action.TheVariants as action
@@ -16,77 +17,78 @@ use Rattle.written_machine.proofs.InvariantSubmits.{class_exists}
 use Rattle.written_machine.proofs.JobsMade.{HaveJobs}
 use Rattle.weights.specs.declared.bound.Bound.{Bound}
 use Rattle.weights.specs.declared.bound.Bound.TheVariants.{Standing, Lifetime}
-use Rattle.weights.specs.Bound.{bound_vector, bound_get_return}
-use Rattle.soundness.proofs.BoundLaws.{BoundLaws}
-use Rattle.soundness.proofs.NeverRises.{IsBalanced}
 use Rattle.soundness.proofs.NoRefusal.{standing_refuses_nothing, lifetime_leaves_room}
 use Rattle.soundness.specs.Execute.{JavaState, is_calling, without_calls}
 use Rattle.soundness.proofs.ThreadChanges.{threads_change}
 use Rattle.soundness.proofs.JavaEvents.{JavaHappens, is_atomic, ends, finds_core, finds_full, finds_all, OfferAtCore, call_of_others, one_more}
-use Rattle.soundness.proofs.Bounded.{Bounded, BoundsHold}
+use Rattle.soundness.proofs.Bounded.{IsBoundBalanced, BoundHolds, Bounded, BoundsHold}
 
 -- ---- a pool whose queue was full at some time
 
 -- an invariant of a pool after a call found its queue full. With a standing vector the queue is never full, so there is no such
 -- state. With a lifetime vector the queue's capacity and the threads together are at most the jobs submitted to the pool and its
--- prestarted threads.
-abbrev pub QueueWasFull : Plan → Bound → State → ℕ → Type 0
-QueueWasFull plan (Standing v) s p = ⊥
-QueueWasFull plan (Lifetime v) s p = (pool_at plan p).queue + threads plan s p ≤ jobs_made plan s p + first_workers (pool_at plan p)
+-- prestarted threads. Nothing is known of a pool that may reject jobs.
+abbrev pub QueueWasFull : Plan → Option Bound → State → ℕ → Type 0
+QueueWasFull plan None s p = ⊤
+QueueWasFull plan (Some (Standing v)) s p = ⊥
+QueueWasFull plan (Some (Lifetime v)) s p = (pool_at plan p).queue + threads plan s p ≤ jobs_made plan s p + first_workers (pool_at plan p)
 
 -- if a submit finds the queue of its pool full, the invariant of a pool whose queue was full holds
-queue_was_full : (plan : Plan) (bound : Bound) (s : State) (a : Parent) (body : List Action) (i k : ℕ) → HasValidBodies plan → BoundLaws plan (pool_of plan k) bound → StateInvariant plan s → HaveJobs plan s → IsBalanced (bound_get_return bound) plan (bound_vector bound) s
+queue_was_full : (plan : Plan) (bound : Option Bound) (s : State) (a : Parent) (body : List Action) (i k : ℕ) → HasValidBodies plan → BoundHolds plan (pool_of plan k) bound → StateInvariant plan s → HaveJobs plan s → IsBoundBalanced plan bound s
     → IsAtAction plan s a body i (Some (action.Submit k)) → (pool_at plan (pool_of plan k)).queue ≤ length (pool_part s (pool_of plan k)).queue → QueueWasFull plan bound s (pool_of plan k)
-queue_was_full plan (Standing v) s a body i k ordered laws kept have balanced at no_room = standing_refuses_nothing plan v s a body i k ordered laws kept balanced at no_room
-queue_was_full plan (Lifetime v) s a body i k ordered laws kept have balanced at no_room =
+queue_was_full plan None s a body i k ordered holds kept have balanced at no_room = tt
+queue_was_full plan (Some (Standing v)) s a body i k ordered holds kept have balanced at no_room = standing_refuses_nothing plan v s a body i k ordered holds.0 kept balanced at no_room
+queue_was_full plan (Some (Lifetime v)) s a body i k ordered laws kept have balanced at no_room =
     let had = have (pool_of plan k) (ordered.pools k (class_exists plan s a body i k ordered at)) in
     omega arith
 
 -- each event preserves the invariant of a pool whose queue was full, because the number of threads grows at most with the number
 -- of submitted jobs
-stays_full : (plan : Plan) (bound : Bound) (s s' : State) (o : Outcome) (p : ℕ) {e : Event} → StateInvariant plan s → p < length plan.pools → Happens plan s e s' o → QueueWasFull plan bound s p → QueueWasFull plan bound s' p
-stays_full plan (Standing v) s s' o p kept inside happened full = full
-stays_full plan (Lifetime v) s s' o p kept inside happened full =
+stays_full : (plan : Plan) (bound : Option Bound) (s s' : State) (o : Outcome) (p : ℕ) {e : Event} → StateInvariant plan s → p < length plan.pools → Happens plan s e s' o → QueueWasFull plan bound s p → QueueWasFull plan bound s' p
+stays_full plan None s s' o p kept inside happened full = full
+stays_full plan (Some (Standing v)) s s' o p kept inside happened full = full
+stays_full plan (Some (Lifetime v)) s s' o p kept inside happened full =
     let by_jobs = (threads_change plan s s' o kept happened p inside).by_jobs in
     omega arith
 
--- a submit to a pool whose queue was full finds fewer than max threads
-leaves_room : (plan : Plan) (bound : Bound) (s : State) (a : Parent) (body : List Action) (i k : ℕ) → HasValidBodies plan → BoundLaws plan (pool_of plan k) bound → StateInvariant plan s → IsBalanced (bound_get_return bound) plan (bound_vector bound) s → IsAtAction plan s a body i (Some (action.Submit k))
-    → QueueWasFull plan bound s (pool_of plan k) → (pool_at plan (pool_of plan k)).max ≤ threads plan s (pool_of plan k) → ⊥
-leaves_room plan (Standing v) s a body i k ordered laws kept balanced at full all_started = full
-leaves_room plan (Lifetime v) s a body i k ordered laws kept balanced at full all_started = lifetime_leaves_room plan v s a body i k ordered laws kept balanced at (omega arith)
+-- a submit to a pool that must not reject jobs, and whose queue was full, finds fewer than max threads
+leaves_room : (plan : Plan) (bound : Option Bound) (s : State) (a : Parent) (body : List Action) (i k : ℕ) → HasValidBodies plan → BoundHolds plan (pool_of plan k) bound → StateInvariant plan s → IsBoundBalanced plan bound s → IsAtAction plan s a body i (Some (action.Submit k))
+    → (pool_at plan (pool_of plan k)).may_reject ≡ false → QueueWasFull plan bound s (pool_of plan k) → (pool_at plan (pool_of plan k)).max ≤ threads plan s (pool_of plan k) → ⊥
+leaves_room plan None s a body i k ordered holds kept balanced at must full all_started = false≢true (sym must ∙ holds)
+leaves_room plan (Some (Standing v)) s a body i k ordered holds kept balanced at must full all_started = full
+leaves_room plan (Some (Lifetime v)) s a body i k ordered holds kept balanced at must full all_started = lifetime_leaves_room plan v s a body i k ordered holds.0 kept balanced at (omega arith)
 
 -- ---- the calls
 
 -- the invariants of the calls in progress: the pool of a call that offers its job has at least core threads, and the queue of the
 -- pool of a call that requests a thread was full
-pub record CallsKept (plan : Plan) (bounds : ℕ → Bound) (s : JavaState) : Type 0 where
+pub record CallsKept (plan : Plan) (bounds : ℕ → Option Bound) (s : JavaState) : Type 0 where
   pub offering : OfferAtCore plan s
   pub requesting : (a : Parent) (p : ℕ) → p < length plan.pools → is_calling s.requesting a p ≡ true → QueueWasFull plan (bounds p) s.machine p
 
 -- a state with no call in progress satisfies the invariants of the calls
-pub calls_none : (plan : Plan) (bounds : ℕ → Bound) (s : State) → CallsKept plan bounds (without_calls s)
+pub calls_none : (plan : Plan) (bounds : ℕ → Option Bound) (s : State) → CallsKept plan bounds (without_calls s)
 calls_none plan bounds s = record { offering = λ a p inside is_there. absurd (false≢true is_there); requesting = λ a p inside is_there. absurd (false≢true is_there) }
 
--- no call that requests a thread is refused
-pub refused_never : (plan : Plan) (bounds : ℕ → Bound) (s : JavaState) (a : Parent) (body : List Action) (i k : ℕ) → HasValidBodies plan → BoundsHold plan bounds → Bounded plan bounds s.machine → CallsKept plan bounds s → IsAtAction plan s.machine a body i (Some (action.Submit k))
-    → is_calling s.requesting a (pool_of plan k) ≡ true → (pool_at plan (pool_of plan k)).max ≤ threads plan s.machine (pool_of plan k) → ⊥
-refused_never plan bounds s a body i k ordered laws bounded calls at requesting all_started =
+-- no call that requests a thread from a pool that must not reject jobs is refused
+pub refused_never : (plan : Plan) (bounds : ℕ → Option Bound) (s : JavaState) (a : Parent) (body : List Action) (i k : ℕ) → HasValidBodies plan → BoundsHold plan bounds → Bounded plan bounds s.machine → CallsKept plan bounds s → IsAtAction plan s.machine a body i (Some (action.Submit k))
+    → (pool_at plan (pool_of plan k)).may_reject ≡ false → is_calling s.requesting a (pool_of plan k) ≡ true → (pool_at plan (pool_of plan k)).max ≤ threads plan s.machine (pool_of plan k) → ⊥
+refused_never plan bounds s a body i k ordered laws bounded calls at must requesting all_started =
     let p = pool_of plan k in
     let inside = ordered.pools k (class_exists plan s.machine a body i k ordered at) in
-    leaves_room plan (bounds p) s.machine a body i k ordered (laws p inside) bounded.kept (bounded.balanced p inside) at (calls.requesting a p inside requesting) all_started
+    leaves_room plan (bounds p) s.machine a body i k ordered (laws p inside) bounded.kept (bounded.balanced p inside) at must (calls.requesting a p inside requesting) all_started
 
 -- a property that each event of the machine preserves is also preserved by each event in Java's steps
-pub machine_keeps : (plan : Plan) (bounds : ℕ → Bound) (holds : State → Type 0) (s s' : JavaState) {e : Event} → HasValidBodies plan → BoundsHold plan bounds → Bounded plan bounds s.machine → CallsKept plan bounds s
+pub machine_keeps : (plan : Plan) (bounds : ℕ → Option Bound) (holds : State → Type 0) (s s' : JavaState) {e : Event} → HasValidBodies plan → BoundsHold plan bounds → Bounded plan bounds s.machine → CallsKept plan bounds s
     → ((e' : Event) (after : State) (o : Outcome) → Happens plan s.machine e' after o → holds after) → holds s.machine → JavaHappens plan s e s' → holds s'.machine
 machine_keeps plan bounds holds s s' ordered laws bounded calls each held (is_atomic e after o none happened) = each e after o happened
 machine_keeps plan bounds holds s s' ordered laws bounded calls each held (ends a body i k after o at happened) = each (event_of a) after o happened
 machine_keeps plan bounds holds s s' ordered laws bounded calls each held (finds_core a body i k at not_requesting not_offering at_core) = held
 machine_keeps plan bounds holds s s' ordered laws bounded calls each held (finds_full a body i k at not_requesting no_room) = held
-machine_keeps plan bounds holds s s' ordered laws bounded calls each held (finds_all a body i k at requesting all_started) = absurd (refused_never plan bounds s a body i k ordered laws bounded calls at requesting all_started)
+machine_keeps plan bounds holds s s' ordered laws bounded calls each held (finds_all a body i k at must requesting all_started) = absurd (refused_never plan bounds s a body i k ordered laws bounded calls at must requesting all_started)
 
 -- each event in Java's steps preserves the invariants of the calls
-pub calls_step : (plan : Plan) (bounds : ℕ → Bound) (s s' : JavaState) {e : Event} → HasValidBodies plan → BoundsHold plan bounds → Bounded plan bounds s.machine → CallsKept plan bounds s → JavaHappens plan s e s' → CallsKept plan bounds s'
+pub calls_step : (plan : Plan) (bounds : ℕ → Option Bound) (s s' : JavaState) {e : Event} → HasValidBodies plan → BoundsHold plan bounds → Bounded plan bounds s.machine → CallsKept plan bounds s → JavaHappens plan s e s' → CallsKept plan bounds s'
 calls_step plan bounds s s' ordered laws bounded calls (is_atomic e after o none happened) = record {
   offering = λ b p inside is_there. (threads_change plan s.machine after o bounded.kept happened p inside).at_core (calls.offering b p inside is_there);
   requesting = λ b p inside is_there. stays_full plan (bounds p) s.machine after o p bounded.kept inside happened (calls.requesting b p inside is_there);
@@ -111,4 +113,4 @@ calls_step plan bounds s s' ordered laws bounded calls (finds_full a body i k at
       (λ earlier. calls.requesting b p inside earlier)
       (one_more (record { actor = a; pool = q }) s.requesting b p is_there);
 }
-calls_step plan bounds s s' ordered laws bounded calls (finds_all a body i k at requesting all_started) = absurd (refused_never plan bounds s a body i k ordered laws bounded calls at requesting all_started)
+calls_step plan bounds s s' ordered laws bounded calls (finds_all a body i k at must requesting all_started) = absurd (refused_never plan bounds s a body i k ordered laws bounded calls at must requesting all_started)

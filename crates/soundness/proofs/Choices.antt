@@ -8,34 +8,34 @@ use Rattle.job_bodies.specs.Plan.{Plan}
 use Rattle.written_machine.specs.declared.parent.Parent.{Parent}
 use Rattle.written_machine.specs.declared.event.Event.{Event}
 use Rattle.written_machine.specs.State.{pool_of}
+use Rattle.written_machine.specs.Step.{skipped}
 use Rattle.written_machine.proofs.Events.{IsAtAction, event_of}
 use Rattle.soundness.specs.Execute.{JavaState, Submission, is_calling, submission}
 use Rattle.soundness.proofs.JavaEvents.{is_submission}
 use Rattle.soundness.specs.Skipping.{Choice, after_skip, has_begun, skip_submit, choice_step, choices_replay}
 use Rattle.soundness.specs.Skipping.Choice.{Skips}
-use Rattle.soundness.proofs.SkippedSubmits.{left}
 
 -- ---- a skipped submit
 
 -- the state after the actor of the event skips its submit, which has not begun
 pub data IsSkipped (plan : Plan) (s : JavaState) : Event → JavaState → Type 0 where
   leaves : (a : Parent) (body : List Action) (i k : ℕ) → IsAtAction plan s.machine a body i (Some (action.Submit k)) → is_calling s.offering a (pool_of plan k) ≡ false → is_calling s.requesting a (pool_of plan k) ≡ false
-      → IsSkipped plan s (event_of a) (record s { machine = left s.machine a i k })
+      → IsSkipped plan s (event_of a) (record s { machine = skipped s.machine a i k })
 
-not_begun_left : (plan : Plan) (s : JavaState) (e : Event) (x : Submission) (begun : Bool) (s' : JavaState) → submission plan s.machine e ≡ Some x → has_begun plan s x ≡ begun → cond begun None (Some (record s { machine = after_skip s.machine x })) ≡ Some s' → IsSkipped plan s e s'
-not_begun_left plan s e x true s' is_found is_begun is_after = absurd (none-some s' is_after)
-not_begun_left plan s e x false s' is_found is_begun is_after =
+not_begun_skips : (plan : Plan) (s : JavaState) (e : Event) (x : Submission) (begun : Bool) (s' : JavaState) → submission plan s.machine e ≡ Some x → has_begun plan s x ≡ begun → cond begun None (Some (record s { machine = after_skip s.machine x })) ≡ Some s' → IsSkipped plan s e s'
+not_begun_skips plan s e x true s' is_found is_begun is_after = absurd (none-some s' is_after)
+not_begun_skips plan s e x false s' is_found is_begun is_after =
     let submitting = is_submission plan s.machine e x is_found in
     let neither = or_parts (is_calling s.offering x.actor (pool_of plan x.class)) (is_calling s.requesting x.actor (pool_of plan x.class)) is_begun in
-    let leaving : IsSkipped plan s (event_of x.actor) (record s { machine = left s.machine x.actor x.position x.class }) = leaves x.actor submitting.body x.position x.class submitting.at neither.0 neither.1 in
+    let leaving : IsSkipped plan s (event_of x.actor) (record s { machine = skipped s.machine x.actor x.position x.class }) = leaves x.actor submitting.body x.position x.class submitting.at neither.0 neither.1 in
     subst (IsSkipped plan s e) (same_Some (record s { machine = after_skip s.machine x }) s' is_after) (subst (λ (event : Event). IsSkipped plan s event (record s { machine = after_skip s.machine x })) submitting.same leaving)
 
-found_left : (plan : Plan) (s : JavaState) (e : Event) (found : Option Submission) (s' : JavaState) → submission plan s.machine e ≡ found → skip_submit plan s found ≡ Some s' → IsSkipped plan s e s'
-found_left plan s e None s' is_found is_after = absurd (none-some s' is_after)
-found_left plan s e (Some x) s' is_found is_after = not_begun_left plan s e x (has_begun plan s x) s' is_found refl is_after
+found_skips : (plan : Plan) (s : JavaState) (e : Event) (found : Option Submission) (s' : JavaState) → submission plan s.machine e ≡ found → skip_submit plan s found ≡ Some s' → IsSkipped plan s e s'
+found_skips plan s e None s' is_found is_after = absurd (none-some s' is_after)
+found_skips plan s e (Some x) s' is_found is_after = not_begun_skips plan s e x (has_begun plan s x) s' is_found refl is_after
 
 pub is_skipped : (plan : Plan) (s : JavaState) (e : Event) (s' : JavaState) → choice_step plan s (Skips e) ≡ Some s' → IsSkipped plan s e s'
-is_skipped plan s e s' is_after = found_left plan s e (submission plan s.machine e) s' refl is_after
+is_skipped plan s e s' is_after = found_skips plan s e (submission plan s.machine e) s' refl is_after
 
 -- ---- lists of choices
 

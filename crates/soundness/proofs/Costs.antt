@@ -16,7 +16,7 @@ use Rattle.written_machine.specs.declared.event.Outcome.{Outcome}
 use Rattle.written_machine.specs.State.{Stage, State, CreatedJob, no_job, job_at, pool_of}
 use Rattle.written_machine.specs.Step.{moved_jobs, new_job}
 use Rattle.written_machine.specs.Safe.{is_of_job_or_pool}
-use Rattle.written_machine.proofs.Events.{IsAtAction, Happens, works, starts, queues, is_refused, gets, finishes, loops, takes, retires}
+use Rattle.written_machine.proofs.Events.{IsAtAction, Happens, works, starts, queues, is_refused, is_rejected, gets, finishes, loops, takes, retires}
 use Rattle.written_machine.proofs.Positions.{standing_made}
 use Rattle.written_machine.proofs.StateInvariant.{StateInvariant}
 use Rattle.written_machine.proofs.Stages.{length-staged, length-moved}
@@ -35,7 +35,8 @@ no_fewer_jobs : (plan : Plan) (s s' : State) (o : Outcome) {e : Event} → Happe
 no_fewer_jobs plan s s' o (works a body i u at) = omega (arith, length-moved s a (i + 1))
 no_fewer_jobs plan s s' o (starts a body i k at below) = omega (arith, length-moved s a (i + 1), length_push (moved_jobs a (i + 1) s) (new_job k a i (Stage.At 0)))
 no_fewer_jobs plan s s' o (queues a body i k at at_core room) = omega (arith, length-moved s a (i + 1), length_push (moved_jobs a (i + 1) s) (new_job k a i Stage.Queued))
-no_fewer_jobs plan s s' o (is_refused a body i k at no_room all_started) = omega arith
+no_fewer_jobs plan s s' o (is_refused a body i k at must no_room all_started) = omega arith
+no_fewer_jobs plan s s' o (is_rejected a body i k at may) = omega (arith, length-moved s a (i + 1), length_push (moved_jobs a (i + 1) s) (new_job k a i Stage.Done))
 no_fewer_jobs plan s s' o (gets a body i t j at is_child done) = omega (arith, length-moved s a (i + 1), length-staged (moved_jobs a (i + 1) s) j Stage.Claimed)
 no_fewer_jobs plan s s' o (finishes j body i at) = omega (arith, length-staged s.jobs j Stage.Done)
 no_fewer_jobs plan s s' o (loops c client body i at is_client repeats) = omega arith
@@ -128,7 +129,7 @@ costs plan ranks s s' e laws kept none none' calls of_job_or_pool (finds_core (p
 costs plan ranks s s' e laws kept none none' calls of_job_or_pool (finds_core (parent.Job n) body i k at not_requesting not_offering at_core) = omega (arith, core_found plan s n body i k calls at not_requesting not_offering)
 costs plan ranks s s' e laws kept none none' calls of_job_or_pool (finds_full (parent.Client c) body i k at not_requesting no_room) = absurd cc
 costs plan ranks s s' e laws kept none none' calls of_job_or_pool (finds_full (parent.Job n) body i k at not_requesting no_room) = omega (arith, full_found plan s n body i k calls at not_requesting)
-costs plan ranks s s' e laws kept none none' calls of_job_or_pool (finds_all a body i k at requesting all_started) = absurd (omega arith)
+costs plan ranks s s' e laws kept none none' calls of_job_or_pool (finds_all a body i k at must requesting all_started) = absurd (omega arith)
 
 -- ---- the end of a thread
 
@@ -141,7 +142,7 @@ costs_nothing plan ranks s s' e is_end (is_atomic f after o no_submit happened) 
 costs_nothing plan ranks s s' e is_end (ends a body i k after o at happened) = absurd (no_actor a is_end)
 costs_nothing plan ranks s s' e is_end (finds_core a body i k at not_requesting not_offering at_core) = absurd (no_actor a is_end)
 costs_nothing plan ranks s s' e is_end (finds_full a body i k at not_requesting no_room) = absurd (no_actor a is_end)
-costs_nothing plan ranks s s' e is_end (finds_all a body i k at requesting all_started) = absurd (no_actor a is_end)
+costs_nothing plan ranks s s' e is_end (finds_all a body i k at must requesting all_started) = absurd (no_actor a is_end)
 
 -- ---- a job in a call has remaining work
 

@@ -26,7 +26,7 @@ use Rattle.soundness.proofs.ReachedLaws.{balanced}
 use Rattle.soundness.proofs.CompletedSteps.{sum_of_elements}
 use Rattle.soundness.proofs.BlockedLaws.{BlockedLaws, blocked_laws}
 use Rattle.soundness.proofs.RankLaws.{RankLaws, rank_laws}
-use Rattle.soundness.proofs.Walks.{walk, done-le-queued, submits_cover_done}
+use Rattle.soundness.proofs.Walks.{walk, done-le-queued, rejected_are_light, submits_cover_done}
 use Rattle.soundness.proofs.Debts.{cond-le, open_weight, debt, debt_to, returned-le-owed, owed-le-debts}
 
 -- ---- the first counted get
@@ -190,4 +190,4 @@ module _ (plan : Plan) (ranks : Ranks) (v : Vector) (p : ℕ) (s : State) (order
 pub fewer_than_core_may_block : FewerThanCoreMayBlock
 fewer_than_core_may_block plan ranks p v s well_formed inside ranks_hold hold reached =
     let laws = blocked_laws plan (is_counted plan ranks) p v hold in
-    may_block-below_core plan ranks v p s (ordered plan well_formed) (rank_laws plan ranks ranks_hold) laws (kept plan s well_formed reached) inside (balanced DoneWeight plan v s well_formed laws.laws reached)
+    may_block-below_core plan ranks v p s (ordered plan well_formed) (rank_laws plan ranks ranks_hold) laws (kept plan s well_formed reached) inside (balanced DoneWeight plan v s well_formed laws.laws (rejected_are_light DoneWeight plan v ranks (ordered plan well_formed) (rank_laws plan ranks ranks_hold) laws.laws) reached)

@@ -12,9 +12,9 @@ use Rattle.written_machine.specs.declared.event.Event.{Event}
 use Rattle.written_machine.specs.declared.event.Event.TheVariants as event
 use Rattle.written_machine.specs.declared.event.Outcome.{Outcome}
 use Rattle.written_machine.specs.State.{Stage, State, CreatedJob, no_job, job_at, pool_part, pool_of}
-use Rattle.written_machine.specs.Step.{with_stage, with_position, new_job, finished_job}
+use Rattle.written_machine.specs.Step.{with_stage, with_position, new_job, skipped, finished_job}
 use Rattle.written_machine.specs.Safe.{is_of_job_or_pool}
-use Rattle.written_machine.proofs.Events.{IsAtAction, event_of, with_part, Happens, works, starts, queues, is_refused, gets, finishes, loops, takes, retires}
+use Rattle.written_machine.proofs.Events.{IsAtAction, event_of, with_part, Happens, works, starts, queues, is_refused, is_rejected, gets, finishes, loops, takes, retires}
 use Rattle.written_machine.proofs.Positions.{stage_of_standing, job_made, standing_made}
 use Rattle.written_machine.proofs.StateInvariant.{StateInvariant}
 use Rattle.written_machine.proofs.Stages.{staged}
@@ -124,8 +124,14 @@ todo_taken plan ranks k laws = omega (arith, full_is plan ranks laws k)
 -- ---- each event
 
 -- the remaining work of the second state is less than that of the first
-abbrev HasLess : Plan → Ranks → State → State → Type 0
+abbrev pub HasLess : Plan → Ranks → State → State → Type 0
 HasLess plan ranks s s' = todo plan ranks s' + 1 ≤ todo plan ranks s
+
+-- a submit that a job skips reduces the remaining work
+pub lowers_skips : (plan : Plan) (ranks : Ranks) (s : State) (n : ℕ) (body : List Action) (i k : ℕ) → IsAtAction plan s (parent.Job n) body i (Some (action.Submit k)) → HasLess plan ranks s (skipped s (parent.Job n) i k)
+lowers_skips plan ranks s n body i k at =
+    let moved : State = with_position (parent.Job n) (i + 1) s in
+    omega (arith, todo-passed plan ranks s n body i (action.Submit k) at, jobs_todo_push plan ranks moved.jobs (new_job k (parent.Job n) i Stage.Done))
 
 -- a get by a job reduces the remaining work
 lowers_gets : (plan : Plan) (ranks : Ranks) (s : State) (n : ℕ) (body : List Action) (i t j : ℕ) → IsAtAction plan s (parent.Job n) body i (Some (action.Get t)) → (job_at s j).stage ≡ Stage.Done → HasLess plan ranks s (with_stage j Stage.Claimed (with_position (parent.Job n) (i + 1) s))
@@ -162,7 +168,9 @@ lowers plan ranks s s' o e laws kept none none' of_job_or_pool (queues (parent.C
 lowers plan ranks s s' o e laws kept none none' of_job_or_pool (queues (parent.Job j) body i k at at_core room) =
     let moved : State = with_position (parent.Job j) (i + 1) s in
     omega (arith, todo-passed plan ranks s j body i (action.Submit k) at, jobs_todo_push plan ranks moved.jobs (new_job k (parent.Job j) i Stage.Queued))
-lowers plan ranks s s' o e laws kept none none' of_job_or_pool (is_refused a body i k at no_room all_started) = absurd (omega arith)
+lowers plan ranks s s' o e laws kept none none' of_job_or_pool (is_refused a body i k at must no_room all_started) = absurd (omega arith)
+lowers plan ranks s s' o e laws kept none none' of_job_or_pool (is_rejected (parent.Client c) body i k at may) = absurd cc
+lowers plan ranks s s' o e laws kept none none' of_job_or_pool (is_rejected (parent.Job j) body i k at may) = lowers_skips plan ranks s j body i k at
 lowers plan ranks s s' o e laws kept none none' of_job_or_pool (gets (parent.Client c) body i t j at is_child done) = absurd cc
 lowers plan ranks s s' o e laws kept none none' of_job_or_pool (gets (parent.Job n) body i t j at is_child done) = lowers_gets plan ranks s n body i t j at done
 lowers plan ranks s s' o e laws kept none none' of_job_or_pool (finishes j body i at) = lowers_finishes plan ranks s j body i kept at
@@ -200,7 +208,8 @@ pub same_jobs : (plan : Plan) (s s' : State) (o : Outcome) {e : Event} → ends_
 same_jobs plan s s' o is_end (works a body i u at) = absurd (no_actor a is_end)
 same_jobs plan s s' o is_end (starts a body i k at below) = absurd (no_actor a is_end)
 same_jobs plan s s' o is_end (queues a body i k at at_core room) = absurd (no_actor a is_end)
-same_jobs plan s s' o is_end (is_refused a body i k at no_room all_started) = absurd (no_actor a is_end)
+same_jobs plan s s' o is_end (is_refused a body i k at must no_room all_started) = absurd (no_actor a is_end)
+same_jobs plan s s' o is_end (is_rejected a body i k at may) = absurd (no_actor a is_end)
 same_jobs plan s s' o is_end (gets a body i t j at is_child done) = absurd (no_actor a is_end)
 same_jobs plan s s' o is_end (finishes j body i at) = absurd cc
 same_jobs plan s s' o is_end (loops c client body i at is_client repeats) = absurd cc

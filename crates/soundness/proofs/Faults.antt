@@ -1,4 +1,5 @@
 -- A list of rows has no failing row exactly when all its rows hold, and a certificate without a failing condition is accepted.
+use Rattle.std.specs.Prelude.{⊤}
 use Rattle.std.proofs.Common.{◌≡◌, ℕ, ◌+◌, ◌<◌, ◌≤◌, ⊎_elim, Bool, true, false, cond, ltb, List, [], ◌∷◌, length, filter, flat_map, Option, Some, None, refl, sym, ap, subst, ◌∙◌, arith}
 use Rattle.std.specs.List.{enumerate_from}
 use Rattle.std.proofs.lemmas.Bool.{and_from, ltb-false, le-ltb}
@@ -7,6 +8,7 @@ use Rattle.support.proofs.Members.{not_In_nil, In-cons_cases, In-append_cases, I
 use Rattle.job_bodies.specs.Plan.{Pool, Plan}
 use Rattle.weights.specs.declared.row.Row.{Row}
 use Rattle.weights.specs.Row.{fails, first_failing, AllHold}
+use Rattle.weights.specs.declared.bound.Bound.{Bound}
 use Rattle.weights.specs.Bound.{bound_rows}
 use Rattle.weights.specs.Blocked.{blocked_rows}
 use Rattle.weights.specs.Ranks.{is_counted, rank_rows}
@@ -14,7 +16,7 @@ use Rattle.cert_text.specs.Cert.{Cert, pool_cert_at, cert_fits}
 use Rattle.soundness.specs.declared.note.Section.{Section}
 use Rattle.soundness.specs.declared.note.Section.TheVariants as section
 use Rattle.soundness.specs.declared.note.Note.{Note}
-use Rattle.soundness.specs.Conditions.{note, in_section, bound_section, pool_conditions, conditions, failing}
+use Rattle.soundness.specs.Conditions.{note, in_section, bound_section, bound_conditions, pool_conditions, conditions, failing}
 use Rattle.soundness.specs.Accepted.{is_nil, accepted}
 
 -- ---- the first row that fails
@@ -62,9 +64,19 @@ holds_in_section part rows x hold i =
     let found = In-map_from (note part) rows i in
     subst (λ (y : Note). ltb y.right y.left ≡ false) found.2 (le-ltb found.0.right found.0.left (hold found.0 found.1))
 
+-- the rows of the bound of pool p hold, if it has a bound
+abbrev pub BoundRowsHold : Plan → ℕ → Option Bound → Type 0
+BoundRowsHold plan p None = ⊤
+BoundRowsHold plan p (Some bound) = AllHold (bound_rows plan p bound)
+
+-- none of the conditions of a bound fails if its rows hold
+holds_in_bound : (plan : Plan) (p : ℕ) (bound : Option Bound) (x : Note) → BoundRowsHold plan p bound → In x (bound_conditions plan p bound) → ltb x.right x.left ≡ false
+holds_in_bound plan p None x hold i = absurd (not_In_nil i)
+holds_in_bound plan p (Some bound) x hold i = holds_in_section (bound_section p bound) (bound_rows plan p bound) x hold i
+
 -- a certificate is accepted if it fits the plan and all its conditions hold
 pub accepted_from_parts : (plan : Plan) (cert : Cert) → cert_fits plan cert ≡ true → AllHold (rank_rows plan cert.ranks)
-    → ((p : ℕ) → p < length plan.pools → AllHold (bound_rows plan p (pool_cert_at cert p).bound))
+    → ((p : ℕ) → p < length plan.pools → BoundRowsHold plan p (pool_cert_at cert p).bound)
     → ((p : ℕ) → p < length plan.pools → AllHold (blocked_rows plan p (is_counted plan cert.ranks) (pool_cert_at cert p).blocked))
     → accepted plan cert ≡ true
 accepted_from_parts plan cert fits ranks bound blocked =
@@ -73,10 +85,9 @@ accepted_from_parts plan cert fits ranks bound blocked =
     of_pool : (x : Note) (p : ℕ) → p < length plan.pools → In x (pool_conditions plan cert p) → ltb x.right x.left ≡ false
     of_pool x p inside i =
         let pool = pool_cert_at cert p in
-        let of_bound = bound_rows plan p pool.bound in
         let of_blocked = blocked_rows plan p (is_counted plan cert.ranks) pool.blocked in
-        ⊎_elim (λ first. holds_in_section (bound_section p pool.bound) of_bound x (bound p inside) first) (λ second. holds_in_section (section.Blocked p) of_blocked x (blocked p inside) second)
-        (In-append_cases (in_section (bound_section p pool.bound) of_bound) (in_section (section.Blocked p) of_blocked) i)
+        ⊎_elim (λ first. holds_in_bound plan p pool.bound x (bound p inside) first) (λ second. holds_in_section (section.Blocked p) of_blocked x (blocked p inside) second)
+        (In-append_cases (bound_conditions plan p pool.bound) (in_section (section.Blocked p) of_blocked) i)
 
     each : (x : Note) → In x (conditions plan cert) → ltb x.right x.left ≡ false
     each x i =

@@ -1,5 +1,5 @@
 -- The possible events if each submit is the separate steps of Java's `execute`.
-use Rattle.std.proofs.Common.{◌≡◌, ℕ, ◌<◌, ◌≤◌, ◌⊎◌, inl, inr, ⊎_elim, Bool, true, false, cond, not, ◌&&◌, eqb, ltb, List, ◌∷◌, length, slice_get, Option, Some, None, refl, ap, subst, ◌∙◌}
+use Rattle.std.proofs.Common.{◌≡◌, ℕ, ◌+◌, ◌<◌, ◌≤◌, ◌⊎◌, inl, inr, ⊎_elim, Bool, true, false, cond, not, ◌&&◌, eqb, ltb, List, ◌∷◌, length, slice_get, Option, Some, None, refl, ap, subst, ◌∙◌}
 use Rattle.std.proofs.lemmas.Bool.{and_parts, or_cases, not-true, ltb-true, ltb-false, eqb-true}
 use Rattle.std.proofs.lemmas.Option.{none-some, same_Some}
 use Rattle.support.proofs.Members.{In-filter_from, In-from_list_any, list_any_at_In}
@@ -13,9 +13,10 @@ use Rattle.written_machine.specs.declared.parent.Parent.TheVariants as parent
 use Rattle.written_machine.specs.declared.event.Event.{Event}
 use Rattle.written_machine.specs.declared.event.Event.TheVariants as event
 use Rattle.written_machine.specs.declared.event.Outcome.{Outcome}
+use Rattle.written_machine.specs.declared.event.Outcome.TheVariants as outcome
 use Rattle.written_machine.specs.State.{State, same_parent, pool_part, pool_of, threads}
-use Rattle.written_machine.specs.Step.{Point, point, step_action, submitted, step_at_point, step}
-use Rattle.written_machine.proofs.Events.{IsAtAction, event_of, Happens, starts, queues, happens}
+use Rattle.written_machine.specs.Step.{Point, point, skipped, step_action, submitted, step_at_point, step}
+use Rattle.written_machine.proofs.Events.{IsAtAction, event_of, Happens, starts, queues, is_rejected, happens}
 use Rattle.written_machine.proofs.Children.{same_actor_true}
 use Rattle.written_machine.proofs.InvariantSubmits.{class_exists}
 use Rattle.soundness.specs.Execute.{Call, JavaState, is_calling, without_calls_of, answers, checks_core, offers_job, requests_thread, executes, Submission, submission_at, submission_of, submission, as_atomic, java_stepped, java_step}
@@ -43,12 +44,16 @@ one_more call calls b p is_there =
 
 -- ---- the kinds of events
 
+-- the state of the machine after the last step of actor a's submit, whose call is no longer in progress
+abbrev pub ends_with : JavaState → Parent → State → JavaState
+ends_with s a after = record { machine = after; offering = without_calls_of a s.offering; requesting = without_calls_of a s.requesting }
+
 pub data JavaHappens (plan : Plan) (s : JavaState) : Event → JavaState → Type 0 where
   -- an event that is not part of a submit is the same event of the machine
   is_atomic : (e : Event) (after : State) (o : Outcome) → submission plan s.machine e ≡ None → Happens plan s.machine e after o → JavaHappens plan s e (record s { machine = after })
-  -- the last step of a submit: the pool starts, queues or refuses the job, and the actor's call ends
+  -- the last step of a submit: the pool starts, queues, refuses or rejects the job, and the actor's call ends
   ends : (a : Parent) (body : List Action) (i k : ℕ) (after : State) (o : Outcome) → IsAtAction plan s.machine a body i (Some (action.Submit k)) → Happens plan s.machine (event_of a) after o
-      → JavaHappens plan s (event_of a) (record { machine = after; offering = without_calls_of a s.offering; requesting = without_calls_of a s.requesting })
+      → JavaHappens plan s (event_of a) (ends_with s a after)
   -- the first step of a submit, if the pool has at least core threads: the call offers its job next
   finds_core : (a : Parent) (body : List Action) (i k : ℕ) → IsAtAction plan s.machine a body i (Some (action.Submit k)) → is_calling s.requesting a (pool_of plan k) ≡ false → is_calling s.offering a (pool_of plan k) ≡ false
       → (pool_at plan (pool_of plan k)).core ≤ threads plan s.machine (pool_of plan k)
@@ -58,9 +63,9 @@ pub data JavaHappens (plan : Plan) (s : JavaState) : Event → JavaState → Typ
       → (pool_at plan (pool_of plan k)).queue ≤ length (pool_part s.machine (pool_of plan k)).queue
       → JavaHappens plan s (event_of a) (record s { offering = without_calls_of a s.offering; requesting = record { actor = a; pool = pool_of plan k } ∷ s.requesting })
   -- the third step of a submit, if the pool has max threads: the job is refused, even if the queue has room again
-  finds_all : (a : Parent) (body : List Action) (i k : ℕ) → IsAtAction plan s.machine a body i (Some (action.Submit k)) → is_calling s.requesting a (pool_of plan k) ≡ true
+  finds_all : (a : Parent) (body : List Action) (i k : ℕ) → IsAtAction plan s.machine a body i (Some (action.Submit k)) → (pool_at plan (pool_of plan k)).may_reject ≡ false → is_calling s.requesting a (pool_of plan k) ≡ true
       → (pool_at plan (pool_of plan k)).max ≤ threads plan s.machine (pool_of plan k)
-      → JavaHappens plan s (event_of a) (answers plan s a i k offer.Refused)
+      → JavaHappens plan s (event_of a) (ends_with s a (record s.machine { refusals = s.machine.refusals + 1 }))
 
 -- ---- the steps of a submit
 
@@ -86,13 +91,22 @@ offers_job_happens plan s a body i k at not_requesting at_core true has_room =
 offers_job_happens plan s a body i k at not_requesting at_core false has_room =
     finds_full a body i k at not_requesting (ltb-false (length (pool_part s.machine (pool_of plan k)).queue) (pool_at plan (pool_of plan k)).queue has_room)
 
+-- a third step that finds max threads is one of the possible events, whether or not the pool may reject jobs
+declines_happens : (plan : Plan) (s : JavaState) (a : Parent) (body : List Action) (i k : ℕ) → IsAtAction plan s.machine a body i (Some (action.Submit k)) → is_calling s.requesting a (pool_of plan k) ≡ true
+    → (pool_at plan (pool_of plan k)).max ≤ threads plan s.machine (pool_of plan k)
+    → (may : Bool) → (pool_at plan (pool_of plan k)).may_reject ≡ may
+    → let x : State × Outcome = cond may (skipped s.machine a i k, outcome.Rejected (pool_of plan k) (length s.machine.jobs)) (record s.machine { refusals = s.machine.refusals + 1 }, outcome.Refused (pool_of plan k)) in
+    JavaHappens plan s (event_of a) (ends_with s a x.0)
+declines_happens plan s a body i k at requesting all_started true may = ends a body i k _ _ at (is_rejected a body i k at may)
+declines_happens plan s a body i k at requesting all_started false may = finds_all a body i k at may requesting all_started
+
 -- the effect of the third step of a submit is one of the possible events
 requests_thread_happens : (plan : Plan) (s : JavaState) (a : Parent) (body : List Action) (i k : ℕ) → IsAtAction plan s.machine a body i (Some (action.Submit k)) → is_calling s.requesting a (pool_of plan k) ≡ true
     → (below : Bool) → ltb (threads plan s.machine (pool_of plan k)) (pool_at plan (pool_of plan k)).max ≡ below → JavaHappens plan s (event_of a) (answers plan s a i k (cond below offer.Started offer.Refused))
 requests_thread_happens plan s a body i k at requesting true is_below =
     ends a body i k _ _ at (starts a body i k at (inl (ltb-true (threads plan s.machine (pool_of plan k)) (pool_at plan (pool_of plan k)).max is_below)))
 requests_thread_happens plan s a body i k at requesting false is_below =
-    finds_all a body i k at requesting (ltb-false (threads plan s.machine (pool_of plan k)) (pool_at plan (pool_of plan k)).max is_below)
+    declines_happens plan s a body i k at requesting (ltb-false (threads plan s.machine (pool_of plan k)) (pool_at plan (pool_of plan k)).max is_below) (pool_at plan (pool_of plan k)).may_reject refl
 
 -- the effect of the next step of a submit is one of the possible events
 executes_happens : (plan : Plan) (s : JavaState) (a : Parent) (body : List Action) (i k : ℕ) → HasValidBodies plan → OfferAtCore plan s → IsAtAction plan s.machine a body i (Some (action.Submit k))

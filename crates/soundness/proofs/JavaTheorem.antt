@@ -13,7 +13,7 @@ use Rattle.soundness.proofs.JavaReplays.{java_replay_keeps, java_possible}
 use Rattle.cert_text.specs.Cert.{Cert}
 use Rattle.soundness.specs.Headline.{AcceptedPlansAreJavaSafe, AcceptedPlansMakeJavaProgress}
 use Rattle.soundness.proofs.CertLaws.{CertLaws, cert_laws}
-use Rattle.soundness.proofs.Theorem.{bound_of, Sound, sound_start, sound_step, sound_waits, sound_safe}
+use Rattle.soundness.proofs.Theorem.{bound_of, bounds_hold, Sound, sound_start, sound_step, sound_waits, sound_safe}
 use Rattle.soundness.proofs.Calls.{CallsKept, calls_none, machine_keeps, calls_step}
 
 -- ---- the invariants of the reachable states of an accepted plan
@@ -32,8 +32,8 @@ java_sound_step plan cert ordered laws s e s' held is_step =
     let bounds = bound_of cert in
     let happened = java_happens plan s e s' ordered held.calls.offering is_step in
     record {
-      sound = machine_keeps plan bounds (Sound plan cert) s s' ordered laws.bound held.sound.bounded held.calls (λ e' after o. sound_step plan cert s.machine after o ordered laws held.sound) held.sound happened;
-      calls = calls_step plan bounds s s' ordered laws.bound held.sound.bounded held.calls happened;
+      sound = machine_keeps plan bounds (Sound plan cert) s s' ordered (bounds_hold plan cert ordered laws) held.sound.bounded held.calls (λ e' after o. sound_step plan cert s.machine after o ordered laws held.sound) held.sound happened;
+      calls = calls_step plan bounds s s' ordered (bounds_hold plan cert ordered laws) held.sound.bounded held.calls happened;
     }
 
 -- every state that is reachable in Java's steps satisfies the invariants

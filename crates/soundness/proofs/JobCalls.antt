@@ -12,7 +12,7 @@ use Rattle.written_machine.specs.declared.event.Event.TheVariants as event
 use Rattle.written_machine.specs.declared.event.Outcome.{Outcome}
 use Rattle.written_machine.specs.State.{Stage, State, CreatedJob, no_job, same_parent, job_at, pool_of}
 use Rattle.written_machine.specs.Step.{point_of_job, moved_jobs, new_job}
-use Rattle.written_machine.proofs.Events.{IsAtAction, event_of, Happens, works, starts, queues, is_refused, gets, finishes, loops, takes, retires}
+use Rattle.written_machine.proofs.Events.{IsAtAction, event_of, Happens, works, starts, queues, is_refused, is_rejected, gets, finishes, loops, takes, retires}
 use Rattle.written_machine.proofs.Positions.{stage_of_standing, job_made}
 use Rattle.written_machine.proofs.StateInvariant.{StateInvariant}
 use Rattle.written_machine.proofs.Stages.{length-moved, get_or-staged_other}
@@ -62,7 +62,8 @@ leaves : (plan : Plan) (s s' : State) (o : Outcome) (n i : ℕ) {e : Event} → 
 leaves plan s s' o n i kept at other (works a body i' u standing) = moved_leaves s a (i' + 1) n (other_actor a n other)
 leaves plan s s' o n i kept at other (starts a body i' k standing below) = pushed_leaves s a (i' + 1) n (new_job k a i' (Stage.At 0)) (job_made s n (λ claimed. cc)) (other_actor a n other)
 leaves plan s s' o n i kept at other (queues a body i' k standing at_core room) = pushed_leaves s a (i' + 1) n (new_job k a i' Stage.Queued) (job_made s n (λ claimed. cc)) (other_actor a n other)
-leaves plan s s' o n i kept at other (is_refused a body i' k standing no_room all_started) = refl
+leaves plan s s' o n i kept at other (is_refused a body i' k standing must no_room all_started) = refl
+leaves plan s s' o n i kept at other (is_rejected a body i' k standing may) = pushed_leaves s a (i' + 1) n (new_job k a i' Stage.Done) (job_made s n (λ claimed. cc)) (other_actor a n other)
 leaves plan s s' o n i kept at other (gets a body i' t j standing is_child done) =
     get_or-staged_other (moved_jobs a (i' + 1) s) j Stage.Claimed n no_job (λ (same : n ≡ j). let is_done : (job_at s n).stage ≡ Stage.Done = ap (λ (m : ℕ). (job_at s m).stage) same ∙ done in cc)
     ∙ moved_leaves s a (i' + 1) n (other_actor a n other)
@@ -139,4 +140,4 @@ job_calls_step plan s s' kept as_many calls (finds_full a body i k at not_reques
   offering = λ n p is_there. calls.offering n p (call_of_others a (parent.Job n) p s.offering is_there).0;
   requesting = before_more plan s.machine a body i k s.requesting at calls.requesting;
 }
-job_calls_step plan s s' kept as_many calls (finds_all a body i k at requesting all_started) = absurd (omega arith)
+job_calls_step plan s s' kept as_many calls (finds_all a body i k at must requesting all_started) = absurd (omega arith)

@@ -19,7 +19,6 @@ pub mod Walks
 pub mod Debts
 pub mod CountedGets
 pub mod Descent
-pub mod SkippedSubmits
 pub mod Choices
 pub mod SkipCosts
 pub mod ExchangedJobs

@@ -15,9 +15,9 @@ use Rattle.written_machine.specs.declared.parent.Parent.TheVariants as parent
 use Rattle.written_machine.specs.declared.event.Event.{Event}
 use Rattle.written_machine.specs.declared.event.Outcome.{Outcome}
 use Rattle.written_machine.specs.State.{Stage, State, CreatedJob, no_job, no_client_state, job_at, client_state, pool_part, pool_of, is_at, child}
-use Rattle.written_machine.specs.Step.{point, with_stage, with_position, with_job, new_job, finished_job}
+use Rattle.written_machine.specs.Step.{point, with_stage, with_position, with_job, new_job, skipped, finished_job}
 use Rattle.written_machine.specs.Reach.{new_clients, start}
-use Rattle.written_machine.proofs.Events.{IsAtAction, with_part, queued_state, Happens, works, starts, queues, is_refused, gets, finishes, loops, takes, retires}
+use Rattle.written_machine.proofs.Events.{IsAtAction, with_part, queued_state, Happens, works, starts, queues, is_refused, is_rejected, gets, finishes, loops, takes, retires}
 use Rattle.written_machine.proofs.Positions.{stage_of_standing, job_made, standing_made, client_standing, job_at-with_position}
 use Rattle.written_machine.proofs.StateInvariant.{StateInvariant}
 use Rattle.written_machine.proofs.Stages.{staged}
@@ -26,9 +26,10 @@ use Rattle.written_machine.proofs.InvariantSubmits.{class_exists}
 use Rattle.written_machine.proofs.ReachedLaws.{child_at_get}
 use Rattle.weights.specs.declared.get_return.GetReturn.{GetReturn}
 use Rattle.weights.specs.declared.get_return.GetReturn.TheVariants.{DoneWeight, NoWeight}
-use Rattle.weights.specs.Vector.{Vector, workers_weight, job_weight, done_weight, client_weight}
+use Rattle.weights.specs.Vector.{Vector, workers_weight, queued_weight, job_weight, done_weight, client_weight}
 use Rattle.weights.specs.GetReturn.{returned_weight, claimed_weight}
 use Rattle.soundness.specs.WeightedSum.{stage_weight}
+use Rattle.soundness.specs.WeightLaws.{RejectedAreLight}
 use Rattle.soundness.proofs.VectorLaws.{BodyLaws, VectorLaws}
 
 -- ---- the parts of the weight
@@ -254,17 +255,29 @@ never_rises_takes get_return plan v s p j queue idle laws kept is_queue =
     let begins = laws.begins (job_at s j).class (kept.classes j no_job head.inside) in
     omega (arith, begins, jobs_weight-staged get_return plan v s.jobs j (Stage.At 0) Stage.Queued head.inside head.queued, workers_weight_of_jobs-staged plan v s.jobs j (Stage.At 0) Stage.Queued head.inside head.queued)
 
+-- a skipped submit does not increase the weight if a done job of the class weighs at most as much as a queued one
+pub no_heavier_skipped : (get_return : GetReturn) (plan : Plan) (v : Vector) (s : State) (a : Parent) (body : List Action) (i k : ℕ) → VectorLaws get_return plan v → done_weight plan v k ≤ queued_weight v k → IsAtAction plan s a body i (Some (action.Submit k))
+    → DoesNotIncrease get_return plan v s (skipped s a i k)
+no_heavier_skipped get_return plan v s a body i k laws no_more at =
+    let moved : State = with_position a (i + 1) s in
+    let queued = new_job k a i Stage.Queued in
+    let done = new_job k a i Stage.Done in
+    let as_queued = never_rises_queued get_return plan v s a body i k laws at in
+    omega (arith, actors_weight-with_job get_return plan v moved queued, busy_workers_weight-with_job plan v moved queued, actors_weight-with_job get_return plan v moved done, busy_workers_weight-with_job plan v moved done)
+
 -- no event increases the weight
-pub never_rises : (get_return : GetReturn) (plan : Plan) (v : Vector) (s s' : State) (o : Outcome) {e : Event} → HasValidBodies plan → VectorLaws get_return plan v → StateInvariant plan s → Happens plan s e s' o → DoesNotIncrease get_return plan v s s'
-never_rises get_return plan v s s' o ordered laws kept (works a body i u at) = never_rises_works get_return plan v s a body i u laws at
-never_rises get_return plan v s s' o ordered laws kept (starts a body i k at below) = never_rises_starts get_return plan v s a body i k (class_exists plan s a body i k ordered at) laws at
-never_rises get_return plan v s s' o ordered laws kept (queues a body i k at at_core room) = never_rises_queued get_return plan v s a body i k laws at
-never_rises get_return plan v s s' o ordered laws kept (is_refused a body i k at no_room all_started) = omega arith
-never_rises get_return plan v s s' o ordered laws kept (gets a body i t j at is_child done) = never_rises_gets get_return plan v s a body i t j ordered laws kept at is_child done
-never_rises get_return plan v s s' o ordered laws kept (finishes j body i at) = never_rises_finishes get_return plan v s j body i laws kept at
-never_rises get_return plan v s s' o ordered laws kept (loops c client body i at is_client repeats) = never_rises_loops get_return plan v s c client body i laws kept at is_client repeats
-never_rises get_return plan v s s' o ordered laws kept (takes p j queue idle is_queue is_idle) = never_rises_takes get_return plan v s p j queue idle laws kept is_queue
-never_rises get_return plan v s s' o ordered laws kept (retires p idle is_idle above_core) = omega arith
+pub never_rises : (get_return : GetReturn) (plan : Plan) (v : Vector) (s s' : State) (o : Outcome) {e : Event} → HasValidBodies plan → VectorLaws get_return plan v → RejectedAreLight plan v → StateInvariant plan s → Happens plan s e s' o → DoesNotIncrease get_return plan v s s'
+never_rises get_return plan v s s' o ordered laws light kept (works a body i u at) = never_rises_works get_return plan v s a body i u laws at
+never_rises get_return plan v s s' o ordered laws light kept (starts a body i k at below) = never_rises_starts get_return plan v s a body i k (class_exists plan s a body i k ordered at) laws at
+never_rises get_return plan v s s' o ordered laws light kept (queues a body i k at at_core room) = never_rises_queued get_return plan v s a body i k laws at
+never_rises get_return plan v s s' o ordered laws light kept (is_refused a body i k at must no_room all_started) = omega arith
+never_rises get_return plan v s s' o ordered laws light kept (is_rejected a body i k at may) =
+    no_heavier_skipped get_return plan v s a body i k laws (light k (class_exists plan s a body i k ordered at) may) at
+never_rises get_return plan v s s' o ordered laws light kept (gets a body i t j at is_child done) = never_rises_gets get_return plan v s a body i t j ordered laws kept at is_child done
+never_rises get_return plan v s s' o ordered laws light kept (finishes j body i at) = never_rises_finishes get_return plan v s j body i laws kept at
+never_rises get_return plan v s s' o ordered laws light kept (loops c client body i at is_client repeats) = never_rises_loops get_return plan v s c client body i laws kept at is_client repeats
+never_rises get_return plan v s s' o ordered laws light kept (takes p j queue idle is_queue is_idle) = never_rises_takes get_return plan v s p j queue idle laws kept is_queue
+never_rises get_return plan v s s' o ordered laws light kept (retires p idle is_idle above_core) = omega arith
 
 -- a state is balanced if the state before it is balanced and the weight does not rise between them
 pub balanced_step : (get_return : GetReturn) (plan : Plan) (v : Vector) (s s' : State) → DoesNotIncrease get_return plan v s s' → IsBalanced get_return plan v s → IsBalanced get_return plan v s'

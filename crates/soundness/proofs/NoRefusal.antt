@@ -146,4 +146,4 @@ not_refused plan (Lifetime v) s a body i k ordered laws kept have balanced at no
 
 -- no event refuses a submit to a pool with a bound whose rows hold
 pub never_refused : (plan : Plan) (bound : Bound) (s s' : State) (p : ℕ) {e : Event} → HasValidBodies plan → BoundLaws plan p bound → StateInvariant plan s → HaveJobs plan s → IsBalanced (bound_get_return bound) plan (bound_vector bound) s → Happens plan s e s' (outcome.Refused p) → ⊥
-never_refused plan bound s s' p ordered laws kept have balanced (is_refused a body i k at no_room all_started) = not_refused plan bound s a body i k ordered laws kept have balanced at no_room all_started
+never_refused plan bound s s' p ordered laws kept have balanced (is_refused a body i k at must no_room all_started) = not_refused plan bound s a body i k ordered laws kept have balanced at no_room all_started

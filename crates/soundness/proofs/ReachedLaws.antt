@@ -15,7 +15,7 @@ use Rattle.weights.specs.declared.get_return.GetReturn.{GetReturn}
 use Rattle.weights.specs.declared.get_return.GetReturn.TheVariants.{NoWeight}
 use Rattle.weights.specs.Vector.{Vector}
 use Rattle.weights.specs.Bound.{bound_vector, bound_get_return}
-use Rattle.soundness.specs.WeightLaws.{SumNeverRises, SumStaysWithinTotal, BoundsRefuseNothing, JobsStayWithinTotal}
+use Rattle.soundness.specs.WeightLaws.{RejectedAreLight, SumNeverRises, SumStaysWithinTotal, BoundsRefuseNothing, JobsStayWithinTotal}
 use Rattle.soundness.proofs.VectorLaws.{VectorLaws, vector_laws}
 use Rattle.soundness.proofs.BoundLaws.{lifetime_laws, bound_laws, bound_vector_laws}
 use Rattle.soundness.proofs.NeverRises.{IsBalanced, balanced_start, never_rises, balanced_step}
@@ -23,31 +23,31 @@ use Rattle.soundness.proofs.WithinTotal as within
 use Rattle.soundness.proofs.NoRefusal.{never_refused, jobs-le-total}
 
 -- every reachable state is balanced
-pub balanced : (get_return : GetReturn) (plan : Plan) (v : Vector) (s : State) → IsWellFormed plan → VectorLaws get_return plan v → IsReached plan s → IsBalanced get_return plan v s
-balanced get_return plan v s well_formed laws reached =
+pub balanced : (get_return : GetReturn) (plan : Plan) (v : Vector) (s : State) → IsWellFormed plan → VectorLaws get_return plan v → RejectedAreLight plan v → IsReached plan s → IsBalanced get_return plan v s
+balanced get_return plan v s well_formed laws light reached =
     let is_ordered = ordered plan well_formed in
     (reached_keeps plan (λ s₁. StateInvariant plan s₁ × IsBalanced get_return plan v s₁) (kept_start plan is_ordered, balanced_start get_return plan v)
-    (λ s₁ e s₂ o held happened. (kept_step plan s₁ s₂ o is_ordered held.0 happened, balanced_step get_return plan v s₁ s₂ (never_rises get_return plan v s₁ s₂ o is_ordered laws held.0 happened) held.1)) s reached).1
+    (λ s₁ e s₂ o held happened. (kept_step plan s₁ s₂ o is_ordered held.0 happened, balanced_step get_return plan v s₁ s₂ (never_rises get_return plan v s₁ s₂ o is_ordered laws light held.0 happened) held.1)) s reached).1
 
 -- the law that no event increases the weight of a reachable state
 pub sum_never_rises : SumNeverRises
-sum_never_rises get_return plan v s s' event outcome well_formed hold reached is_step =
-    within.sum_never_rises get_return plan v s s' outcome (ordered plan well_formed) (vector_laws get_return plan v hold) (kept plan s well_formed reached) (happens plan s event s' outcome is_step)
+sum_never_rises get_return plan v s s' event outcome well_formed hold light reached is_step =
+    within.sum_never_rises get_return plan v s s' outcome (ordered plan well_formed) (vector_laws get_return plan v hold) light (kept plan s well_formed reached) (happens plan s event s' outcome is_step)
 
 -- the law that the weight of a reachable state is at most the total
 pub sum_stays_within_total : SumStaysWithinTotal
-sum_stays_within_total get_return plan v s well_formed hold reached =
-    within.sum_of-le-total get_return plan v s (ordered plan well_formed) (kept plan s well_formed reached) (balanced get_return plan v s well_formed (vector_laws get_return plan v hold) reached)
+sum_stays_within_total get_return plan v s well_formed hold light reached =
+    within.sum_of-le-total get_return plan v s (ordered plan well_formed) (kept plan s well_formed reached) (balanced get_return plan v s well_formed (vector_laws get_return plan v hold) light reached)
 
 -- the law that a pool with a bound whose rows hold refuses nothing
 pub bounds_refuse_nothing : BoundsRefuseNothing
-bounds_refuse_nothing plan p bound s s' event well_formed fits hold reached refused =
+bounds_refuse_nothing plan p bound s s' event well_formed fits hold light reached refused =
     let laws = bound_laws plan p bound fits hold in
     never_refused plan bound s s' p (ordered plan well_formed) laws (kept plan s well_formed reached) (threads_have_made plan s well_formed reached)
-    (balanced (bound_get_return bound) plan (bound_vector bound) s well_formed (bound_vector_laws plan p bound laws) reached) (happens plan s event s' (outcome.Refused p) refused)
+    (balanced (bound_get_return bound) plan (bound_vector bound) s well_formed (bound_vector_laws plan p bound laws) light reached) (happens plan s event s' (outcome.Refused p) refused)
 
 -- the law that the number of jobs submitted to a pool is at most the total of its lifetime vector
 pub jobs_stay_within_total : JobsStayWithinTotal
-jobs_stay_within_total plan p v s well_formed fits hold reached =
+jobs_stay_within_total plan p v s well_formed fits hold light reached =
     let laws = lifetime_laws plan p v fits hold in
-    jobs-le-total plan v s p (ordered plan well_formed) laws (kept plan s well_formed reached) (balanced NoWeight plan v s well_formed laws.laws reached)
+    jobs-le-total plan v s p (ordered plan well_formed) laws (kept plan s well_formed reached) (balanced NoWeight plan v s well_formed laws.laws light reached)

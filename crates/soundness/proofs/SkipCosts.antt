@@ -11,26 +11,25 @@ use Rattle.written_machine.specs.declared.parent.Parent.{Parent}
 use Rattle.written_machine.specs.declared.parent.Parent.TheVariants as parent
 use Rattle.written_machine.specs.declared.event.Event.{Event}
 use Rattle.written_machine.specs.State.{Stage, State, CreatedJob, job_at, pool_of}
-use Rattle.written_machine.specs.Step.{new_job, moved_jobs}
+use Rattle.written_machine.specs.Step.{new_job, skipped, moved_jobs}
 use Rattle.written_machine.specs.Safe.{is_of_job_or_pool}
 use Rattle.written_machine.proofs.Events.{IsAtAction, event_of}
 use Rattle.written_machine.proofs.Positions.{job_made}
 use Rattle.written_machine.proofs.Stages.{length-moved}
 use Rattle.soundness.specs.Drain.{stage_todo, todo}
-use Rattle.soundness.proofs.Draining.{todo-passed, ends_thread}
+use Rattle.soundness.proofs.Draining.{lowers_skips, ends_thread}
 use Rattle.soundness.specs.Execute.{Call, JavaState, is_calling}
 use Rattle.soundness.proofs.JobCalls.{StandsBefore, stands_before, pushed_leaves, JobCalls}
 use Rattle.soundness.proofs.CompletedSteps.{mark, by_place-longer}
 use Rattle.soundness.proofs.Costs.{one_pool, calls_done}
-use Rattle.soundness.proofs.SkippedSubmits.{left}
 use Rattle.soundness.proofs.Choices.{IsSkipped, leaves}
 
 -- ---- the calls of jobs
 
 -- after an actor skips a submit that it has not begun, each job with a call is still at the submit of its call
-before_left : (plan : Plan) (s : State) (a : Parent) (body : List Action) (i k : ℕ) (calls : List Call) → IsAtAction plan s a body i (Some (action.Submit k)) → is_calling calls a (pool_of plan k) ≡ false
-    → ((n p : ℕ) → is_calling calls (parent.Job n) p ≡ true → StandsBefore plan (job_at s n) p) → (n p : ℕ) → is_calling calls (parent.Job n) p ≡ true → StandsBefore plan (job_at (left s a i k) n) p
-before_left plan s a body i k calls at none before n p is_there =
+before_skipped : (plan : Plan) (s : State) (a : Parent) (body : List Action) (i k : ℕ) (calls : List Call) → IsAtAction plan s a body i (Some (action.Submit k)) → is_calling calls a (pool_of plan k) ≡ false
+    → ((n p : ℕ) → is_calling calls (parent.Job n) p ≡ true → StandsBefore plan (job_at s n) p) → (n p : ℕ) → is_calling calls (parent.Job n) p ≡ true → StandsBefore plan (job_at (skipped s a i k) n) p
+before_skipped plan s a body i k calls at none before n p is_there =
     let standing = before n p is_there in
     let at_position = standing.stage in
     let other : a ≢ parent.Job n = λ own.
@@ -42,14 +41,9 @@ before_left plan s a body i k calls at none before n p is_there =
 
 -- ---- the remaining work
 
--- a skip by a job reduces the remaining work by at least one
-todo_left : (plan : Plan) (ranks : Ranks) (s : State) (n : ℕ) (body : List Action) (i k : ℕ) → IsAtAction plan s (parent.Job n) body i (Some (action.Submit k)) → todo plan ranks (left s (parent.Job n) i k) + 1 ≤ todo plan ranks s
-todo_left plan ranks s n body i k at =
-    omega (arith, todo-passed plan ranks s n body i (action.Submit k) at, sum_by_push (λ (x : CreatedJob). stage_todo plan ranks x.class x.stage) (moved_jobs (parent.Job n) (i + 1) s) (new_job k (parent.Job n) i Stage.Done))
-
 -- a skip does not reduce the number of completed steps of the calls in progress
-calls_done_left : (s : JavaState) (a : Parent) (i k : ℕ) → calls_done s ≤ calls_done (record s { machine = left s.machine a i k })
-calls_done_left s a i k =
+calls_done_skipped : (s : JavaState) (a : Parent) (i k : ℕ) → calls_done s ≤ calls_done (record s { machine = skipped s.machine a i k })
+calls_done_skipped s a i k =
     by_place-longer (mark s) 0 s.machine.jobs (moved_jobs a (i + 1) s.machine ++ new_job k a i Stage.Done ∷ []) (omega (arith, length-moved s.machine a (i + 1), length_push (moved_jobs a (i + 1) s.machine) (new_job k a i Stage.Done)))
 
 -- ---- the calls and the remaining work together
@@ -61,21 +55,21 @@ pub record SkipCost (plan : Plan) (ranks : Ranks) (s : JavaState) (e : Event) (s
   pub costs : is_of_job_or_pool e ≡ true → 3 * todo plan ranks s'.machine + calls_done s + 1 ≤ 3 * todo plan ranks s.machine + calls_done s'
   pub by_actor : ends_thread e ≡ false
 
-costs_left : (plan : Plan) (ranks : Ranks) (s : JavaState) (a : Parent) (body : List Action) (i k : ℕ) → IsAtAction plan s.machine a body i (Some (action.Submit k)) → is_of_job_or_pool (event_of a) ≡ true
-    → 3 * todo plan ranks (left s.machine a i k) + calls_done s + 1 ≤ 3 * todo plan ranks s.machine + calls_done (record s { machine = left s.machine a i k })
-costs_left plan ranks s (parent.Client c) body i k at of_job = absurd cc
-costs_left plan ranks s (parent.Job n) body i k at of_job = omega (arith, todo_left plan ranks s.machine n body i k at, calls_done_left s (parent.Job n) i k)
+costs_skipped : (plan : Plan) (ranks : Ranks) (s : JavaState) (a : Parent) (body : List Action) (i k : ℕ) → IsAtAction plan s.machine a body i (Some (action.Submit k)) → is_of_job_or_pool (event_of a) ≡ true
+    → 3 * todo plan ranks (skipped s.machine a i k) + calls_done s + 1 ≤ 3 * todo plan ranks s.machine + calls_done (record s { machine = skipped s.machine a i k })
+costs_skipped plan ranks s (parent.Client c) body i k at of_job = absurd cc
+costs_skipped plan ranks s (parent.Job n) body i k at of_job = omega (arith, lowers_skips plan ranks s.machine n body i k at, calls_done_skipped s (parent.Job n) i k)
 
 of_actor : (a : Parent) → ends_thread (event_of a) ≡ false
 of_actor (parent.Client c) = refl
 of_actor (parent.Job n) = refl
 
-pub left_costs : (plan : Plan) (ranks : Ranks) (s : JavaState) (e : Event) (s' : JavaState) → IsSkipped plan s e s' → SkipCost plan ranks s e s'
-left_costs plan ranks s e s' (leaves a body i k at not_offering not_requesting) = record {
+pub skip_costs : (plan : Plan) (ranks : Ranks) (s : JavaState) (e : Event) (s' : JavaState) → IsSkipped plan s e s' → SkipCost plan ranks s e s'
+skip_costs plan ranks s e s' (leaves a body i k at not_offering not_requesting) = record {
   calls = λ calls. record {
-    offering = before_left plan s.machine a body i k s.offering at not_offering calls.offering;
-    requesting = before_left plan s.machine a body i k s.requesting at not_requesting calls.requesting;
+    offering = before_skipped plan s.machine a body i k s.offering at not_offering calls.offering;
+    requesting = before_skipped plan s.machine a body i k s.requesting at not_requesting calls.requesting;
   };
-  costs = costs_left plan ranks s a body i k at;
+  costs = costs_skipped plan ranks s a body i k at;
   by_actor = of_actor a;
 }

@@ -1,6 +1,6 @@
 -- Accepted plans are safe and make progress if each submit is the separate steps of Java's `execute`, and actors skip submits
 -- together with their gets and exchange alike jobs.
-use Rattle.std.proofs.Common.{◌≡◌, ℕ, List, Some, subst, arith}
+use Rattle.std.proofs.Common.{◌≡◌, ℕ, List, Option, Some, None, subst, arith}
 use Rattle.job_bodies.specs.declared.action.Action.{Action}
 use Rattle.job_bodies.specs.declared.action.Action.TheVariants as action
 use Rattle.job_bodies.specs.Plan.{Plan}
@@ -9,9 +9,11 @@ use Rattle.weights.specs.Ranks.{Ranks}
 use Rattle.written_machine.specs.declared.parent.Parent.{Parent}
 use Rattle.written_machine.specs.declared.event.Event.{Event}
 use Rattle.written_machine.specs.State.{State}
+use Rattle.written_machine.specs.Step.{skipped}
 use Rattle.written_machine.specs.Reach.{start}
 use Rattle.written_machine.proofs.Events.{IsAtAction}
-use Rattle.written_machine.proofs.InvariantSubmits.{class_exists}
+use Rattle.written_machine.proofs.InvariantSubmits.{class_exists, kept_skips}
+use Rattle.written_machine.proofs.JobsMade.{have_jobs_skips}
 use Rattle.weights.specs.declared.get_return.GetReturn.{GetReturn}
 use Rattle.weights.specs.declared.get_return.GetReturn.TheVariants.{DoneWeight}
 use Rattle.weights.specs.declared.bound.Bound.{Bound}
@@ -20,15 +22,16 @@ use Rattle.weights.specs.Vector.{Vector}
 use Rattle.weights.specs.Bound.{bound_vector, bound_get_return}
 use Rattle.cert_text.specs.Cert.{Cert, pool_cert_at}
 use Rattle.soundness.proofs.VectorLaws.{VectorLaws}
-use Rattle.soundness.proofs.BoundLaws.{bound_vector_laws}
-use Rattle.soundness.proofs.NeverRises.{IsBalanced, balanced_step}
+use Rattle.soundness.proofs.BoundLaws.{PoolBoundLaws, bound_vector_laws}
+use Rattle.soundness.proofs.Bounded.{IsBoundBalanced}
+use Rattle.soundness.proofs.NeverRises.{IsBalanced, no_heavier_skipped, balanced_step}
 use Rattle.soundness.proofs.RankLaws.{RankLaws}
 use Rattle.soundness.specs.Execute.{JavaState, without_calls}
 use Rattle.soundness.specs.Exchange.{after_exchange}
 use Rattle.soundness.specs.Skipping.{Choice, choice_step, ChoicesReach}
 use Rattle.soundness.specs.Skipping.Choice.{Acts, Skips, Exchanges}
 use Rattle.soundness.proofs.Walks.{done-le-queued}
-use Rattle.soundness.proofs.SkippedSubmits.{left, kept_left, change_skipped, have_jobs_left, no_heavier_left}
+use Rattle.soundness.proofs.ThreadChanges.{change_skipped}
 use Rattle.soundness.proofs.ExchangedJobs.{AreAlike, IsExchange, is_exchange, kept_exchanged, threads-exchanged, jobs_made-exchanged, have_jobs_exchanged, no_heavier_exchanged}
 use Rattle.soundness.proofs.Choices.{IsSkipped, leaves, is_skipped, choices_keep}
 use Rattle.soundness.specs.Headline.{AcceptedPlansMaySkip, AcceptedPlansMakeProgressWithSkips}
@@ -41,36 +44,42 @@ use Rattle.soundness.proofs.JavaTheorem.{JavaSound, java_sound_start, java_sound
 
 -- after a skip each vector is still balanced, because a done job weighs at most as much as a queued job
 balanced_left : (get_return : GetReturn) (plan : Plan) (v : Vector) (ranks : Ranks) (s : State) (a : Parent) (body : List Action) (i k : ℕ) → HasValidBodies plan → RankLaws plan ranks → VectorLaws get_return plan v → IsAtAction plan s a body i (Some (action.Submit k))
-    → IsBalanced get_return plan v s → IsBalanced get_return plan v (left s a i k)
+    → IsBalanced get_return plan v s → IsBalanced get_return plan v (skipped s a i k)
 balanced_left get_return plan v ranks s a body i k ordered ranked laws at balanced =
     let no_more = done-le-queued get_return plan v ranks k ordered ranked laws (class_exists plan s a body i k ordered at) in
-    balanced_step get_return plan v s (left s a i k) (no_heavier_left get_return plan v s a body i k laws no_more at) balanced
+    balanced_step get_return plan v s (skipped s a i k) (no_heavier_skipped get_return plan v s a body i k laws no_more at) balanced
+
+-- after a skip the bound of pool p is still balanced
+bound_balanced_left : (plan : Plan) (p : ℕ) (bound : Option Bound) (ranks : Ranks) (s : State) (a : Parent) (body : List Action) (i k : ℕ) → HasValidBodies plan → RankLaws plan ranks → PoolBoundLaws plan p bound → IsAtAction plan s a body i (Some (action.Submit k))
+    → IsBoundBalanced plan bound s → IsBoundBalanced plan bound (skipped s a i k)
+bound_balanced_left plan p None ranks s a body i k ordered ranked laws at balanced = tt
+bound_balanced_left plan p (Some bound) ranks s a body i k ordered ranked laws at balanced =
+    balanced_left (bound_get_return bound) plan (bound_vector bound) ranks s a body i k ordered ranked (bound_vector_laws plan p bound laws) at balanced
 
 -- after a skip a sound state is still sound
-sound_left : (plan : Plan) (cert : Cert) (s : State) (a : Parent) (body : List Action) (i k : ℕ) → HasValidBodies plan → CertLaws plan cert → IsAtAction plan s a body i (Some (action.Submit k)) → Sound plan cert s → Sound plan cert (left s a i k)
+sound_left : (plan : Plan) (cert : Cert) (s : State) (a : Parent) (body : List Action) (i k : ℕ) → HasValidBodies plan → CertLaws plan cert → IsAtAction plan s a body i (Some (action.Submit k)) → Sound plan cert s → Sound plan cert (skipped s a i k)
 sound_left plan cert s a body i k ordered laws at held = record {
   bounded = record {
-    kept = kept_left plan s a body i k ordered held.bounded.kept at;
-    have_jobs = have_jobs_left plan s a body i k held.bounded.have_jobs at;
-    balanced = λ p inside.
-        let bound = bound_of cert p in
-        balanced_left (bound_get_return bound) plan (bound_vector bound) cert.ranks s a body i k ordered laws.ranks (bound_vector_laws plan p bound (laws.bound p inside)) at (held.bounded.balanced p inside);
+    kept = kept_skips plan s a body i k ordered held.bounded.kept at;
+    have_jobs = have_jobs_skips plan s a body i k held.bounded.have_jobs at;
+    balanced = λ p inside. bound_balanced_left plan p (bound_of cert p) cert.ranks s a body i k ordered laws.ranks (laws.bound p inside) at (held.bounded.balanced p inside);
     none_refused = held.bounded.none_refused;
   };
   blocked = λ p inside. balanced_left DoneWeight plan (pool_cert_at cert p).blocked cert.ranks s a body i k ordered laws.ranks (laws.blocked p inside).laws at (held.blocked p inside);
 }
 
 -- after a skip the invariant of a pool whose queue was full still holds
-full_left : (plan : Plan) (bound : Bound) (s : State) (a : Parent) (body : List Action) (i k p : ℕ) → IsAtAction plan s a body i (Some (action.Submit k)) → QueueWasFull plan bound s p → QueueWasFull plan bound (left s a i k) p
-full_left plan (Standing v) s a body i k p at full = full
-full_left plan (Lifetime v) s a body i k p at full =
-    let by_jobs = (change_skipped plan s a body i k p at).by_jobs in
+full_left : (plan : Plan) (bound : Option Bound) (s : State) (a : Parent) (body : List Action) (i k p : ℕ) → IsAtAction plan s a body i (Some (action.Submit k)) → QueueWasFull plan bound s p → QueueWasFull plan bound (skipped s a i k) p
+full_left plan None s a body i k p at full = full
+full_left plan (Some (Standing v)) s a body i k p at full = full
+full_left plan (Some (Lifetime v)) s a body i k p at full =
+    let by_jobs = (change_skipped plan s a body i k p at.stands).by_jobs in
     omega arith
 
 -- after a skip the invariants of the calls in progress still hold
-calls_left : (plan : Plan) (bounds : ℕ → Bound) (s : JavaState) (a : Parent) (body : List Action) (i k : ℕ) → IsAtAction plan s.machine a body i (Some (action.Submit k)) → CallsKept plan bounds s → CallsKept plan bounds (record s { machine = left s.machine a i k })
+calls_left : (plan : Plan) (bounds : ℕ → Option Bound) (s : JavaState) (a : Parent) (body : List Action) (i k : ℕ) → IsAtAction plan s.machine a body i (Some (action.Submit k)) → CallsKept plan bounds s → CallsKept plan bounds (record s { machine = skipped s.machine a i k })
 calls_left plan bounds s a body i k at calls = record {
-  offering = λ b p inside is_there. (change_skipped plan s.machine a body i k p at).at_core (calls.offering b p inside is_there);
+  offering = λ b p inside is_there. (change_skipped plan s.machine a body i k p at.stands).at_core (calls.offering b p inside is_there);
   requesting = λ b p inside is_there. full_left plan (bounds p) s.machine a body i k p at (calls.requesting b p inside is_there);
 }
 
@@ -85,25 +94,30 @@ left_keeps plan cert s e s' ordered laws held (leaves a body i k at not_offering
 balanced_exchanged : (get_return : GetReturn) (plan : Plan) (v : Vector) (s : State) (a : Parent) (t u : ℕ) → IsBalanced get_return plan v s → IsBalanced get_return plan v (after_exchange a t u s)
 balanced_exchanged get_return plan v s a t u balanced = balanced_step get_return plan v s (after_exchange a t u s) (no_heavier_exchanged get_return plan v s a t u) balanced
 
+bound_balanced_exchanged : (plan : Plan) (bound : Option Bound) (s : State) (a : Parent) (t u : ℕ) → IsBoundBalanced plan bound s → IsBoundBalanced plan bound (after_exchange a t u s)
+bound_balanced_exchanged plan None s a t u balanced = tt
+bound_balanced_exchanged plan (Some bound) s a t u balanced = balanced_exchanged (bound_get_return bound) plan (bound_vector bound) s a t u balanced
+
 -- after an exchange a sound state is still sound
 sound_exchanged : (plan : Plan) (cert : Cert) (s : State) (a : Parent) (t u : ℕ) → AreAlike s a t u → Sound plan cert s → Sound plan cert (after_exchange a t u s)
 sound_exchanged plan cert s a t u alike held = record {
   bounded = record {
     kept = kept_exchanged plan s a t u alike held.bounded.kept;
     have_jobs = have_jobs_exchanged plan s a t u held.bounded.have_jobs;
-    balanced = λ p inside. balanced_exchanged (bound_get_return (bound_of cert p)) plan (bound_vector (bound_of cert p)) s a t u (held.bounded.balanced p inside);
+    balanced = λ p inside. bound_balanced_exchanged plan (bound_of cert p) s a t u (held.bounded.balanced p inside);
     none_refused = held.bounded.none_refused;
   };
   blocked = λ p inside. balanced_exchanged DoneWeight plan (pool_cert_at cert p).blocked s a t u (held.blocked p inside);
 }
 
 -- after an exchange the invariant of a pool whose queue was full still holds
-full_exchanged : (plan : Plan) (bound : Bound) (s : State) (a : Parent) (t u p : ℕ) → QueueWasFull plan bound s p → QueueWasFull plan bound (after_exchange a t u s) p
-full_exchanged plan (Standing v) s a t u p full = full
-full_exchanged plan (Lifetime v) s a t u p full = omega (arith, threads-exchanged plan s a t u p, jobs_made-exchanged plan s a t u p)
+full_exchanged : (plan : Plan) (bound : Option Bound) (s : State) (a : Parent) (t u p : ℕ) → QueueWasFull plan bound s p → QueueWasFull plan bound (after_exchange a t u s) p
+full_exchanged plan None s a t u p full = full
+full_exchanged plan (Some (Standing v)) s a t u p full = full
+full_exchanged plan (Some (Lifetime v)) s a t u p full = omega (arith, threads-exchanged plan s a t u p, jobs_made-exchanged plan s a t u p)
 
 -- after an exchange the invariants of the calls in progress still hold
-calls_exchanged : (plan : Plan) (bounds : ℕ → Bound) (s : JavaState) (a : Parent) (t u : ℕ) → CallsKept plan bounds s → CallsKept plan bounds (record s { machine = after_exchange a t u s.machine })
+calls_exchanged : (plan : Plan) (bounds : ℕ → Option Bound) (s : JavaState) (a : Parent) (t u : ℕ) → CallsKept plan bounds s → CallsKept plan bounds (record s { machine = after_exchange a t u s.machine })
 calls_exchanged plan bounds s a t u calls = record {
   offering = λ b p inside is_there. let at_core = calls.offering b p inside is_there in omega (arith, threads-exchanged plan s.machine a t u p);
   requesting = λ b p inside is_there. full_exchanged plan (bounds p) s.machine a t u p (calls.requesting b p inside is_there);

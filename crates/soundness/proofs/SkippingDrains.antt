@@ -18,7 +18,7 @@ use Rattle.soundness.proofs.Costs.{calls_done-le}
 use Rattle.soundness.specs.Skipping.{Choice, choice_step, choices_replay, ChoicesReach, is_of_jobs, no_client_acts}
 use Rattle.soundness.specs.Skipping.Choice.{Acts, Skips, Exchanges}
 use Rattle.soundness.proofs.Choices.{is_skipped, choices_none, choices_keep}
-use Rattle.soundness.proofs.SkipCosts.{left_costs}
+use Rattle.soundness.proofs.SkipCosts.{skip_costs}
 use Rattle.soundness.proofs.ExchangedJobs.{is_exchange}
 use Rattle.soundness.proofs.ExchangeCosts.{job_calls_exchanged, todo-exchanged, calls_done-exchanged}
 use Rattle.soundness.specs.Headline.{AcceptedPlansDrainWithSkips}
@@ -34,7 +34,7 @@ choice_held : (plan : Plan) (cert : Cert) → HasValidBodies plan → CertLaws p
 choice_held plan cert ordered laws s (Acts e) s' held is_step = held_step plan cert ordered laws s e s' held is_step
 choice_held plan cert ordered laws s (Skips e) s' held is_step = record {
   java = choice_keeps plan cert ordered laws s (Skips e) s' held.java is_step;
-  jobs = (left_costs plan cert.ranks s e s' (is_skipped plan s e s' is_step)).calls held.jobs;
+  jobs = (skip_costs plan cert.ranks s e s' (is_skipped plan s e s' is_step)).calls held.jobs;
 }
 choice_held plan cert ordered laws s (Exchanges a t u) s' held is_step = record {
   java = choice_keeps plan cert ordered laws s (Exchanges a t u) s' held.java is_step;
@@ -51,10 +51,10 @@ choices_held plan cert ordered laws choices s reached =
 choice_pays : (plan : Plan) (cert : Cert) (s : JavaState) (x : Choice) (s' : JavaState) → HasValidBodies plan → CertLaws plan cert → JavaHeld plan cert s → JavaHeld plan cert s' → no_client_acts x ≡ true → choice_step plan s x ≡ Some s' → Pays plan cert (one_if (is_of_jobs x)) s s'
 choice_pays plan cert s (Acts e) s' ordered laws held held' of_no_client is_step = event_pays plan cert s e s' ordered laws held held' of_no_client is_step
 choice_pays plan cert s (Skips e) s' ordered laws held held' of_no_client is_step =
-    let left = left_costs plan cert.ranks s e s' (is_skipped plan s e s' is_step) in
+    let cost = skip_costs plan cert.ranks s e s' (is_skipped plan s e s' is_step) in
     ⊎_elim
-    (λ (counted : is_of_job_or_pool e ≡ true). omega (arith, ap one_if counted, left.costs counted))
-    (λ (is_end : ends_thread e ≡ true). absurd (false≢true (sym left.by_actor ∙ is_end)))
+    (λ (counted : is_of_job_or_pool e ≡ true). omega (arith, ap one_if counted, cost.costs counted))
+    (λ (is_end : ends_thread e ≡ true). absurd (false≢true (sym cost.by_actor ∙ is_end)))
     (no_client_cases e of_no_client)
 choice_pays plan cert s (Exchanges a t u) s' ordered laws held held' of_no_client is_step =
     subst (Pays plan cert 0 s) (is_exchange plan s a t u s' is_step).after (omega (arith, todo-exchanged plan cert.ranks s.machine a t u, calls_done-exchanged s a t u))

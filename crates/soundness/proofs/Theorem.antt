@@ -20,6 +20,7 @@ use Rattle.written_machine.proofs.LooseWaitingSets.{waiting_is_loose}
 use Rattle.written_machine.proofs.Reached.{replay_none, replay_keeps, reached_keeps}
 use Rattle.written_machine.proofs.Progress.{makes_progress}
 use Rattle.weights.specs.declared.bound.Bound.{Bound}
+use Rattle.weights.specs.Bound.{bound_vector, bound_get_return}
 use Rattle.weights.specs.declared.get_return.GetReturn.TheVariants.{DoneWeight}
 use Rattle.cert_text.specs.Cert.{Cert, pool_cert_at}
 use Rattle.soundness.proofs.NeverRises.{IsBalanced, balanced_start, never_rises, balanced_step}
@@ -30,13 +31,24 @@ use Rattle.soundness.proofs.Draining.{lowers, ends_thread, no_client_cases, not_
 use Rattle.soundness.specs.Accepted.{accepted}
 use Rattle.soundness.specs.Headline.{AcceptedPlansAreSafe, AcceptedPlansMakeProgress, AcceptedPlansDrain}
 use Rattle.soundness.proofs.CertLaws.{CertLaws, cert_laws}
-use Rattle.soundness.proofs.Bounded.{Bounded, bounded_start, bounded_step, keeps_sizes}
+use Rattle.soundness.proofs.Bounded.{BoundHolds, Bounded, BoundsHold, bounded_start, bounded_step, keeps_sizes}
+use Rattle.soundness.proofs.BoundLaws.{PoolBoundLaws, bound_vector_laws}
+use Rattle.soundness.proofs.RankLaws.{RankLaws}
+use Rattle.soundness.proofs.Walks.{rejected_are_light}
 
 -- ---- the invariants of the reachable states of an accepted plan
 
 -- the bound of pool p in the certificate
-abbrev pub bound_of : Cert → ℕ → Bound
+abbrev pub bound_of : Cert → ℕ → Option Bound
 bound_of cert p = (pool_cert_at cert p).bound
+
+bound_holds : (plan : Plan) (cert : Cert) (p : ℕ) (bound : Option Bound) → HasValidBodies plan → RankLaws plan cert.ranks → PoolBoundLaws plan p bound → BoundHolds plan p bound
+bound_holds plan cert p None ordered ranked laws = laws
+bound_holds plan cert p (Some bound) ordered ranked laws = (laws, rejected_are_light (bound_get_return bound) plan (bound_vector bound) cert.ranks ordered ranked (bound_vector_laws plan p bound laws))
+
+-- the bounds of an accepted certificate hold, and a rejected job increases no weight, because the rows of the ranks hold
+pub bounds_hold : (plan : Plan) (cert : Cert) → HasValidBodies plan → CertLaws plan cert → BoundsHold plan (bound_of cert)
+bounds_hold plan cert ordered laws p inside = bound_holds plan cert p (bound_of cert p) ordered laws.ranks (laws.bound p inside)
 
 -- a sound state: it satisfies the invariants for the bounds of the pools, and each blocked vector is balanced
 pub record Sound (plan : Plan) (cert : Cert) (s : State) : Type 0 where
@@ -53,10 +65,10 @@ sound_start plan cert ordered = record {
 -- the state after each event from a sound state is sound
 pub sound_step : (plan : Plan) (cert : Cert) (s s' : State) (o : Outcome) {e : Event} → HasValidBodies plan → CertLaws plan cert → Sound plan cert s → Happens plan s e s' o → Sound plan cert s'
 sound_step plan cert s s' o ordered laws sound happened = record {
-  bounded = bounded_step plan (bound_of cert) s s' o ordered laws.bound sound.bounded happened;
+  bounded = bounded_step plan (bound_of cert) s s' o ordered (bounds_hold plan cert ordered laws) sound.bounded happened;
   blocked = λ p inside.
       let v = (pool_cert_at cert p).blocked in
-      balanced_step DoneWeight plan v s s' (never_rises DoneWeight plan v s s' o ordered (laws.blocked p inside).laws sound.bounded.kept happened) (sound.blocked p inside);
+      balanced_step DoneWeight plan v s s' (never_rises DoneWeight plan v s s' o ordered (laws.blocked p inside).laws (rejected_are_light DoneWeight plan v cert.ranks ordered laws.ranks (laws.blocked p inside).laws) sound.bounded.kept happened) (sound.blocked p inside);
 }
 
 -- every reachable state is sound

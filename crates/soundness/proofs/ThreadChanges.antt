@@ -8,7 +8,7 @@ use Rattle.written_machine.specs.declared.event.Event.{Event}
 use Rattle.written_machine.specs.declared.event.Outcome.{Outcome}
 use Rattle.written_machine.specs.State.{Stage, State, CreatedJob, PoolPart, job_at, pool_part, pool_of, is_at, threads}
 use Rattle.written_machine.specs.Step.{point, with_position, new_job, moved_jobs}
-use Rattle.written_machine.proofs.Events.{with_part, Happens, works, starts, queues, is_refused, gets, finishes, loops, takes, retires}
+use Rattle.written_machine.proofs.Events.{with_part, Happens, works, starts, queues, is_refused, is_rejected, gets, finishes, loops, takes, retires}
 use Rattle.written_machine.proofs.Positions.{stage_of_standing, standing_made}
 use Rattle.written_machine.proofs.StateInvariant.{StateInvariant, busy_jobs}
 use Rattle.written_machine.proofs.Stages.{staged}
@@ -55,6 +55,16 @@ change_queues plan s a body i k part p stands same_idle =
     (omega (arith, busy_push_same plan jobs job p refl, busy-moved plan s a body i (i + 1) p stands))
     (omega (arith, made_jobs_push plan jobs job p, made_jobs-moved plan s a (i + 1) p))
 
+-- a skipped submit leaves the number of threads of each pool unchanged
+pub change_skipped : (plan : Plan) (s : State) (a : Parent) (body : List Action) (i k p : ℕ) → point plan s a ≡ Some (record { body = body; position = i })
+    → ThreadsChange plan s (moved_jobs a (i + 1) s ++ new_job k a i Stage.Done ∷ []) p (pool_part s p)
+change_skipped plan s a body i k p stands =
+    let jobs = moved_jobs a (i + 1) s in
+    let job = new_job k a i Stage.Done in
+    change_same plan s (jobs ++ job ∷ []) p (pool_part s p)
+    (omega (arith, busy_push_same plan jobs job p refl, busy-moved plan s a body i (i + 1) p stands))
+    (omega (arith, made_jobs_push plan jobs job p, made_jobs-moved plan s a (i + 1) p))
+
 -- the effect on a pool's threads if a get claims a done job
 change_gets : (plan : Plan) (s : State) (a : Parent) (body : List Action) (i j p : ℕ) → point plan s a ≡ Some (record { body = body; position = i }) → (job_at s j).stage ≡ Stage.Done
     → ThreadsChange plan s (staged (moved_jobs a (i + 1) s) j Stage.Claimed) p (pool_part s p)
@@ -86,7 +96,8 @@ threads_change plan s s' o kept (queues a body i k at at_core room) p inside =
     pools_with_part plan s q ((pool_part s q).queue ++ length s.jobs ∷ []) (pool_part s q).idle (ThreadsChange plan s jobs) kept.as_many
     (λ exists. change_queues plan s a body i k (record { queue = (pool_part s q).queue ++ length s.jobs ∷ []; idle = (pool_part s q).idle }) q at.stands refl)
     (λ r within other. change_queues plan s a body i k (pool_part s r) r at.stands refl) p inside
-threads_change plan s s' o kept (is_refused a body i k at no_room all_started) p inside = change_same plan s s.jobs p (pool_part s p) refl (omega arith)
+threads_change plan s s' o kept (is_refused a body i k at must no_room all_started) p inside = change_same plan s s.jobs p (pool_part s p) refl (omega arith)
+threads_change plan s s' o kept (is_rejected a body i k at may) p inside = change_skipped plan s a body i k p at.stands
 threads_change plan s s' o kept (gets a body i t j at is_child done) p inside = change_gets plan s a body i j p at.stands done
 threads_change plan s s' o kept (finishes j body i at) p inside =
     let q = pool_of plan (job_at s j).class in

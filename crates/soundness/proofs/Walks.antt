@@ -13,6 +13,7 @@ use Rattle.weights.specs.GetReturn.{returned_weight}
 use Rattle.weights.specs.Vector.{Vector, queued_weight, job_weight, done_weight}
 use Rattle.weights.specs.Ranks.{Ranks, level}
 use Rattle.soundness.specs.Skipping.{DoneWithinQueued}
+use Rattle.soundness.specs.WeightLaws.{RejectedAreLight}
 use Rattle.soundness.proofs.VectorLaws.{BodyLaws, VectorLaws, vector_laws}
 use Rattle.soundness.proofs.RankLaws.{RankLaws, rank_laws}
 
@@ -158,6 +159,10 @@ done_below get_return plan v ranks (suc n) k ordered ranked laws low inside =
 
 pub done-le-queued : (get_return : GetReturn) (plan : Plan) (v : Vector) (ranks : Ranks) (k : ℕ) → HasValidBodies plan → RankLaws plan ranks → VectorLaws get_return plan v → k < length plan.classes → done_weight plan v k ≤ queued_weight v k
 done-le-queued get_return plan v ranks k ordered ranked laws inside = done_below get_return plan v ranks (level ranks k + 1) k ordered ranked laws (omega arith) inside
+
+-- a rejected job does not increase a weight, because a done job weighs at most its queued weight
+pub rejected_are_light : (get_return : GetReturn) (plan : Plan) (v : Vector) (ranks : Ranks) → HasValidBodies plan → RankLaws plan ranks → VectorLaws get_return plan v → RejectedAreLight plan v
+rejected_are_light get_return plan v ranks ordered ranked laws k inside may = done-le-queued get_return plan v ranks k ordered ranked laws inside
 
 -- the submits of each body cover the done weights of their classes
 pub submits_cover_done : (get_return : GetReturn) (plan : Plan) (v : Vector) (ranks : Ranks) (k : ℕ) → HasValidBodies plan → RankLaws plan ranks → VectorLaws get_return plan v → SubmitsCoverDone plan v (class_at plan k).body

@@ -20,6 +20,7 @@ use Rattle.written_machine.proofs.InvariantStep.{kept_step}
 use Rattle.weights.specs.declared.get_return.GetReturn.{GetReturn}
 use Rattle.weights.specs.Vector.{Vector, workers_weight, total}
 use Rattle.soundness.specs.WeightedSum.{sum_of}
+use Rattle.soundness.specs.WeightLaws.{RejectedAreLight}
 use Rattle.soundness.proofs.VectorLaws.{VectorLaws}
 use Rattle.soundness.proofs.NeverRises as rises
 use Rattle.soundness.proofs.NeverRises.{workers_weight_of_jobs, actors_weight, busy_workers_weight, worker_weight, IsBalanced}
@@ -141,9 +142,9 @@ pub sum_of-le-total : (get_return : GetReturn) (plan : Plan) (v : Vector) (s : S
 sum_of-le-total get_return plan v s ordered kept balanced = omega (arith, sum_of_is get_return plan v s ordered kept)
 
 -- no event increases the weight of a state
-pub sum_never_rises : (get_return : GetReturn) (plan : Plan) (v : Vector) (s s' : State) (o : Outcome) {e : Event} → HasValidBodies plan → VectorLaws get_return plan v → StateInvariant plan s → Happens plan s e s' o → sum_of get_return plan v s' ≤ sum_of get_return plan v s
-sum_never_rises get_return plan v s s' o ordered laws kept happened =
+pub sum_never_rises : (get_return : GetReturn) (plan : Plan) (v : Vector) (s s' : State) (o : Outcome) {e : Event} → HasValidBodies plan → VectorLaws get_return plan v → RejectedAreLight plan v → StateInvariant plan s → Happens plan s e s' o → sum_of get_return plan v s' ≤ sum_of get_return plan v s
+sum_never_rises get_return plan v s s' o ordered laws light kept happened =
     let before = sum_of_is get_return plan v s ordered kept in
     let after = sum_of_is get_return plan v s' ordered (kept_step plan s s' o ordered kept happened) in
-    let no_heavier = rises.never_rises get_return plan v s s' o ordered laws kept happened in
+    let no_heavier = rises.never_rises get_return plan v s s' o ordered laws light kept happened in
     omega (arith, before, after, no_heavier)

@@ -1,5 +1,5 @@
 -- All conditions of a certificate, in order.
-use Rattle.std.specs.Prelude.{ℕ, nat_lt, List, ◌++◌, map, filter}
+use Rattle.std.specs.Prelude.{ℕ, nat_lt, List, [], ◌++◌, map, filter, Option, Some, None}
 use Rattle.std.specs.List.{flat_map, enumerate_from}
 use Rattle.job_bodies.specs.Plan.{Plan}
 use Rattle.weights.specs.declared.bound.Bound.{Bound}
@@ -26,10 +26,15 @@ abbrev pub bound_section : ℕ → Bound → Section
 bound_section p (Standing v) = section.Standing p
 bound_section p (Lifetime v) = section.Lifetime p
 
+-- the conditions of the bound of pool p; there are none if the pool has no bound, because it may reject jobs
+abbrev pub bound_conditions : Plan → ℕ → Option Bound → List Note
+bound_conditions plan p None = []
+bound_conditions plan p (Some bound) = in_section (bound_section p bound) (bound_rows plan p bound)
+
 -- the conditions of pool p: the conditions of its bound, and then the conditions of its blocked vector
 abbrev pub pool_conditions : Plan → Cert → ℕ → List Note
 pool_conditions plan cert p =
-    in_section (bound_section p (pool_cert_at cert p).bound) (bound_rows plan p (pool_cert_at cert p).bound)
+    bound_conditions plan p (pool_cert_at cert p).bound
     ++ in_section (section.Blocked p) (blocked_rows plan p (is_counted plan cert.ranks) (pool_cert_at cert p).blocked)
 
 -- all conditions of the certificate: the conditions of the ranks, and then the conditions of each pool

@@ -60,7 +60,7 @@ offers_job plan s a i k =
     else record s { offering = without_calls_of a s.offering; requesting = record { actor = a; pool = pool_of plan k } ∷ s.requesting }
 
 -- the state after the third step: if the pool has fewer than max threads, a new thread runs the job, and otherwise the job is
--- refused; this step does not check the queue, which may have room again
+-- refused, or the submit is skipped if the pool may reject jobs; this step does not check the queue, which may have room again
 abbrev pub requests_thread : Plan → JavaState → Parent → ℕ → ℕ → JavaState
 requests_thread plan s a i k = answers plan s a i k (if nat_lt (threads plan s.machine (pool_of plan k)) (pool_at plan (pool_of plan k)).max then Started else Refused)
 

@@ -1,5 +1,5 @@
 -- The guarantees of an accepted certificate for every reachable state of its plan.
-use Rattle.std.specs.Prelude.{◌≡◌, ◌≤◌, ◌<◌, ℕ, List, length, IsTrue, IsFalse}
+use Rattle.std.specs.Prelude.{◌≡◌, ◌≤◌, ◌<◌, ℕ, List, length, IsTrue, IsFalse, Option, Some, None}
 use Rattle.job_bodies.specs.Plan.{Plan, pool_at}
 use Rattle.job_bodies.specs.WellFormed.{IsWellFormed}
 use Rattle.written_machine.specs.declared.event.Event.{Event}
@@ -18,6 +18,7 @@ use Rattle.weights.specs.Vector.{Vector, vector_fits}
 use Rattle.weights.specs.Bound.{bound_vector, bound_rows}
 use Rattle.cert_text.specs.Cert.{Cert}
 use Rattle.soundness.specs.Accepted.{accepted}
+use Rattle.soundness.specs.WeightLaws.{RejectedAreLight}
 
 -- The guarantees of an accepted certificate for its plan: every reachable state is safe; in every reachable state with an
 -- unfinished job an event of a job or a take is possible; and the plan drains, that is, if no client acts, the number of job
@@ -49,6 +50,12 @@ AcceptedPlansMakeProgress = (plan : Plan) (cert : Cert) → IsWellFormed plan �
 abbrev pub AcceptedPlansDrain : Type 0
 AcceptedPlansDrain = (plan : Plan) (cert : Cert) → IsWellFormed plan → IsTrue (accepted plan cert) → Drains plan cert.ranks
 
+-- the bound of pool p is a standing or a lifetime vector whose rows hold and under which a rejected job does not increase the weight of a
+-- state; or there is none, and the pool may reject jobs
+abbrev pub HasBound : Plan → ℕ → Option Bound → Type 0
+HasBound plan p None = IsTrue (pool_at plan p).may_reject
+HasBound plan p (Some bound) = IsTrue (vector_fits plan (bound_vector bound)) × AllHold (bound_rows plan p bound) × RejectedAreLight plan (bound_vector bound)
+
 -- in the state, no submit was refused, no pool has more threads than its maximum, and no queue is longer than its capacity
 pub record KeepsSizes (plan : Plan) (s : State) : Type 0 where
   pub none_refused : s.refusals ≡ 0
@@ -59,11 +66,10 @@ pub record KeepsSizes (plan : Plan) (s : State) : Type 0 where
 abbrev pub RefusesNothing : Plan → Type 0
 RefusesNothing plan = (events : List Event) (s : State) → Reaches plan events s → KeepsSizes plan s
 
--- if each pool of a well-formed plan has a standing or a lifetime vector whose rows hold, no submit is refused in any reachable
--- state, whatever the jobs wait for
+-- if each pool of a well-formed plan has a bound, or may reject jobs, no submit is refused in any reachable state, whatever the jobs wait
+-- for
 abbrev pub BoundedPlansRefuseNothing : Type 0
-BoundedPlansRefuseNothing = (plan : Plan) (bounds : ℕ → Bound) → IsWellFormed plan
-    → ((p : ℕ) → p < length plan.pools → IsTrue (vector_fits plan (bound_vector (bounds p))) × AllHold (bound_rows plan p (bounds p))) → RefusesNothing plan
+BoundedPlansRefuseNothing = (plan : Plan) (bounds : ℕ → Option Bound) → IsWellFormed plan → ((p : ℕ) → p < length plan.pools → HasBound plan p (bounds p)) → RefusesNothing plan
 
 -- ---- submits in the steps of Java's execute
 
@@ -86,18 +92,16 @@ AcceptedPlansJavaDrain = (plan : Plan) (cert : Cert) → IsWellFormed plan → I
 abbrev pub JavaRefusesNothing : Plan → Type 0
 JavaRefusesNothing plan = (events : List Event) (s : JavaState) → JavaReaches plan events s → KeepsSizes plan s.machine
 
--- if each pool of a well-formed plan has a standing or a lifetime vector whose rows hold, no submit is refused in any state that
--- is reachable in Java's steps
+-- if each pool of a well-formed plan has a bound, or may reject jobs, no submit is refused in any state that is reachable in Java's steps
 abbrev pub BoundedPlansJavaRefuseNothing : Type 0
-BoundedPlansJavaRefuseNothing = (plan : Plan) (bounds : ℕ → Bound) → IsWellFormed plan
-    → ((p : ℕ) → p < length plan.pools → IsTrue (vector_fits plan (bound_vector (bounds p))) × AllHold (bound_rows plan p (bounds p))) → JavaRefusesNothing plan
+BoundedPlansJavaRefuseNothing = (plan : Plan) (bounds : ℕ → Option Bound) → IsWellFormed plan → ((p : ℕ) → p < length plan.pools → HasBound plan p (bounds p)) → JavaRefusesNothing plan
 
--- if each pool of a well-formed plan has a vector whose rows hold, and the vector of pool p is a standing one, no call ever finds
--- the queue of p full, so no call requests a thread above core from p
+-- if each pool of a well-formed plan has a bound, or may reject jobs, and the bound of pool p is a standing vector, no call ever finds the
+-- queue of p full, so no call requests a thread above core from p
 abbrev pub StandingPoolsAreNotAsked : Type 0
-StandingPoolsAreNotAsked = (plan : Plan) (bounds : ℕ → Bound) (p : ℕ) (v : Vector) (events : List Event) (s : JavaState) (a : Parent) → IsWellFormed plan
-    → ((q : ℕ) → q < length plan.pools → IsTrue (vector_fits plan (bound_vector (bounds q))) × AllHold (bound_rows plan q (bounds q)))
-    → p < length plan.pools → bounds p ≡ Standing v → JavaReaches plan events s → IsFalse (is_calling s.requesting a p)
+StandingPoolsAreNotAsked = (plan : Plan) (bounds : ℕ → Option Bound) (p : ℕ) (v : Vector) (events : List Event) (s : JavaState) (a : Parent) → IsWellFormed plan
+    → ((q : ℕ) → q < length plan.pools → HasBound plan q (bounds q))
+    → p < length plan.pools → bounds p ≡ Some (Standing v) → JavaReaches plan events s → IsFalse (is_calling s.requesting a p)
 
 -- ---- actors that skip submits together with their gets and exchange alike jobs
 

@@ -17,7 +17,7 @@ use Rattle.written_machine.specs.declared.event.Event.TheVariants as event
 use Rattle.written_machine.specs.declared.parent.Parent.{Parent}
 use Rattle.written_machine.specs.declared.parent.Parent.TheVariants as parent
 use Rattle.written_machine.specs.State.{Stage, State, job_at, pool_of, is_unfinished, child}
-use Rattle.written_machine.specs.Step.{point, with_stage, with_position, with_job, new_job}
+use Rattle.written_machine.specs.Step.{point, with_stage, with_position, skipped}
 use Rattle.written_machine.specs.Reach.{start}
 use Rattle.written_machine.specs.Safe.{IsSafe, is_of_job_or_pool}
 use Rattle.soundness.specs.Drain.{todo, is_of_no_client}
@@ -35,7 +35,7 @@ pub data Choice : Type 0 where
 -- the state after an actor skips a submit: the actor is after the submit, a get of the submit finds a new job that is done, and
 -- the pools are unchanged
 abbrev pub after_skip : State → Submission → State
-after_skip s x = with_job (new_job x.class x.actor x.position Stage.Done) (with_position x.actor (x.position + 1) s)
+after_skip s x = skipped s x.actor x.position x.class
 
 -- a call of the actor to the submit's pool is in progress, so the submit has begun
 abbrev pub has_begun : Plan → JavaState → Submission → Bool

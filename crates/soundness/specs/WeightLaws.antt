@@ -1,38 +1,43 @@
 -- The guarantees of a vector for every reachable state if the vector's rows hold.
-use Rattle.std.specs.Prelude.{◌≡◌, ◌≢◌, ◌≤◌, ℕ, IsTrue, Some}
-use Rattle.job_bodies.specs.Plan.{Plan}
+use Rattle.std.specs.Prelude.{◌≡◌, ◌≢◌, ◌≤◌, ◌<◌, ℕ, IsTrue, length, Some}
+use Rattle.job_bodies.specs.Plan.{Plan, pool_at}
 use Rattle.job_bodies.specs.WellFormed.{IsWellFormed}
 use Rattle.written_machine.specs.declared.event.Event.{Event}
 use Rattle.written_machine.specs.declared.event.Outcome.{Outcome}
 use Rattle.written_machine.specs.declared.event.Outcome.TheVariants.{Refused}
-use Rattle.written_machine.specs.State.{State}
+use Rattle.written_machine.specs.State.{State, pool_of}
 use Rattle.written_machine.specs.Step.{step}
 use Rattle.written_machine.specs.Reach.{IsReached}
 use Rattle.written_machine.specs.JobsMade.{jobs_made}
 use Rattle.weights.specs.declared.get_return.GetReturn.{GetReturn}
 use Rattle.weights.specs.declared.bound.Bound.{Bound}
 use Rattle.weights.specs.Row.{AllHold}
-use Rattle.weights.specs.Vector.{Vector, vector_fits, total}
+use Rattle.weights.specs.Vector.{Vector, vector_fits, queued_weight, done_weight, total}
 use Rattle.weights.specs.Rows.{rows}
 use Rattle.weights.specs.Lifetime.{lifetime_rows}
 use Rattle.weights.specs.Bound.{bound_vector, bound_rows}
 use Rattle.soundness.specs.WeightedSum.{sum_of}
 
+-- in each class of a pool that may reject jobs, a done job weighs at most as much as a queued job, so a rejected job does not increase the
+-- weight of a state. This holds if no pool may reject jobs, and also if the rows of some ranks hold.
+abbrev pub RejectedAreLight : Plan → Vector → Type 0
+RejectedAreLight plan v = (k : ℕ) → k < length plan.classes → IsTrue (pool_at plan (pool_of plan k)).may_reject → done_weight plan v k ≤ queued_weight v k
+
 -- if the rows of a vector hold, no event increases the weight of a reachable state
 abbrev pub SumNeverRises : Type 0
-SumNeverRises = (get_return : GetReturn) (plan : Plan) (v : Vector) (s s' : State) (event : Event) (outcome : Outcome) → IsWellFormed plan → AllHold (rows get_return plan v) → IsReached plan s → step plan s event ≡ Some (s', outcome)
+SumNeverRises = (get_return : GetReturn) (plan : Plan) (v : Vector) (s s' : State) (event : Event) (outcome : Outcome) → IsWellFormed plan → AllHold (rows get_return plan v) → RejectedAreLight plan v → IsReached plan s → step plan s event ≡ Some (s', outcome)
     → sum_of get_return plan v s' ≤ sum_of get_return plan v s
 
 -- if the rows of a vector hold, the weight of every reachable state is at most the vector's total
 abbrev pub SumStaysWithinTotal : Type 0
-SumStaysWithinTotal = (get_return : GetReturn) (plan : Plan) (v : Vector) (s : State) → IsWellFormed plan → AllHold (rows get_return plan v) → IsReached plan s → sum_of get_return plan v s ≤ total plan v
+SumStaysWithinTotal = (get_return : GetReturn) (plan : Plan) (v : Vector) (s : State) → IsWellFormed plan → AllHold (rows get_return plan v) → RejectedAreLight plan v → IsReached plan s → sum_of get_return plan v s ≤ total plan v
 
 -- a pool that has a standing or a lifetime vector whose rows hold refuses no job in any reachable state, whatever the other pools
 -- do
 abbrev pub BoundsRefuseNothing : Type 0
-BoundsRefuseNothing = (plan : Plan) (p : ℕ) (bound : Bound) (s s' : State) (event : Event) → IsWellFormed plan → IsTrue (vector_fits plan (bound_vector bound)) → AllHold (bound_rows plan p bound) → IsReached plan s
+BoundsRefuseNothing = (plan : Plan) (p : ℕ) (bound : Bound) (s s' : State) (event : Event) → IsWellFormed plan → IsTrue (vector_fits plan (bound_vector bound)) → AllHold (bound_rows plan p bound) → RejectedAreLight plan (bound_vector bound) → IsReached plan s
     → step plan s event ≢ Some (s', Refused p)
 
 -- if the rows of a pool's lifetime vector hold, the number of jobs ever submitted to the pool is at most the vector's total
 abbrev pub JobsStayWithinTotal : Type 0
-JobsStayWithinTotal = (plan : Plan) (p : ℕ) (v : Vector) (s : State) → IsWellFormed plan → IsTrue (vector_fits plan v) → AllHold (lifetime_rows plan p v) → IsReached plan s → jobs_made plan s p ≤ total plan v
+JobsStayWithinTotal = (plan : Plan) (p : ℕ) (v : Vector) (s : State) → IsWellFormed plan → IsTrue (vector_fits plan v) → AllHold (lifetime_rows plan p v) → RejectedAreLight plan v → IsReached plan s → jobs_made plan s p ≤ total plan v

@@ -3,7 +3,8 @@
 //! A *take* is the event in which a worker takes a job from a queue. The *remaining work* of a job
 //! is the number of job events and takes that are left until it and all jobs that it will submit
 //! are done. A *standing* or *lifetime* vector bounds the queue of a pool, and its *rows* are the
-//! conditions on it.
+//! conditions on it. A submit that a pool rejects because the plan allows it does not count as
+//! refused: it is skipped together with its get.
 
 ghost use Rattle.soundness.specs.Headline.{
   AcceptedPlansAreSafe,
@@ -40,8 +41,10 @@ pub fn accepted_plans_drain()
 {}
 
 /// Proves that a well-formed plan refuses nothing if each pool has a standing or a lifetime vector
-/// whose rows hold. No reachable state then has a refused submit, a pool with more threads than its
-/// maximum, or a queue longer than its capacity. No ranks and no blocked vectors are needed.
+/// whose rows hold, or may reject jobs. No reachable state then has a refused submit, a pool with
+/// more threads than its maximum, or a queue longer than its capacity. No ranks and no blocked
+/// vectors are needed. If a pool may reject jobs, a done job of its classes must weigh at most as
+/// much as a queued one in each of these vectors.
 pub fn bounded_plans_refuse_nothing()
     ensures { BoundedPlansRefuseNothing }
 {}
@@ -69,16 +72,18 @@ pub fn accepted_plans_java_drain()
 {}
 
 /// Proves that a well-formed plan refuses nothing if each pool has a standing or a lifetime vector
-/// whose rows hold, even if a submit takes the separate steps of Java's `execute`. No reachable
-/// state then has a refused submit, a pool with more threads than its maximum, or a queue longer
-/// than its capacity.
+/// whose rows hold, or may reject jobs, even if a submit takes the separate steps of Java's
+/// `execute`. No reachable state then has a refused submit, a pool with more threads than its
+/// maximum, or a queue longer than its capacity. The condition on done jobs is that of
+/// [`bounded_plans_refuse_nothing`].
 pub fn bounded_plans_java_refuse_nothing()
     ensures { BoundedPlansJavaRefuseNothing }
 {}
 
 /// Proves that no call of Java's `execute` ever finds a full queue in a pool with a standing
 /// vector. So no call requests a thread above core from this pool. The plan must be well-formed,
-/// and each of its pools must have a standing or a lifetime vector whose rows hold.
+/// and each of its pools must have a standing or a lifetime vector whose rows hold, or may reject
+/// jobs. The condition on done jobs is that of [`bounded_plans_refuse_nothing`].
 pub fn standing_pools_are_not_asked()
     ensures { StandingPoolsAreNotAsked }
 {}

@@ -2,6 +2,10 @@
 //! point of a plan, and its *rows* are the conditions on these weights. The weight of a state is
 //! the sum of the weights of its clients, of its jobs, and of the workers that are not busy, if
 //! each pool has its maximum of workers.
+//!
+//! If a pool may reject jobs, the laws require that a done job of its classes weighs at most as much
+//! as a queued one. [`done_within_queued`](crate::done_within_queued) gives this condition from the
+//! ranks.
 
 ghost use Rattle.soundness.specs.WeightLaws.{SumNeverRises, SumStaysWithinTotal, BoundsRefuseNothing, JobsStayWithinTotal};
 

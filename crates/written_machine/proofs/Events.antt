@@ -1,5 +1,5 @@
 -- A relation with one rule for each kind of step, and the proof that every step satisfies this relation.
-use Rattle.std.proofs.Common.{◌≡◌, ℕ, suc, ◌+◌, ◌<◌, ◌≤◌, ◌⊎◌, inl, inr, ⊎_elim, List, [], ◌∷◌, ◌++◌, length, true, Option, Some, None, refl, sym, subst}
+use Rattle.std.proofs.Common.{◌≡◌, ℕ, suc, ◌+◌, ◌<◌, ◌≤◌, ◌⊎◌, inl, inr, ⊎_elim, List, [], ◌∷◌, ◌++◌, length, Bool, true, false, cond, Option, Some, None, refl, sym, subst}
 use Rattle.std.specs.List.{slice_get, slice_set}
 use Rattle.std.proofs.lemmas.Option.{none-some, same_Some, cond_some}
 use Rattle.job_bodies.specs.declared.action.Action.{Action}
@@ -17,7 +17,7 @@ use Rattle.written_machine.specs.declared.event.Event.TheVariants as event
 use Rattle.written_machine.specs.declared.event.Outcome.{Outcome}
 use Rattle.written_machine.specs.declared.event.Outcome.TheVariants as outcome
 use Rattle.written_machine.specs.State.{Stage, State, job_at, pool_part, pool_of, pool_seen, threads, child}
-use Rattle.written_machine.specs.Step.{Point, point, with_stage, with_position, with_job, new_job, finished_job, answered, got, got_child, looped, step_action, step_at_point, take_head, retire_worker, step}
+use Rattle.written_machine.specs.Step.{Point, point, with_stage, with_position, with_job, new_job, skipped, finished_job, answered, got, got_child, looped, step_action, step_at_point, take_head, retire_worker, step}
 
 -- the actor is at position i of this body, and `there` is the action at i, or None at the end of the body
 pub record IsAtAction (plan : Plan) (s : State) (a : Parent) (body : List Action) (i : ℕ) (there : Option Action) : Type 0 where
@@ -39,6 +39,7 @@ abbrev pub event_of : Parent → Event
 event_of (parent.Client c) = event.Client c
 event_of (parent.Job j) = event.Job j
 
+-- a rejection does not require a full pool here, because in Java's steps the pool may have room again
 pub data Happens (plan : Plan) (s : State) : Event → State → Outcome → Type 0 where
   works : (a : Parent) (body : List Action) (i u : ℕ) → IsAtAction plan s a body i (Some (action.Work u))
       → Happens plan s (event_of a) (with_position a (i + 1) s) (outcome.Worked u)
@@ -50,9 +51,13 @@ pub data Happens (plan : Plan) (s : State) : Event → State → Outcome → Typ
       → length (pool_part s (pool_of plan k)).queue < (pool_at plan (pool_of plan k)).queue
       → Happens plan s (event_of a) (queued_state plan s a i k) (outcome.Queued (length s.jobs))
   is_refused : (a : Parent) (body : List Action) (i k : ℕ) → IsAtAction plan s a body i (Some (action.Submit k))
+      → (pool_at plan (pool_of plan k)).may_reject ≡ false
       → (pool_at plan (pool_of plan k)).queue ≤ length (pool_part s (pool_of plan k)).queue
       → (pool_at plan (pool_of plan k)).max ≤ threads plan s (pool_of plan k)
       → Happens plan s (event_of a) (record s { refusals = s.refusals + 1 }) (outcome.Refused (pool_of plan k))
+  is_rejected : (a : Parent) (body : List Action) (i k : ℕ) → IsAtAction plan s a body i (Some (action.Submit k))
+      → (pool_at plan (pool_of plan k)).may_reject ≡ true
+      → Happens plan s (event_of a) (skipped s a i k) (outcome.Rejected (pool_of plan k) (length s.jobs))
   gets : (a : Parent) (body : List Action) (i t j : ℕ) → IsAtAction plan s a body i (Some (action.Get t)) → child s a t ≡ Some j → (job_at s j).stage ≡ Stage.Done
       → Happens plan s (event_of a) (with_stage j Stage.Claimed (with_position a (i + 1) s)) (outcome.Got j)
   finishes : (j : ℕ) (body : List Action) (i : ℕ) → IsAtAction plan s (parent.Job j) body i None
@@ -70,6 +75,14 @@ pub data Happens (plan : Plan) (s : State) : Event → State → Outcome → Typ
 same_outcome : (plan : Plan) (s : State) (e : Event) (x : State × Outcome) (s' : State) (o : Outcome) → Some x ≡ Some (s', o) → Happens plan s e x.0 x.1 → Happens plan s e s' o
 same_outcome plan s e x s' o same happened = subst (λ (y : State × Outcome). Happens plan s e y.0 y.1) (same_Some x (s', o) same) happened
 
+-- a submit to a full pool satisfies the relation, whether or not the pool may reject jobs
+full_happens : (plan : Plan) (s : State) (a : Parent) (body : List Action) (i k : ℕ) → IsAtAction plan s a body i (Some (action.Submit k))
+    → (pool_at plan (pool_of plan k)).queue ≤ length (pool_part s (pool_of plan k)).queue → (pool_at plan (pool_of plan k)).max ≤ threads plan s (pool_of plan k)
+    → (may : Bool) → (pool_at plan (pool_of plan k)).may_reject ≡ may
+    → let x : State × Outcome = cond may (skipped s a i k, outcome.Rejected (pool_of plan k) (length s.jobs)) (record s { refusals = s.refusals + 1 }, outcome.Refused (pool_of plan k)) in Happens plan s (event_of a) x.0 x.1
+full_happens plan s a body i k at no_room all_started true may = is_rejected a body i k at may
+full_happens plan s a body i k at no_room all_started false may = is_refused a body i k at may no_room all_started
+
 -- a submit satisfies the relation, for each answer of the pool
 answered_happens : (plan : Plan) (s : State) (a : Parent) (body : List Action) (i k : ℕ) → IsAtAction plan s a body i (Some (action.Submit k)) → (given : Offer) → answer (pool_seen plan s (pool_of plan k)) ≡ given
     → Happens plan s (event_of a) (answered plan s a i k given).0 (answered plan s a i k given).1
@@ -79,7 +92,7 @@ answered_happens plan s a body i k at offer.Queued e =
     queues a body i k at room.0 room.1
 answered_happens plan s a body i k at offer.Refused e =
     let full = refused_when_full (pool_seen plan s (pool_of plan k)) e in
-    is_refused a body i k at full.0 full.1
+    full_happens plan s a body i k at full.0 full.1 (pool_at plan (pool_of plan k)).may_reject refl
 
 got_happens : (plan : Plan) (s : State) (a : Parent) (body : List Action) (i t j : ℕ) → IsAtAction plan s a body i (Some (action.Get t)) → child s a t ≡ Some j → (stage : Stage) → (job_at s j).stage ≡ stage
     → (s' : State) (o : Outcome) → got s a i j stage ≡ Some (s', o) → Happens plan s (event_of a) s' o

@@ -14,7 +14,7 @@ use Rattle.written_machine.specs.State.{Stage, State, CreatedJob, job_at, pool_p
 use Rattle.written_machine.specs.Step.{with_stage, with_position, with_job, new_job, finished_job}
 use Rattle.written_machine.specs.Waiting.{IsMember, WaitsAtGet, WaitsAtStage, IsWaitingSet}
 use Rattle.written_machine.specs.FullWaitingSets.{WhereMembersQueue, IsFull, IsFixed, IsFullWaitingSet, StaysFull}
-use Rattle.written_machine.proofs.Events.{IsAtAction, with_part, Happens, works, starts, queues, is_refused, gets, finishes, loops, takes, retires}
+use Rattle.written_machine.proofs.Events.{IsAtAction, with_part, Happens, works, starts, queues, is_refused, is_rejected, gets, finishes, loops, takes, retires}
 use Rattle.written_machine.proofs.Positions.{stage_of_standing, standing_made, job_made}
 use Rattle.written_machine.proofs.StateInvariant.{StateInvariant}
 use Rattle.written_machine.proofs.Stages.{length-moved}
@@ -178,7 +178,8 @@ module _ (plan : Plan) (s : State) (members : List ℕ) (ordered : HasValidBodie
       let queue = (pool_part s q).queue ++ length s.jobs ∷ [] in
       leaves_twice plan members among s made s' (leaves_submit a body i k Stage.Queued at (λ p is_among. refl))
       (leaves-part plan members among made q queue (pool_part s q).idle (λ p is_among. idle_as_before s.pools q queue p))
-  leaves s' o (is_refused a body i k at no_room all_started) = leaves-clients plan members among s s.clients (s.refusals + 1)
+  leaves s' o (is_refused a body i k at must no_room all_started) = leaves-clients plan members among s s.clients (s.refusals + 1)
+  leaves s' o (is_rejected a body i k at may) = leaves_submit a body i k Stage.Done at (λ p is_among. refl)
   leaves s' o (gets a body i t j at is_child done) = leaves_gets a body i t j at is_child done
   leaves s' o (finishes j body i at) = leaves_finishes j body i at
   leaves s' o (loops c client body i at is_client repeats) = leaves_acts (parent.Client c) body i 0 None at (λ t same. cc)

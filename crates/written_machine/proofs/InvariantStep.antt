@@ -11,7 +11,7 @@ use Rattle.written_machine.specs.declared.event.Event.{Event}
 use Rattle.written_machine.specs.declared.event.Outcome.{Outcome}
 use Rattle.written_machine.specs.State.{Stage, State, CreatedJob, job_at, pool_part, pool_of, is_at, is_queued, threads, child}
 use Rattle.written_machine.specs.Step.{with_stage, with_position, moved_jobs, finished_job}
-use Rattle.written_machine.proofs.Events.{IsAtAction, with_part, Happens, works, starts, queues, is_refused, gets, finishes, loops, takes, retires}
+use Rattle.written_machine.proofs.Events.{IsAtAction, with_part, Happens, works, starts, queues, is_refused, is_rejected, gets, finishes, loops, takes, retires}
 use Rattle.written_machine.proofs.Positions.{At≢Claimed, stage_of_standing, standing_made, job_at-with_position, valid_point}
 use Rattle.written_machine.proofs.StateInvariant.{ActorInvariant, PoolInvariant, StateInvariant, places, busy_jobs}
 use Rattle.written_machine.proofs.Stages.{staged, classes_staged, classes_moved, parents_staged, parents_moved}
@@ -20,7 +20,7 @@ use Rattle.written_machine.proofs.Busy.{one_if, busy_in-as, busy-staged_same, bu
 use Rattle.written_machine.proofs.PoolInvariants.{same_pool, taken_pool, finished_pool, retired_pool, HasPoolInvariant, pools_with_part}
 use Rattle.written_machine.proofs.Actors.{IsAtPosition, point_same, same_position, standing-moved, standing-staged}
 use Rattle.written_machine.proofs.ActorInvariants.{actor_begins, actor_passes, actor_staged, actor_gets, other_gets}
-use Rattle.written_machine.proofs.InvariantSubmits.{kept_moved, kept_starts, kept_queues}
+use Rattle.written_machine.proofs.InvariantSubmits.{kept_moved, kept_starts, kept_queues, kept_skips}
 
 -- a claimed job is not at a position
 claimed_nowhere : (n : ℕ) → Stage.Claimed ≢ Stage.At n
@@ -143,7 +143,8 @@ pub kept_step : (plan : Plan) (s s' : State) (o : Outcome) {e : Event} → HasVa
 kept_step plan s s' o ordered kept (works a body i u at) = kept_works plan s a body i u ordered kept at
 kept_step plan s s' o ordered kept (starts a body i k at below) = kept_starts plan s a body i k ordered kept at below
 kept_step plan s s' o ordered kept (queues a body i k at at_core room) = kept_queues plan s a body i k ordered kept at at_core room
-kept_step plan s s' o ordered kept (is_refused a body i k at no_room all_started) = kept_refuses plan s kept
+kept_step plan s s' o ordered kept (is_refused a body i k at must no_room all_started) = kept_refuses plan s kept
+kept_step plan s s' o ordered kept (is_rejected a body i k at may) = kept_skips plan s a body i k ordered kept at
 kept_step plan s s' o ordered kept (gets a body i t j at is_child done) = kept_gets plan s a body i t j ordered kept at is_child done
 kept_step plan s s' o ordered kept (finishes j body i at) = kept_finishes plan s j body i kept at
 kept_step plan s s' o ordered kept (loops c client body i at is_client repeats) = kept_moved plan s (parent.Client c) body i 0 kept at.stands (actor_begins s.jobs (parent.Client c) body)

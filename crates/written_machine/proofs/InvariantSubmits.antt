@@ -10,13 +10,13 @@ use Rattle.job_bodies.specs.ValidBody.{IsValidBody}
 use Rattle.job_bodies.proofs.Bodies.{HasValidBodies}
 use Rattle.written_machine.specs.declared.parent.Parent.{Parent}
 use Rattle.written_machine.specs.State.{Stage, State, PoolPart, pool_part, pool_of, threads}
-use Rattle.written_machine.specs.Step.{with_position, with_job, new_job, moved_jobs}
+use Rattle.written_machine.specs.Step.{with_position, with_job, new_job, skipped, moved_jobs}
 use Rattle.written_machine.proofs.Events.{IsAtAction, with_part, queued_state}
 use Rattle.written_machine.proofs.Positions.{At≢Claimed, valid_point}
 use Rattle.written_machine.proofs.StateInvariant.{ActorInvariant, StateInvariant, places, busy_jobs}
 use Rattle.written_machine.proofs.Stages.{length-moved, classes_moved, classes_pushed, parents_moved, parents_pushed}
 use Rattle.written_machine.proofs.Queues.{Queued≢Claimed, places-moved, places_push, places_push_same}
-use Rattle.written_machine.proofs.Busy.{busy-moved, busy_push}
+use Rattle.written_machine.proofs.Busy.{busy-moved, busy_push, busy_push_same}
 use Rattle.written_machine.proofs.PoolInvariants.{same_pool, started_pool, queued_pool, HasPoolInvariant, pools_with_part}
 use Rattle.written_machine.proofs.Actors.{IsAtPosition, point_same, same_position, standing-moved, standing-pushed}
 use Rattle.written_machine.proofs.ActorInvariants.{is_after, actor_begins, actor_moved, actor_submits, other_submits}
@@ -129,4 +129,28 @@ kept_queues plan s a body i k ordered kept at at_core room =
       as_many = length-set s.pools q (record { queue = queue; idle = idle }) ∙ kept.as_many;
       pools = pools_with_part plan made q queue idle (HasPoolInvariant plan made.jobs) kept.as_many (λ exists. queued_here plan s a body i k kept at exists at_core room) (queued_elsewhere plan s a body i k kept at);
       actors = λ b body' n now. made_actors plan s a body i k Stage.Queued kept at (Queued≢Claimed refl) queued_nowhere b body' n (sym (point_same plan made (with_part q queue idle made) b refl refl) ∙ now);
+    }
+
+-- ---- an actor skipped a submit
+
+done_unclaimed : Stage.Done ≢ Stage.Claimed
+done_unclaimed e = cc
+
+done_nowhere : (n : ℕ) → Stage.Done ≡ Stage.At n → n ≡ 0
+done_nowhere n e = absurd cc
+
+-- a skipped submit preserves the invariant, because the new job is neither queued nor running
+pub kept_skips : (plan : Plan) (s : State) (a : Parent) (body : List Action) (i k : ℕ) → HasValidBodies plan → StateInvariant plan s → IsAtAction plan s a body i (Some (action.Submit k)) → StateInvariant plan (skipped s a i k)
+kept_skips plan s a body i k ordered kept at =
+    let jobs = moved_jobs a (i + 1) s in
+    let job = new_job k a i Stage.Done in
+    record {
+      classes = classes_pushed (length plan.classes) jobs job (classes_moved (length plan.classes) s a (i + 1) kept.classes) (class_exists plan s a body i k ordered at);
+      parents = parents_pushed jobs job (parents_moved s a (i + 1) kept.parents) (is_after plan s a body i (i + 1) at.stands);
+      as_many = kept.as_many;
+      pools = λ p inside. same_pool (pool_at plan p) (pool_part s p) (pool_part s p) (places plan s.jobs p) (places plan (jobs ++ job ∷ []) p) (busy_jobs plan s.jobs p) (busy_jobs plan (jobs ++ job ∷ []) p) refl
+          (places_push_same plan jobs job p refl ∙ places-moved plan s a body i (i + 1) p at.stands)
+          (busy_push_same plan jobs job p refl ∙ busy-moved plan s a body i (i + 1) p at.stands)
+          (kept.pools p inside);
+      actors = made_actors plan s a body i k Stage.Done kept at done_unclaimed done_nowhere;
     }

@@ -6,6 +6,7 @@ use Rattle.std.proofs.lemmas.Bool.{eq-eqb, and_left}
 use Rattle.std.proofs.lemmas.List.{length_push}
 use Rattle.std.proofs.lemmas.List.Sums.{sum_by_push}
 use Rattle.job_bodies.specs.declared.action.Action.{Action}
+use Rattle.job_bodies.specs.declared.action.Action.TheVariants as action
 use Rattle.job_bodies.specs.Plan.{Plan, pool_at, first_workers}
 use Rattle.job_bodies.proofs.Bodies.{HasValidBodies}
 use Rattle.written_machine.specs.declared.parent.Parent.{Parent}
@@ -14,10 +15,10 @@ use Rattle.written_machine.specs.declared.event.Event.{Event}
 use Rattle.written_machine.specs.declared.event.Outcome.{Outcome}
 use Rattle.written_machine.specs.declared.event.Outcome.TheVariants as outcome
 use Rattle.written_machine.specs.State.{Stage, State, CreatedJob, PoolPart, job_at, pool_part, pool_of, is_at, is_busy_in, threads}
-use Rattle.written_machine.specs.Step.{point, with_stage, with_position, with_job, new_job, moved_jobs, finished_job}
+use Rattle.written_machine.specs.Step.{point, with_stage, with_position, with_job, new_job, skipped, moved_jobs, finished_job}
 use Rattle.written_machine.specs.Reach.{start}
 use Rattle.written_machine.specs.JobsMade.{is_of_pool, HasJobs}
-use Rattle.written_machine.proofs.Events.{IsAtAction, with_part, Happens, works, starts, queues, is_refused, gets, finishes, loops, takes, retires}
+use Rattle.written_machine.proofs.Events.{IsAtAction, with_part, Happens, works, starts, queues, is_refused, is_rejected, gets, finishes, loops, takes, retires}
 use Rattle.written_machine.proofs.Positions.{stage_of_standing, standing_made}
 use Rattle.written_machine.proofs.StateInvariant.{StateInvariant, busy_jobs}
 use Rattle.written_machine.proofs.Stages.{staged, count-staged}
@@ -96,6 +97,14 @@ have_jobs_queues plan s job n as_many waits have =
     not_busy : (p : ℕ) → is_busy_in plan p job ≡ false
     not_busy p = and_left (is_at job.stage) (eqb (pool_of plan job.class) p) waits
 
+-- a skipped submit preserves the bound on threads and queued jobs, because the new job does not run
+pub have_jobs_skips : (plan : Plan) (s : State) (a : Parent) (body : List Action) (i k : ℕ) → HaveJobs plan s → IsAtAction plan s a body i (Some (action.Submit k)) → HaveJobs plan (skipped s a i k)
+have_jobs_skips plan s a body i k have at p inside =
+    let had = have_jobs_moved plan s a body i (i + 1) have at.stands p inside in
+    let jobs = moved_jobs a (i + 1) s in
+    let job = new_job k a i Stage.Done in
+    omega (arith, busy_push_same plan jobs job p refl, made_jobs_push plan jobs job p)
+
 -- a new stage of job j of pool q, with a new queue and new idle workers of q, preserves the bound on threads and queued jobs if the bound
 -- holds for q afterwards
 have_jobs_worker : (plan : Plan) (s : State) (j : ℕ) (stage : Stage) (q : ℕ) (queue : List ℕ) (idle : ℕ) → length s.pools ≡ length plan.pools → j < length s.jobs → pool_of plan (job_at s j).class ≡ q
@@ -140,7 +149,8 @@ have_jobs_step plan s s' o kept have (starts a body i k at below) =
     have_jobs_starts plan (with_position a (i + 1) s) (new_job k a i (Stage.At 0)) refl (have_jobs_moved plan s a body i (i + 1) have at.stands)
 have_jobs_step plan s s' o kept have (queues a body i k at at_core room) =
     have_jobs_queues plan (with_position a (i + 1) s) (new_job k a i Stage.Queued) (length s.jobs) kept.as_many refl (have_jobs_moved plan s a body i (i + 1) have at.stands)
-have_jobs_step plan s s' o kept have (is_refused a body i k at no_room all_started) = have
+have_jobs_step plan s s' o kept have (is_refused a body i k at must no_room all_started) = have
+have_jobs_step plan s s' o kept have (is_rejected a body i k at may) = have_jobs_skips plan s a body i k have at
 have_jobs_step plan s s' o kept have (gets a body i t j at is_child done) = have_jobs_gets plan s a body i j have at.stands done
 have_jobs_step plan s s' o kept have (finishes j body i at) = have_jobs_finishes plan s j body i kept have at
 have_jobs_step plan s s' o kept have (loops c client body i at is_client repeats) = have_jobs_moved plan s (parent.Client c) body i 0 have at.stands
@@ -153,4 +163,4 @@ have_jobs_step plan s s' o kept have (retires p idle is_idle above_core) =
 -- a pool that refuses a job has a full queue and its maximum of threads
 pub refused_when : (plan : Plan) (s s' : State) (p : ℕ) {e : Event} → HasValidBodies plan → Happens plan s e s' (outcome.Refused p)
     → (p < length plan.pools) × ((pool_at plan p).queue ≤ length (pool_part s p).queue) × ((pool_at plan p).max ≤ threads plan s p)
-refused_when plan s s' p ordered (is_refused a body i k at no_room all_started) = (ordered.pools k (class_exists plan s a body i k ordered at), no_room, all_started)
+refused_when plan s s' p ordered (is_refused a body i k at must no_room all_started) = (ordered.pools k (class_exists plan s a body i k ordered at), no_room, all_started)

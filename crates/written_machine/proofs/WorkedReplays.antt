@@ -8,7 +8,7 @@ use Rattle.job_bodies.specs.Plan.{Plan, Pool, Class, Client}
 use Rattle.written_machine.specs.declared.event.Event.{Event}
 use Rattle.written_machine.specs.declared.event.Event.TheVariants as event
 use Rattle.written_machine.specs.declared.event.Outcome.{Outcome}
-use Rattle.written_machine.specs.declared.event.Outcome.TheVariants.{Started, Queued, Refused, Worked, Got, Looped, Finished, Took, Retired}
+use Rattle.written_machine.specs.declared.event.Outcome.TheVariants.{Started, Queued, Refused, Rejected, Worked, Got, Looped, Finished, Took, Retired}
 use Rattle.written_machine.specs.State.{State, is_unfinished}
 use Rattle.written_machine.specs.Reach.{start, replay, outcomes}
 use Rattle.written_machine.specs.Waiting.{is_waiting_set}
@@ -16,11 +16,15 @@ use Rattle.written_machine.specs.Waiting.{is_waiting_set}
 -- ---- the plans
 
 abbrev pool_of_sizes : ℕ → ℕ → ℕ → ℕ → Pool
-pool_of_sizes letter core max queue = record { name = letter ∷ []; core = core; max = max; queue = queue; prestart = false }
+pool_of_sizes letter core max queue = record { name = letter ∷ []; core = core; max = max; queue = queue; prestart = false; may_reject = false }
 
 -- the plan with all pools prestarted
 abbrev prestarted : Plan → Plan
 prestarted plan = record plan { pools = map (λ (pool : Pool). record pool { prestart = true }) plan.pools }
+
+-- the plan with all pools marked as pools that may reject jobs
+abbrev rejecting : Plan → Plan
+rejecting plan = record plan { pools = map (λ (pool : Pool). record pool { may_reject = true }) plan.pools }
 
 abbrev class_in : ℕ → List Action → Class
 class_in pool body = record { name = 97 ∷ []; pool = pool; body = body }
@@ -112,6 +116,15 @@ stuck_for_now-events = nested_one_worker-events ++ event.Client 1 ∷ event.Job 
 pub two_clients_refused : outcomes_from_start (one_pool 1 1 1 2) two_clients_refused-events
     ≡ Some (Started 0) ∷ Some (Worked 1) ∷ Some (Finished 0) ∷ Some (Got 0) ∷ Some Looped ∷ Some (Queued 1) ∷ Some (Refused 0) ∷ []
 two_clients_refused = refl
+
+-- if the pool may reject jobs, the seventh event is rejected instead, and the get of the submit returns at once
+pub two_clients_rejected : outcomes_from_start (rejecting (one_pool 1 1 1 2)) (two_clients_refused-events ++ event.Client 1 ∷ [])
+    ≡ Some (Started 0) ∷ Some (Worked 1) ∷ Some (Finished 0) ∷ Some (Got 0) ∷ Some Looped ∷ Some (Queued 1) ∷ Some (Rejected 0 2) ∷ Some (Got 2) ∷ []
+two_clients_rejected = refl
+
+-- a rejected job does not count as a refusal, and is not unfinished
+pub two_clients_rejected-ends : after (rejecting (one_pool 1 1 1 2)) two_clients_refused-events ends ≡ Some (0, 1)
+two_clients_rejected-ends = refl
 
 -- the only worker runs a job that waits for a queued job
 pub nested_one_worker : outcomes_from_start (nested 1 1 5) (nested_one_worker-events ++ event.Take 0 ∷ []) ≡ Some (Started 0) ∷ Some (Queued 1) ∷ None ∷ []

@@ -3,7 +3,7 @@ use Rattle.std.specs.Prelude.{ℕ, ◌+◌, List, [], ◌∷◌, ◌++◌, lengt
 use Rattle.std.specs.Option.{option_map}
 use Rattle.job_bodies.specs.declared.action.Action.{Action}
 use Rattle.job_bodies.specs.declared.action.Action.TheVariants.{Work, Submit, Get}
-use Rattle.job_bodies.specs.Plan.{Plan, class_at, client_at}
+use Rattle.job_bodies.specs.Plan.{Plan, pool_at, class_at, client_at}
 use Rattle.pool_machine.specs.declared.offer.Offer.{Offer}
 use Rattle.pool_machine.specs.declared.offer.Offer.TheVariants as offer
 use Rattle.pool_machine.specs.PoolState.{PoolView, answer, apply_answer, taken, finished, retired}
@@ -13,7 +13,7 @@ use Rattle.written_machine.specs.declared.parent.Parent.TheVariants as parent
 use Rattle.written_machine.specs.declared.event.Event.{Event}
 use Rattle.written_machine.specs.declared.event.Event.TheVariants.{Client, Job, Take, Retire}
 use Rattle.written_machine.specs.declared.event.Outcome.{Outcome}
-use Rattle.written_machine.specs.declared.event.Outcome.TheVariants.{Started, Queued, Refused, Worked, Got, Looped, Finished, Took, Retired}
+use Rattle.written_machine.specs.declared.event.Outcome.TheVariants.{Started, Queued, Refused, Rejected, Worked, Got, Looped, Finished, Took, Retired}
 use Rattle.written_machine.specs.State as state
 use Rattle.written_machine.specs.State.{Stage, CreatedJob, State, job_at, client_state, pool_of, part_of, pool_seen, child}
 
@@ -65,7 +65,13 @@ with_pool p pool s = record s { pools = slice_set s.pools p (part_of pool) }
 abbrev pub new_job : ℕ → Parent → ℕ → Stage → CreatedJob
 new_job k a i stage = record { class = k; parent = a; slot = i; stage = stage }
 
--- the state and the outcome after actor a submitted a job of class k at position i, and the pool gave this answer
+-- the state after actor a skipped its submit of a job of class k at position i: a get of the submit finds a new job that is done, and the
+-- pools are unchanged
+abbrev pub skipped : State → Parent → ℕ → ℕ → State
+skipped s a i k = with_job (new_job k a i state.Stage.Done) (with_position a (i + 1) s)
+
+-- the state and the outcome after actor a submitted a job of class k at position i, and the pool gave this answer; a pool that may reject
+-- jobs does not refuse the submit, which is skipped instead
 abbrev pub answered : Plan → State → Parent → ℕ → ℕ → Offer → State × Outcome
 answered plan s a i k offer.Started =
     (with_job (new_job k a i (state.Stage.At 0)) (with_position a (i + 1) s), Started (length s.jobs))
@@ -74,7 +80,9 @@ answered plan s a i k offer.Queued = (
       (with_job (new_job k a i state.Stage.Queued) (with_position a (i + 1) s)),
   Queued (length s.jobs),
 )
-answered plan s a i k offer.Refused = (record s { refusals = s.refusals + 1 }, Refused (pool_of plan k))
+answered plan s a i k offer.Refused =
+    if (pool_at plan (pool_of plan k)).may_reject then (skipped s a i k, Rejected (pool_of plan k) (length s.jobs))
+    else (record s { refusals = s.refusals + 1 }, Refused (pool_of plan k))
 
 abbrev pub submitted : Plan → State → Parent → ℕ → ℕ → State × Outcome
 submitted plan s a i k = answered plan s a i k (answer (pool_seen plan s (pool_of plan k)))

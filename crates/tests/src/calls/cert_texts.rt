@@ -12,14 +12,18 @@ const STANDING: &str =
 const LIFETIME: &str =
     "{\"pools\":[{\"blocked\":{\"classes\":[[0,0,0,0]],\"clients\":[[0,0,0]],\"workers\":[0]},\"lifetime\":{\"classes\":[[1,1,1,1]],\"clients\":[[1,0,0]],\"workers\":[0]}}],\"ranks\":{\"levels\":[0],\"pools\":[0],\"reach\":[0]},\"version\":2}";
 
+const WITHOUT_A_BOUND: &str =
+    "{\"pools\":[{\"blocked\":{\"classes\":[[0,0,0,0]],\"clients\":[[0,0,0]],\"workers\":[0]}}],\"ranks\":{\"levels\":[0],\"pools\":[0],\"reach\":[0]},\"version\":2}";
+
 /// Returns a plan with one pool, one class and one client kind.
-fn plan(alloc: Global) -> Result<Plan, Fail> {
+fn plan(alloc: Global, may_reject: bool) -> Result<Plan, Fail> {
     let pool = Pool {
         name: String::from_str(alloc, "p")?,
         core: 1,
         max: 1,
         queue: 2,
         prestart: false,
+        may_reject,
     };
     let class = Class {
         name: String::from_str(alloc, "a")?,
@@ -42,8 +46,8 @@ fn plan(alloc: Global) -> Result<Plan, Fail> {
     )
 }
 
-fn is_written_back(alloc: Global, text: &str) -> Result<bool, Fail> {
-    let plan = plan(alloc)?;
+fn is_written_back(alloc: Global, text: &str, may_reject: bool) -> Result<bool, Fail> {
+    let plan = plan(alloc, may_reject)?;
     let cert = read_cert(alloc, text.as_bytes(), &plan)
         .ok()
         .ok_or("a certificate")?;
@@ -53,18 +57,25 @@ fn is_written_back(alloc: Global, text: &str) -> Result<bool, Fail> {
 
 #[test]
 fn texts_are_written_back(rt: HostRuntime) -> Result<(), Fail> {
-    assert!(rt; is_written_back(rt.alloc(), STANDING)?);
-    assert!(rt; is_written_back(rt.alloc(), LIFETIME)?);
+    for may_reject in [false, true] {
+        assert!(rt; is_written_back(rt.alloc(), STANDING, may_reject)?);
+        assert!(rt; is_written_back(rt.alloc(), LIFETIME, may_reject)?);
+    }
+    assert!(rt; is_written_back(rt.alloc(), WITHOUT_A_BOUND, true)?);
     Ok(())
 }
 
 #[test]
 fn faults(rt: HostRuntime) -> Result<(), Fail> {
-    let plan = plan(rt.alloc())?;
+    let plan = plan(rt.alloc(), false)?;
     let fault = read_cert(rt.alloc(), b"{\"version\":1}", &plan)
         .err()
         .ok_or("a fault")?;
     assert_eq!(rt; fault, CertFault { number: 31 });
+    let without = read_cert(rt.alloc(), WITHOUT_A_BOUND.as_bytes(), &plan)
+        .err()
+        .ok_or("a fault of a pool that must not reject jobs")?;
+    assert_eq!(rt; without, fault);
     let line = format!(in rt.alloc(); "{fault}")?;
     assert_eq!(rt; line.as_str(), "fault 31 WrongShape");
     Ok(())

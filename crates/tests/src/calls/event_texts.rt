@@ -16,6 +16,7 @@ fn plan_of_p_and_q(alloc: Global) -> Result<Plan, Fail> {
             max: 1,
             queue: 2,
             prestart: false,
+            may_reject: false,
         })?;
     }
     Ok(Plan::build(alloc, pools, Vec::new(alloc), Vec::new(alloc))?)
@@ -80,6 +81,7 @@ fn lines_that_answer(rt: HostRuntime) -> Result<(), Fail> {
         Reply::Performed(Outcome::Started(0)),
         Reply::Performed(Outcome::Queued(1)),
         Reply::Performed(Outcome::Refused(1)),
+        Reply::Performed(Outcome::Rejected(0, 7)),
         Reply::Performed(Outcome::Worked(3)),
         Reply::Performed(Outcome::Got(0)),
         Reply::Performed(Outcome::Looped),
@@ -96,12 +98,14 @@ fn lines_that_answer(rt: HostRuntime) -> Result<(), Fail> {
         number.count()?;
         push_reply(&mut text, &plan, &number, reply)?;
     }
-    push_summary(&mut text, 1, 2)?;
+    push_summary(&mut text, 1, None, 2)?;
+    push_summary(&mut text, 1, Some(3), 2)?;
     assert_eq!(rt;
         text.as_str(),
-        "1: started job 0\n2: queued job 1\n3: refused by q\n4: worked 3\n5: got job 0\n6: looped\n\
-         7: finished job 0\n8: took job 1\n9: retired\n10: stuck yes\n11: stuck no\n12: not possible\n\
-         refusals 1, unfinished 2\n"
+        "1: started job 0\n2: queued job 1\n3: refused by q\n4: rejected by p as job 7\n5: worked 3\n\
+         6: got job 0\n7: looped\n8: finished job 0\n9: took job 1\n10: retired\n11: stuck yes\n\
+         12: stuck no\n13: not possible\nrefusals 1, unfinished 2\n\
+         refusals 1, rejected 3, unfinished 2\n"
     );
     Ok(())
 }

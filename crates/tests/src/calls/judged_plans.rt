@@ -2,11 +2,13 @@
 
 use crate::calls::judged_texts::{
     FAN_OUT, FAN_OUT_CERT, FORGETTING, FORGETTING_CERT, LIFETIME_CERT, ONCE, ONCE_AND_ONE_MORE,
-    ONE_POOL, ONE_POOL_CERT, THERE_AND_BACK, THERE_AND_BACK_CERT, WITH_A_HIGH_RANK,
-    WITH_A_LARGER_WEIGHT, WITH_A_MILLION_CLIENTS, WITH_A_QUEUE_OF_1, WITH_A_SHORT_ROW,
-    WITH_CORE_ABOVE_MAX, WITH_THE_MOST_WEIGHT,
+    ONE_POOL, ONE_POOL_CERT, THAT_MAY_REJECT, THAT_REJECTS_NOTHING, THERE_AND_BACK,
+    THERE_AND_BACK_CERT, WITH_A_HIGH_RANK, WITH_A_LARGER_WEIGHT, WITH_A_MILLION_CLIENTS,
+    WITH_A_QUEUE_OF_1, WITH_A_SHORT_ROW, WITH_CORE_ABOVE_MAX, WITH_THE_MOST_WEIGHT, WITHOUT_BOUND,
 };
-use cert_check::{Certified, CheckFault, PoolLine, accepts, accepts_standing, check, verdict};
+use cert_check::{
+    BoundTotal, Certified, CheckFault, PoolLine, accepts, accepts_standing, check, verdict,
+};
 use cert_text::{Cert, CertFault, read_cert};
 use job_bodies::{Part, Plan, PlanFault};
 use plan_text::read_plan;
@@ -42,13 +44,14 @@ const NONE_FAILS: Findings = Findings {
 
 fn first_findings(plan: &Plan, cert: &Cert) -> Option<Findings> {
     let pool = cert.pools.first()?;
-    let vector = pool.bound.vector();
+    let of_queue = pool.bound.as_ref()?;
+    let vector = of_queue.vector();
     let fits = cert.ranks.fits(plan) && vector.fits(plan) && pool.blocked.fits(plan);
     if plan.pools().is_empty() || !fits {
         return None;
     }
     let counted = RanksOf::new(plan, &cert.ranks);
-    let bound = match pool.bound {
+    let bound = match of_queue {
         Bound::Standing(_) => vector.standing_fault(plan, 0),
         Bound::Lifetime(_) => vector.lifetime_fault(plan, 0),
     };
@@ -218,6 +221,9 @@ const JUDGED: &[Judged] = &[
     (ONCE_AND_ONE_MORE, LIFETIME_CERT, false, false),
     (FAN_OUT, FAN_OUT_CERT, false, false),
     (THERE_AND_BACK, THERE_AND_BACK_CERT, true, false),
+    (THAT_MAY_REJECT, WITHOUT_BOUND, false, true),
+    (THAT_MAY_REJECT, ONE_POOL_CERT, false, false),
+    (THAT_REJECTS_NOTHING, ONE_POOL_CERT, false, true),
 ];
 
 #[test]
@@ -257,6 +263,14 @@ fn debug_text(alloc: Global, plan: &Plan, cert: &Cert) -> Result<String, AllocEr
     format!(in alloc; "{plan:?} {cert:?}")
 }
 
+fn standing(total: u64, limit: u64) -> BoundTotal {
+    BoundTotal {
+        lifetime: false,
+        total,
+        limit,
+    }
+}
+
 /// The verdict has the totals and limits of each pool, in plan order.
 #[test]
 fn verdicts(rt: HostRuntime) -> Result<(), Fail> {
@@ -265,9 +279,7 @@ fn verdicts(rt: HostRuntime) -> Result<(), Fail> {
     let verdict = verdict(rt.alloc(), &plan, &cert)?;
     assert!(rt; !verdict.yes);
     let front = PoolLine {
-        lifetime: false,
-        standing: 1,
-        queue: 2,
+        bound: Some(standing(1, 2)),
         blocked: 0,
         limit: 0,
     };
@@ -286,18 +298,26 @@ fn verdicts(rt: HostRuntime) -> Result<(), Fail> {
 #[test]
 fn what_is_checked(rt: HostRuntime) -> Result<(), Fail> {
     let line = PoolLine {
-        lifetime: false,
-        standing: 2,
-        queue: 2,
+        bound: Some(standing(2, 2)),
         blocked: 0,
         limit: 0,
     };
     let lifetime_line = PoolLine {
-        lifetime: true,
-        standing: 3,
-        queue: 3,
+        bound: Some(BoundTotal {
+            lifetime: true,
+            total: 3,
+            limit: 3,
+        }),
         blocked: 0,
         limit: 1,
+    };
+    let with_a_queue_of_1 = PoolLine {
+        bound: Some(standing(2, 1)),
+        ..line
+    };
+    let rejecting_line = PoolLine {
+        bound: None,
+        ..line
     };
     let bad_plan = PlanFault::at_entry(Part::Pool, 0, BAD_NUMBER);
     let (half, _) = ONE_POOL_CERT.split_once("\"blocked\"").ok_or("a half")?;
@@ -306,9 +326,11 @@ fn what_is_checked(rt: HostRuntime) -> Result<(), Fail> {
         (
             WITH_A_QUEUE_OF_1,
             ONE_POOL_CERT,
-            Ok((false, PoolLine { queue: 1, ..line })),
+            Ok((false, with_a_queue_of_1)),
         ),
         (ONCE, LIFETIME_CERT, Ok((true, lifetime_line))),
+        (THAT_MAY_REJECT, WITHOUT_BOUND, Ok((true, rejecting_line))),
+        (ONE_POOL, WITHOUT_BOUND, Err(cert_fault(WRONG_SHAPE))),
         (WITH_CORE_ABOVE_MAX, half, Err(CheckFault::Plan(bad_plan))),
         (ONE_POOL, half, Err(cert_fault(NOT_JSON))),
         (ONE_POOL, WITH_A_SHORT_ROW, Err(cert_fault(WRONG_SHAPE))),

@@ -14,6 +14,19 @@ pub(crate) const WITH_A_QUEUE_OF_1: &str = "
     client = [{ name = 'c', count = 2, repeat = true, body = ['submit a as x', 'get x'] }]
 ";
 
+pub(crate) const THAT_MAY_REJECT: &str = "
+    pool = [{ name = 'p', core = 1, max = 1, queue = 1, may_reject = true }]
+    class = [{ name = 'a', pool = 'p', body = ['work 1'] }]
+    client = [{ name = 'c', count = 2, repeat = true, body = ['submit a as x', 'get x'] }]
+";
+
+// A pool that may reject jobs, and has room for all of them.
+pub(crate) const THAT_REJECTS_NOTHING: &str = "
+    pool = [{ name = 'p', core = 1, max = 1, queue = 2, may_reject = true }]
+    class = [{ name = 'a', pool = 'p', body = ['work 1'] }]
+    client = [{ name = 'c', count = 2, repeat = true, body = ['submit a as x', 'get x'] }]
+";
+
 pub(crate) const WITH_A_MILLION_CLIENTS: &str = "
     pool = [{ name = 'p', core = 1, max = 1, queue = 2 }]
     class = [{ name = 'a', pool = 'p', body = ['work 1'] }]
@@ -47,6 +60,11 @@ pub(crate) const FORGETTING: &str = "
 
 pub(crate) const ONE_POOL_CERT: &str = r#"{"version": 1, "pools": [{
     "standing": {"workers": [0], "classes": [[1, 1, 1, 1]], "clients": [[1, 0, 1]]},
+    "blocked": {"workers": [0], "classes": [[0, 0, 0, 0]], "clients": [[0, 0, 0]]}}],
+    "ranks": {"pools": [0], "reach": [0], "levels": [0]}}"#;
+
+/// The certificate of a plan whose pool may reject jobs: it bounds no queue.
+pub(crate) const WITHOUT_BOUND: &str = r#"{"version": 2, "pools": [{
     "blocked": {"workers": [0], "classes": [[0, 0, 0, 0]], "clients": [[0, 0, 0]]}}],
     "ranks": {"pools": [0], "reach": [0], "levels": [0]}}"#;
 

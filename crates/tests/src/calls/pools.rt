@@ -10,7 +10,7 @@ use std::test::Fail;
 // Returns a pool with these sizes. Its name is empty, since no test uses it.
 fn described(alloc: Global, core: u64, max: u64, queue: u64) -> Pool
     ensures { result
-        ≡ record { name = []; core = core; max = max; queue = queue; prestart = false } }
+        ≡ record { name = []; core = core; max = max; queue = queue; prestart = false; may_reject = false } }
 {
     Pool {
         name: String::new(alloc),
@@ -18,6 +18,7 @@ fn described(alloc: Global, core: u64, max: u64, queue: u64) -> Pool
         max,
         queue,
         prestart: false,
+        may_reject: false,
     }
 }
 

@@ -1,6 +1,6 @@
-//! Tests of the call that confirms witnesses.
+//! Tests of the call that confirms witnesses, and of the search for a rejected job.
 
-use counterexample::{Event, Vector, Witness, confirmed};
+use counterexample::{Event, Vector, Witness, confirmed, find_rejection};
 use plan_text::read_plan;
 use std::alloc::{AllocError, Global};
 use std::test::*;
@@ -29,6 +29,19 @@ const UNUSED_MAX: &str = "
         { name = 'inner', pool = 'p', body = ['work 1'] },
     ]
     client = [{ name = 'c', count = 1, repeat = true, body = ['submit outer as x', 'get x'] }]
+";
+
+// A plan in which each client submits a job to a pool that may reject it, and then to another pool.
+const REJECTING: &str = "
+    pool = [
+        { name = 'p', core = 1, max = 1, queue = 1, may_reject = true },
+        { name = 'q', core = 1, max = 1, queue = 1 },
+    ]
+    class = [
+        { name = 'a', pool = 'p', body = ['work 1'] },
+        { name = 'b', pool = 'q', body = ['work 1'] },
+    ]
+    client = [{ name = 'c', count = 5, repeat = true, body = ['submit a as x', 'get x', 'submit b as y', 'get y'] }]
 ";
 
 // Returns a plan like `UNUSED_MAX` with this number of clients.
@@ -107,6 +120,26 @@ fn witness_text(alloc: Global, found: Option<Witness>) -> Result<String, AllocEr
     }
 }
 
+// The events in which the first pool of `REJECTING` gets two jobs and rejects those of the other
+// three clients. Each of these gets its job at once and submits the next one. The second pool
+// refuses the last one.
+const REFUSED_AFTER_REJECTIONS: [Event; 11] = [
+    Event::Client(0),
+    Event::Client(1),
+    Event::Client(2),
+    Event::Client(2),
+    Event::Client(2),
+    Event::Client(3),
+    Event::Client(3),
+    Event::Client(3),
+    Event::Client(4),
+    Event::Client(4),
+    Event::Client(4),
+];
+
+// The events of `REFUSED_AFTER_REJECTIONS` up to the first rejection.
+const REJECTED: [Event; 3] = [Event::Client(0), Event::Client(1), Event::Client(2)];
+
 /// A case: a plan, events, the numbers of the jobs that may wait only for each other, and the
 /// expected result.
 type Case = (
@@ -132,6 +165,13 @@ const CASES: &[Case] = &[
     (NESTED, &STUCK, &[], "none"),
     (NESTED, &NOT_YET_STUCK, &[0, 1], "none"),
     (UNUSED_MAX, &STUCK, &[0, 1], "StuckNow([0, 1]) after 2"),
+    (
+        REJECTING,
+        &REFUSED_AFTER_REJECTIONS,
+        &[],
+        "Refused(1) after 11",
+    ),
+    (REJECTING, &REJECTED, &[], "none"),
 ];
 
 /// A list of events is a witness if its last event is a refused submit, or if the given jobs wait
@@ -189,6 +229,20 @@ fn a_standing_vector_shows_that_jobs_wait_for_ever(rt: HostRuntime) -> Result<()
             wanted,
             "{count} clients that weigh {client}"
         );
+    }
+    Ok(())
+}
+
+/// A pool that may reject jobs rejects the first one that finds its thread busy and its queue full.
+/// A pool that must not reject jobs rejects none.
+#[test]
+fn a_full_pool_rejects(rt: HostRuntime) -> Result<(), Fail> {
+    let plan = read_plan(rt.alloc(), REJECTING.as_bytes())?;
+    let found = find_rejection(rt.alloc(), &plan, 0, 1000)?;
+    assert_eq!(rt; found.map(|events| events.len()), Some(3));
+    for pool in [1, 2] {
+        let found = find_rejection(rt.alloc(), &plan, pool, 1000)?;
+        assert!(rt; found.is_none(), "pool {pool}");
     }
     Ok(())
 }

@@ -21,9 +21,10 @@ fn plan_line(alloc: Global, plan: &Plan) -> Result<String, AllocError> {
     let mut line = String::from_str(alloc, "plan")?;
     for pool in plan.pools() {
         let beforehand = if pool.prestart { " prestarted" } else { "" };
+        let full = if pool.may_reject { " may_reject" } else { "" };
         write!(
             line,
-            "; pool {} {} {} {}{beforehand}",
+            "; pool {} {} {} {}{beforehand}{full}",
             pool.name, pool.core, pool.max, pool.queue
         )?;
     }

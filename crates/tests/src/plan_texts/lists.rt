@@ -28,9 +28,9 @@ pub fn written(alloc: Global, lines: &[u8]) -> Result<String, AllocError> {
     Ok(text)
 }
 
-// Parses the plan of the lists. Each entry has a line: `pool NAME CORE MAX QUEUE` or `pool NAME
-// CORE MAX QUEUE prestarted`; `class NAME POOL BODY`; `client NAME COUNT BODY` for clients that
-// repeat; and another first word with `NAME COUNT BODY` for clients that do not.
+// Parses the plan of the lists. Each entry has a line: `pool NAME CORE MAX QUEUE`, which may end
+// with `prestarted`, `may_reject` or both; `class NAME POOL BODY`; `client NAME COUNT BODY` for
+// clients that repeat; and another first word with `NAME COUNT BODY` for clients that do not.
 fn plan_of(alloc: Global, lines: &[u8]) -> Result<Result<Plan, PlanFault>, AllocError> {
     let lines = String::from_utf8_lossy(alloc, lines)?;
     let mut pools = Vec::new(alloc);
@@ -65,6 +65,7 @@ fn pool_of(alloc: Global, name: &str, sizes: &[&str]) -> Result<Pool, AllocError
         max: size(1),
         queue: size(2),
         prestart: sizes.contains(&"prestarted"),
+        may_reject: sizes.contains(&"may_reject"),
     })
 }
 

@@ -117,6 +117,7 @@ fn outcome_text(alloc: Global, outcome: Option<Outcome>) -> Result<String, Alloc
         Outcome::Started(job) => format!(in alloc; "started job {job}"),
         Outcome::Queued(job) => format!(in alloc; "queued job {job}"),
         Outcome::Refused(pool) => format!(in alloc; "refused by {pool}"),
+        Outcome::Rejected(pool, job) => format!(in alloc; "rejected by {pool} as job {job}"),
         Outcome::Worked(units) => format!(in alloc; "worked {units}"),
         Outcome::Got(job) => format!(in alloc; "got job {job}"),
         Outcome::Looped => String::from_str(alloc, "looped"),

@@ -15,9 +15,9 @@ unfolding digits
 version_one cert e = ap (λ (n : ℕ). codes ",\"version\":" ++ (decimal n ++ codes "}")) (sym e)
 
 -- a version that is not 2 is 1
-other_version : (some : Bool) → (◌≡◌ {A = ℕ} (cond some 2 1) 2 → ⊥) → ◌≡◌ {A = ℕ} (cond some 2 1) 1
-other_version true other = absurd (other refl)
-other_version false other = refl
+other_version : (all : Bool) → (◌≡◌ {A = ℕ} (cond all 1 2) 2 → ⊥) → ◌≡◌ {A = ℕ} (cond all 1 2) 1
+other_version true other = refl
+other_version false other = absurd (other refl)
 
 pub returns-then-version_number-eq2 : goal.returns-then-version_number-eq2
 returns-then-version_number-eq2 c =

@@ -6,22 +6,22 @@ use Rattle.conformance.specs.Survey.{IsSurveyResult}
 use Rattle.conformance.proofs.ActorTables.{keeps_rules}
 use Rattle.conformance.proofs.comparison.conform.Goals as goal
 
-pub returns-in_ok-findings_of_survey-in-Ok-clause-conforms : goal.returns-in_ok-findings_of_survey-in-Ok-clause-conforms
-returns-in_ok-findings_of_survey-in-Ok-clause-conforms c =
+pub returns-in_ok-rejections-in-Ok-clause-conforms : goal.returns-in_ok-rejections-in-Ok-clause-conforms
+returns-in_ok-rejections-in-Ok-clause-conforms c =
     let so = subst (λ (found : Result Survey RecordingFault). IsSurveyResult c.args.plan.now c.args.recording.now found) c.in-Ok.is c.in_ok-survey.ensures in
-    c.in_ok-findings_of_survey-in-Ok.ensures.conforms (keeps_rules c.args.recording.now so.0) so.1
+    c.in_ok-findings-in-Ok.ensures.conforms (keeps_rules c.args.recording.now so.0) so.1 c.in_ok-refusals-in-Ok.ensures
 
-pub returns-in_ok-findings_of_survey-in-Ok-clause-actors : goal.returns-in_ok-findings_of_survey-in-Ok-clause-actors
-returns-in_ok-findings_of_survey-in-Ok-clause-actors c =
+pub returns-in_ok-rejections-in-Ok-clause-actors : goal.returns-in_ok-rejections-in-Ok-clause-actors
+returns-in_ok-rejections-in-Ok-clause-actors c =
     let so = subst (λ (found : Result Survey RecordingFault). IsSurveyResult c.args.plan.now c.args.recording.now found) c.in-Ok.is c.in_ok-survey.ensures in
-    c.in_ok-findings_of_survey-in-Ok.ensures.actors (keeps_rules c.args.recording.now so.0) so.1
+    c.in_ok-findings-in-Ok.ensures.actors (keeps_rules c.args.recording.now so.0) so.1
 
-pub returns-in_ok-findings_of_survey-in-Ok-clause-found : goal.returns-in_ok-findings_of_survey-in-Ok-clause-found
-returns-in_ok-findings_of_survey-in-Ok-clause-found c =
+pub returns-in_ok-rejections-in-Ok-clause-found : goal.returns-in_ok-rejections-in-Ok-clause-found
+returns-in_ok-rejections-in-Ok-clause-found c =
     let so = subst (λ (found : Result Survey RecordingFault). IsSurveyResult c.args.plan.now c.args.recording.now found) c.in-Ok.is c.in_ok-survey.ensures in
-    c.in_ok-findings_of_survey-in-Ok.ensures.found (keeps_rules c.args.recording.now so.0) so.1
+    c.in_ok-findings-in-Ok.ensures.found (keeps_rules c.args.recording.now so.0) so.1 c.in_ok-refusals-in-Ok.ensures
 
-pub returns-in_ok-findings_of_survey-in-Ok-clause-decided : goal.returns-in_ok-findings_of_survey-in-Ok-clause-decided
-returns-in_ok-findings_of_survey-in-Ok-clause-decided c =
+pub returns-in_ok-rejections-in-Ok-clause-decided : goal.returns-in_ok-rejections-in-Ok-clause-decided
+returns-in_ok-rejections-in-Ok-clause-decided c =
     let so = subst (λ (found : Result Survey RecordingFault). IsSurveyResult c.args.plan.now c.args.recording.now found) c.in-Ok.is c.in_ok-survey.ensures in
-    c.in_ok-findings_of_survey-in-Ok.ensures.decided (keeps_rules c.args.recording.now so.0) so.1
+    c.in_ok-findings-in-Ok.ensures.decided (keeps_rules c.args.recording.now so.0) so.1 c.in_ok-refusals-in-Ok.ensures

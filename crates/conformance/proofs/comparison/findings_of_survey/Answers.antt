@@ -10,13 +10,13 @@ use Rattle.conformance.proofs.KindsByResults.{all_first_kinds}
 use Rattle.conformance.proofs.comparison.findings_of_survey.Goals as goal
 
 pub returns-clause-conforms : goal.returns-clause-conforms
-returns-clause-conforms c = λ keeps so none.
+returns-clause-conforms c = λ keeps so are none.
     let lines = lines_of c.args.recording.now in
     let plan = c.args.plan.now in
     let first = all_first_kinds plan lines so.actor_survey.reported keeps so.actor_survey.all in
-    conforms plan lines c.args.survey first.kinds c.in_ok-excesses.excesses.items c.in_ok-findings.findings.items
+    conforms plan lines c.args.survey first.kinds c.in_ok-excesses.excesses.items c.args.refusals.now c.in_ok-findings.findings.items
     c.pools_are_as_planned.ensures.as_planned c.pools_are_as_planned.ensures.recorded c.rounds_are_within_plan.ensures.within
-    so first.so (c.in_ok-excesses.ensures first.kinds keeps so first.so) (c.in_ok-findings.ensures so.line_survey.notes)
+    so first.so (c.in_ok-excesses.ensures first.kinds keeps so first.so) are (c.in_ok-findings.ensures so.line_survey.notes)
     (none_before _ _ c.in_ok-sort_by_key.ensures.permutation none)
 
 pub returns-clause-actors : goal.returns-clause-actors
@@ -24,27 +24,27 @@ returns-clause-actors c = λ keeps so none.
     let lines = lines_of c.args.recording.now in
     let plan = c.args.plan.now in
     let first = all_first_kinds plan lines so.actor_survey.reported keeps so.actor_survey.all in
-    actors_do plan lines c.args.survey first.kinds c.in_ok-excesses.excesses.items c.in_ok-findings.findings.items c.rounds_are_within_plan.ensures.within
+    actors_do plan lines c.args.survey first.kinds c.in_ok-excesses.excesses.items c.args.refusals.now c.in_ok-findings.findings.items c.rounds_are_within_plan.ensures.within
     so first.so (c.in_ok-excesses.ensures first.kinds keeps so first.so) (c.in_ok-findings.ensures so.line_survey.notes)
     (list_any-IsPermutation is_of_actors _ _ c.in_ok-sort_by_key.ensures.permutation ∙ none)
 
 pub returns-clause-found : goal.returns-clause-found
-returns-clause-found c = λ keeps so.
+returns-clause-found c = λ keeps so are.
     let lines = lines_of c.args.recording.now in
     let plan = c.args.plan.now in
     let first = all_first_kinds plan lines so.actor_survey.reported keeps so.actor_survey.all in
-    all_found plan lines c.args.survey first.kinds c.in_ok-excesses.excesses.items c.in_ok-findings.findings.items _
-    so first.so (c.in_ok-excesses.ensures first.kinds keeps so first.so) (c.in_ok-findings.ensures so.line_survey.notes)
+    all_found plan lines c.args.survey first.kinds c.in_ok-excesses.excesses.items c.args.refusals.now c.in_ok-findings.findings.items _
+    so first.so (c.in_ok-excesses.ensures first.kinds keeps so first.so) are (c.in_ok-findings.ensures so.line_survey.notes)
     c.in_ok-sort_by_key.ensures.permutation
 
 pub returns-clause-decided : goal.returns-clause-decided
-returns-clause-decided c = λ keeps so.
+returns-clause-decided c = λ keeps so are.
     let lines = lines_of c.args.recording.now in
     let plan = c.args.plan.now in
     let first = all_first_kinds plan lines so.actor_survey.reported keeps so.actor_survey.all in
     none_undecided plan lines _
-    (all_found plan lines c.args.survey first.kinds c.in_ok-excesses.excesses.items c.in_ok-findings.findings.items _
-    so first.so (c.in_ok-excesses.ensures first.kinds keeps so first.so) (c.in_ok-findings.ensures so.line_survey.notes)
+    (all_found plan lines c.args.survey first.kinds c.in_ok-excesses.excesses.items c.args.refusals.now c.in_ok-findings.findings.items _
+    so first.so (c.in_ok-excesses.ensures first.kinds keeps so first.so) are (c.in_ok-findings.ensures so.line_survey.notes)
     c.in_ok-sort_by_key.ensures.permutation)
 
 pub returns-clause-ascending : goal.returns-clause-ascending

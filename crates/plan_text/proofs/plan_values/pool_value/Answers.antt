@@ -7,4 +7,4 @@ use Rattle.plan_text.proofs.plan_values.pool_value.Goals as goal
 
 pub returns : goal.returns
 unfolding pool_data
-returns c = view-Table _ ∙ ap table (rw (c.in_ok-insert_value-4.ensures, c.in_ok-insert_flag.ensures, c.in_ok-insert_value-3.ensures, c.in_ok-insert_value-2.ensures, c.in_ok-insert_value.ensures, c.new-table.ensures.empty, c.number_value.ensures, c.number_value-2.ensures, c.number_value-3.ensures, c.in_ok-string.ensures, c.as_str.ensures.value, ← c.pool.view_is) (pool_members _ _ _ _ _))
+returns c = view-Table _ ∙ ap table (rw (c.in_ok-insert_value-4.ensures, c.in_ok-insert_flag-2.ensures, c.in_ok-insert_flag.ensures, c.in_ok-insert_value-3.ensures, c.in_ok-insert_value-2.ensures, c.in_ok-insert_value.ensures, c.new-table.ensures.empty, c.number_value.ensures, c.number_value-2.ensures, c.number_value-3.ensures, c.in_ok-string.ensures, c.as_str.ensures.value, ← c.pool.view_is) (pool_members _ _ _ _ _ _))

@@ -11,10 +11,10 @@ loop-number-preserved c =
     let early : c.loop-number.number < length plan.pools = rw (← c.pools-pool-items.ensures.value) c.loop-number-test.true in
     let x = c.pool-item.result in
     let there : x ≡ get_or plan.pools c.loop-number.number x = rw (← c.pools-pool-items.ensures.value) c.pool-item.is in
-    value_more (pool_entry plan c.args.parts.now) plan.pools c.loop-number.number x x _ _ _ _ early there c.in_ok-push.ensures.items c.in_ok-value.ensures c.loop-number.invariant
+    value_more (pool_entry plan c.args.parts.now c.args.rejections.now) plan.pools c.loop-number.number x x _ _ _ _ early there c.in_ok-push.ensures.items c.in_ok-value.ensures c.loop-number.invariant
 
 pub returns : goal.returns
 returns c =
     let plan = c.args.plan.now in
     let past : length plan.pools ≤ c.loop-number.number = rw (← c.pools-pool-items.ensures.value) c.loop-number-test.false in
-    c.from.ensures ∙ ap (λ ds. array (items_of ds)) (values_all (pool_entry plan c.args.parts.now) plan.pools c.loop-number.number _ _ past c.loop-number.invariant)
+    c.from.ensures ∙ ap (λ ds. array (items_of ds)) (values_all (pool_entry plan c.args.parts.now c.args.rejections.now) plan.pools c.loop-number.number _ _ past c.loop-number.invariant)

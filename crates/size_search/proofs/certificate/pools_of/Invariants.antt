@@ -1,8 +1,7 @@
 -- The list has one part for each pool before this one.
 use Rattle.std.proofs.Common.{◌≡◌, map, take}
-use Rattle.job_bodies.specs.Plan.{Pool}
 use Rattle.size_search.specs.Steady.{pool_of}
 use Rattle.size_search.proofs.certificate.pools_of.Given as goal
 
 abbrev pub invariant-loop-pool : goal.invariant-loop-pool
-invariant-loop-pool l = l.pools.items ≡ map (λ (pool : Pool). pool_of l.vector) (take l._pool-index l.plan.pools)
+invariant-loop-pool l = l.pools.items ≡ map (pool_of l.vector) (take l.pool-index l.plan.pools)

@@ -1,5 +1,4 @@
 use Rattle.std.proofs.Common.{rules, ◌≡◌, false, length, map, replicate, ap, ◌∙◌, sym}
-use Rattle.job_bodies.specs.Plan.{Pool}
 use Rattle.job_bodies.specs.WellFormed.{IsWellFormed}
 use Rattle.job_bodies.proofs.Bodies.{ordered}
 use Rattle.weights.specs.Vector.{vector_fits}
@@ -20,7 +19,7 @@ returns-clause-cert c =
     let plan = c.args.plan.now in
     let v = c.in-Some.vector in
     let is : v ≡ steady_vector plan = search rules in
-    let pools : c.in_ok-pools.pools.items ≡ map (λ (pool : Pool). pool_of v) plan.pools = search rules in
+    let pools : c.in_ok-pools.pools.items ≡ map (pool_of v) plan.pools = search rules in
     let ranks : c.in_ok-vec.field-0.items ≡ replicate (length plan.pools) 0 = search rules in
     let reach : c.in_ok-vec-2.field-0.items ≡ replicate (length plan.classes) 0 = search rules in
     let levels : c.in_ok-levels.levels.items ≡ steady_levels plan = search rules in

@@ -1,13 +1,18 @@
 use Rattle.std.proofs.Common.{◌≡◌, List, None, Some, sym, ap, subst, ◌∙◌}
+use Rattle.std.proofs.lemmas.Bool.{false≢true}
 use Rattle.job_bodies.specs.Plan.{Pool, Plan}
 use Rattle.job_bodies.specs.WellFormed.{IsWellFormed}
 use Rattle.job_bodies.specs.Build.{plan_of_lists}
 use Rattle.size_search.specs.Fitted.{raised, IsLeastFit}
 use Rattle.size_search.specs.Widened.{HasLeastCores}
 use Rattle.size_search.specs.Unfit.{why_unfit}
+use Rattle.size_search.proofs.LeastSizes.{fits_where_fit}
 use Rattle.size_search.proofs.LeastMaxes.{raised_has_least_cores}
 use Rattle.size_search.proofs.Unfits.{fitted_where_not_unfit, well_formed_where_not_unfit, none_where_unfit, least_where_not_unfit, none_fits_where_unfit}
 use Rattle.size_search.proofs.fit.fitted.Goals as goal
+
+pub returns-then-not-fits-clause-none : goal.returns-then-not-fits-clause-none
+returns-then-not-fits-clause-none c = λ other fits. false≢true (c.if-not-fits.ensures ∙ fits_where_fit c.args.plan other c.args.cert.now fits)
 
 pub returns-in-Some-clause-not_fitted : goal.returns-in-Some-clause-not_fitted
 returns-in-Some-clause-not_fitted c = none_where_unfit c.args.plan c.args.cert.now c.in-Some.unfit (sym c.in_ok-unfit.ensures ∙ c.in-Some.is)

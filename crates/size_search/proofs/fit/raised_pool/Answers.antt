@@ -12,13 +12,13 @@ core_needed-requires-clause-fits c =
     let same : c.needs.inside.blocked ≡ (pool_cert_at c.args.cert.now c.args.number).blocked = ap (λ (pool : PoolCert). pool.blocked) (c.needs.view_is ∙ c.pool_at-needs.ensures) in
     rw same ((parts_fit c.args.plan.now c.args.cert.now c.requires.fits).pools c.args.number c.requires.number).blocked
 
-pub queue_needed-requires-clause-fits : goal.queue_needed-requires-clause-fits
-queue_needed-requires-clause-fits c =
+pub queue_needed-needed-requires-clause-fits : goal.queue_needed-needed-requires-clause-fits
+queue_needed-needed-requires-clause-fits c =
     let same : c.needs.inside.bound ≡ (pool_cert_at c.args.cert.now c.args.number).bound = ap (λ (pool : PoolCert). pool.bound) (c.needs.view_is ∙ c.pool_at-needs.ensures) in
     rw same ((parts_fit c.args.plan.now c.args.cert.now c.requires.fits).pools c.args.number c.requires.number).bound
 
-pub queue_needed-requires-clause-core : goal.queue_needed-requires-clause-core
-queue_needed-requires-clause-core c =
+pub queue_needed-needed-requires-clause-core : goal.queue_needed-needed-requires-clause-core
+queue_needed-needed-requires-clause-core c =
     let plan = c.args.plan.now in
     let well = c.pools.ensures.well_formed in
     let sizes = sizes_at plan c.args.number well c.requires.number in

@@ -1,12 +1,16 @@
 use Rattle.std.proofs.Common.{◌≡◌, List, None, Some, sym, ap, subst, ◌∙◌}
+use Rattle.std.proofs.lemmas.Bool.{false≢true}
 use Rattle.job_bodies.specs.Plan.{Pool, Plan}
 use Rattle.job_bodies.specs.WellFormed.{IsWellFormed}
 use Rattle.job_bodies.specs.Build.{plan_of_lists}
 use Rattle.size_search.specs.Widened.{widened, IsLeastWide, LeavesRoom}
 use Rattle.size_search.specs.Unfit.{why_not_widened}
-use Rattle.size_search.proofs.LeastMaxes.{widened_is_least_wide, widened_leaves_room}
+use Rattle.size_search.proofs.LeastMaxes.{widened_is_least_wide, widened_leaves_room, wide_fit_fits}
 use Rattle.size_search.proofs.Unfits.{why_not_widened_is, widened_is_well_formed, none_fits_where_not_widened}
 use Rattle.size_search.proofs.wide.widened.Goals as goal
+
+pub returns-then-not-fits-clause-none : goal.returns-then-not-fits-clause-none
+returns-then-not-fits-clause-none c = λ other fits. false≢true (c.if-not-fits.ensures ∙ wide_fit_fits c.args.plan.now other c.args.cert.now fits)
 
 pub with_pools-requires : goal.with_pools-requires
 with_pools-requires c =

@@ -5,10 +5,10 @@ use Rattle.sizing_cli.proofs.transcript.replay_lines.Goals as goal
 
 pub returns-in-None : goal.returns-in-None
 returns-in-None c =
-    let reply_answer = subst (λ (bad : Option ℕ). IsTranscribed c.args.plan.now c.args.lines c.push_replies.new.world.view c.push_replies.new.answer bad) c.in-None.is c.in_ok-push_replies.ensures in
+    let reply_answer = subst (λ (bad : Option ℕ). IsTranscribed c.args.plan.now c.args.lines c.push_replies.new.world.view c.push_replies.new.rejected c.push_replies.new.answer bad) c.in-None.is c.in_ok-push_replies.ensures in
     if_ok_map c.finish.result _ _ reply_answer c.finish.ensures
 
 pub returns : goal.returns
 returns c =
-    let reply_answer = subst (λ (bad : Option ℕ). IsTranscribed c.args.plan.now c.args.lines c.push_replies.new.world.view c.push_replies.new.answer bad) c.in-Some.is c.in_ok-push_replies.ensures in
+    let reply_answer = subst (λ (bad : Option ℕ). IsTranscribed c.args.plan.now c.args.lines c.push_replies.new.world.view c.push_replies.new.rejected c.push_replies.new.answer bad) c.in-Some.is c.in_ok-push_replies.ensures in
     if_ok_map c.bad_event.result _ _ (λ whole is. is ∙ reply_answer) c.bad_event.ensures

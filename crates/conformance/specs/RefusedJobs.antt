@@ -1,0 +1,30 @@
+-- What a recording says of its refused jobs, as a function of the lines read.
+use Rattle.std.specs.Prelude.{◌≡◌, ℕ, ◌==◌, Bool, true, if◌then◌else◌, List, Option, Some, None}
+use Rattle.std.specs.Option.{option_map}
+use Rattle.support.specs.Numbered.{value_at}
+use Rattle.job_bodies.specs.Plan.{Plan}
+use Rattle.recordings.specs.Before.{has_started}
+use Rattle.recordings.specs.RecordingLine.{RecordedLine, Submits}
+use Rattle.conformance.specs.declared.refused_jobs.RefusedJobs.{RefusedJobs}
+use Rattle.conformance.specs.JobSet.{has_job}
+use Rattle.conformance.specs.PoolDeviations.{pool_named}
+use Rattle.conformance.specs.RejectionRule.{has_acted, submit_pool}
+
+-- The state has, for each of its jobs, the pool of its first `submit` line, whether it has acted, and whether it has started.
+pub record AreFactsOf (plan : Plan) (lines : List RecordedLine) (jobs : RefusedJobs) : Type 0 where
+  pub pools : (job : ℕ) → has_job jobs.refused job ≡ true → value_at jobs.pools job ≡ option_map (pool_named plan) (submit_pool lines job)
+  pub acted : (job : ℕ) → has_job jobs.refused job ≡ true → has_job jobs.acted job ≡ has_acted lines job
+  pub started : (job : ℕ) → has_job jobs.refused job ≡ true → has_job jobs.started job ≡ has_started lines job
+
+-- ---- one line
+abbrev pub or_else : {X : Type 0} → Option X → Option X → Option X
+or_else None next = next
+or_else (Some x) next = Some x
+
+abbrev pub planned_if : Bool → Option ℕ → Option (Option ℕ)
+planned_if is_submit pool = if is_submit then Some pool else None
+
+-- The pool of the plan that the line names, if it submits the job.
+abbrev pub planned_by : Plan → ℕ → RecordedLine → Option (Option ℕ)
+planned_by plan job (Submits actor one class pool) = planned_if (one == job) (pool_named plan pool)
+planned_by plan job line = None

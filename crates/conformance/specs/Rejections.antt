@@ -1,0 +1,53 @@
+-- The refusals of a recording, as a function of the lines read.
+use Rattle.std.specs.Prelude.{◌≡◌, ◌==◌, ◌++◌, ℕ, true, false, if◌then◌else◌, List, count_by, Option, Some, None}
+use Rattle.std.specs.List.{slice_get, filter_map, enumerate_from}
+use Rattle.std.specs.Option.{option_to_list}
+use Rattle.job_bodies.specs.Plan as plans
+use Rattle.job_bodies.specs.Plan.{Plan}
+use Rattle.recordings.specs.RecordingLine.{RecordedLine}
+use Rattle.recordings.specs.declared.recording_line.RecordedActor.{RecordedActor}
+use Rattle.recordings.specs.declared.invalidation.Invalidation.{Invalidation}
+use Rattle.recordings.specs.declared.invalidation.InvalidatingEvent.TheVariants as event
+use Rattle.conformance.specs.declared.rejections.PoolRejections.{PoolRejections}
+use Rattle.conformance.specs.declared.rejections.Rejections.{Rejections}
+use Rattle.conformance.specs.PoolComparison.{has_name}
+use Rattle.conformance.specs.RefusedJobs.{or_else}
+use Rattle.conformance.specs.RejectionRule.{is_shut, has_rejecting_pool, pools_in, refusals_in}
+
+-- The refusals in `read`, the first lines of the recording.
+pub record AreRejectionsSoFar (plan : Plan) (lines read : List RecordedLine) (rejections : Rejections) : Type 0 where
+  pub pools : rejections.pools.items ≡ pools_in plan lines read
+  pub first : rejections.first_refusal ≡ slice_get (refusals_in plan lines read) 0
+  pub shut : (pool : List ℕ) → has_name rejections.shut pool ≡ is_shut read pool
+
+-- The refusals of the recording, or `None` if no pool may reject jobs.
+abbrev pub AreRejectionsOf : Plan → List RecordedLine → Option Rejections → Type 0
+AreRejectionsOf plan lines None = has_rejecting_pool plan ≡ false
+AreRejectionsOf plan lines (Some rejections) = (has_rejecting_pool plan ≡ true) × AreRejectionsSoFar plan lines lines rejections
+
+-- ---- one refusal
+-- The line refuses the job: it is appended to the rejections if this pool of the plan rejects it.
+abbrev pub pools_after : Option ℕ → List ℕ → List ℕ
+pools_after pool pools = pools ++ option_to_list pool
+
+abbrev pub refusal_after : Option ℕ → Invalidation → Option Invalidation → Option Invalidation
+refusal_after None refusal first = or_else first (Some refusal)
+refusal_after (Some pool) refusal first = first
+
+pub record NotesRefusal (pool : Option ℕ) (number : ℕ) (actor : RecordedActor) (job : ℕ) (old new : Rejections) : Type 0 where
+  pub pools : new.pools.items ≡ pools_after pool old.pools.items
+  pub first : new.first_refusal ≡ refusal_after pool (record { line = number; event = event.Refused actor job }) old.first_refusal
+  pub shut : new.shut ≡ old.shut
+
+-- ---- the number of rejections of each pool
+-- The number of rejections of the pool, if it may reject jobs.
+abbrev pub count_if : List ℕ → ℕ × plans.Pool → Option PoolRejections
+count_if pools (number, pool) = if pool.may_reject then Some (record { pool = number; count = count_by (λ one. one == number) pools }) else None
+
+-- The number of rejections of each pool that may reject jobs, in the order of the plan.
+abbrev pub counts_by : Plan → List ℕ → List PoolRejections
+counts_by plan pools = filter_map (count_if pools) (enumerate_from 0 plan.pools)
+
+-- The same, for a recording.
+abbrev pub rejections_of : Plan → List RecordedLine → List PoolRejections
+rejections_of plan lines = counts_by plan (pools_in plan lines lines)

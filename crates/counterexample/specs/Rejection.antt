@@ -1,0 +1,38 @@
+-- Events that lead to a submit whose job a pool rejects, as the plan allows.
+use Rattle.std.specs.Prelude.{◌≡◌, ℕ, ◌==◌, Bool, false, List, [], ◌∷◌, ◌++◌, Some, slice_set}
+use Rattle.support.specs.In.{In}
+use Rattle.job_bodies.specs.Plan.{Plan, pool_at}
+use Rattle.written_machine.specs.declared.event.Event.{Event}
+use Rattle.written_machine.specs.declared.event.Outcome.{Outcome}
+use Rattle.written_machine.specs.declared.event.Outcome.TheVariants as outcome
+use Rattle.written_machine.specs.State.{State}
+use Rattle.written_machine.specs.Step.{step}
+use Rattle.written_machine.specs.Reach.{start, outcomes, Reaches}
+use Rattle.counterexample.specs.Witness.{NoneRefused}
+
+-- whether pool p rejected the job of a submit
+abbrev pub is_rejection_by : ℕ → Outcome → Bool
+is_rejection_by p (outcome.Rejected q j) = q == p
+is_rejection_by p _ = false
+
+-- pool p rejects no job
+abbrev pub NoneRejected : Plan → List Event → ℕ → Type 0
+NoneRejected plan events p = (j : ℕ) → ¬ In (Some (outcome.Rejected p j)) (outcomes plan (Some (start plan)) events)
+
+-- the last event is a submit whose job pool p rejects; each earlier event is possible and is not a refused submit, and p rejects no job
+-- before
+pub record EndsRejected (plan : Plan) (events : List Event) (p : ℕ) : Type 0 where
+  pub front : List Event
+  pub last : Event
+  pub is_last : events ≡ front ++ last ∷ []
+  pub none_refused : NoneRefused plan front
+  pub none_before : NoneRejected plan front p
+  pub before : State
+  pub reaches : Reaches plan front before
+  pub after : State
+  pub job : ℕ
+  pub rejected : step plan before last ≡ Some (after, outcome.Rejected p job)
+
+-- the plan in which pool p must not reject jobs, so that it refuses each job that it rejects in the given plan
+abbrev pub refusing : Plan → ℕ → Plan
+refusing plan p = record plan { pools = slice_set plan.pools p (record (pool_at plan p) { may_reject = false }) }

@@ -1,0 +1,138 @@
+//! The lines of the submits to a pool.
+
+ghost use Rattle.std.specs.Prelude.{◌≡◌, flat_map};
+ghost use Rattle.support.specs.Pushed.{Pushes};
+ghost use Rattle.report.specs.SubmitsTo as spec;
+
+use crate::event_steps::pool_of;
+use diagnostics::has_open_future;
+use job_bodies::{Action, Class, Client, Plan};
+use std::alloc::AllocError;
+
+/// Appends a line for each submit to the pool with this index: first the submits of the classes,
+/// then those of the client kinds, each in plan order. A line says if a future is open there.
+pub(crate) fn push_submits(text: &mut String, plan: &Plan, pool: usize) -> Result<(), AllocError>
+    ensures { Pushes result text.old text.new (spec.submits_text plan.now pool) }
+{
+    push_classes(text, plan, pool, plan.classes())?;
+    push_clients(text, plan, pool, plan.clients())
+}
+
+fn push_classes(
+    text: &mut String,
+    plan: &Plan,
+    pool: usize,
+    mut classes: &[Class],
+) -> Result<(), AllocError>
+    ensures { Pushes result text.old text.new
+        (flat_map (spec.class_lines plan.now pool) classes.now) }
+{
+    while let Some((class, rest)) = classes.split_first() {
+        push_class(text, plan, pool, class)?;
+        classes = rest;
+    }
+    Ok(())
+}
+
+fn push_class(text: &mut String, plan: &Plan, pool: usize, class: &Class) -> Result<(), AllocError>
+    ensures { Pushes result text.old text.new (spec.class_lines plan.now pool class.now) }
+{
+    push_body(text, plan, pool, "class", &class.name, &class.body)
+}
+
+fn push_clients(
+    text: &mut String,
+    plan: &Plan,
+    pool: usize,
+    mut clients: &[Client],
+) -> Result<(), AllocError>
+    ensures { Pushes result text.old text.new
+        (flat_map (spec.client_lines plan.now pool) clients.now) }
+{
+    while let Some((client, rest)) = clients.split_first() {
+        push_client(text, plan, pool, client)?;
+        clients = rest;
+    }
+    Ok(())
+}
+
+fn push_client(
+    text: &mut String,
+    plan: &Plan,
+    pool: usize,
+    client: &Client,
+) -> Result<(), AllocError>
+    ensures { Pushes result text.old text.new (spec.client_lines plan.now pool client.now) }
+{
+    push_body(text, plan, pool, "client", &client.name, &client.body)
+}
+
+/// Appends a line for each submit of the body to the pool. `kind` and `name` are those of the class
+/// or client kind.
+fn push_body(
+    text: &mut String,
+    plan: &Plan,
+    pool: usize,
+    kind: &str,
+    name: &str,
+    body: &[Action],
+) -> Result<(), AllocError>
+    ensures { Pushes result text.old text.new
+        (spec.body_lines plan.now pool kind.now name.now body.now) }
+{
+    for (position, action) in body.iter().enumerate() {
+        push_action(text, plan, pool, kind, name, body, position, *action)?;
+    }
+    Ok(())
+}
+
+/// Appends the line of the action at this position of the body, if it submits to the pool.
+fn push_action(
+    text: &mut String,
+    plan: &Plan,
+    pool: usize,
+    kind: &str,
+    name: &str,
+    body: &[Action],
+    position: usize,
+    action: Action,
+) -> Result<(), AllocError>
+    ensures { Pushes result text.old text.new
+        (spec.action_line plan.now pool kind.now name.now body.now (position, action)) }
+{
+    match action {
+        Action::Submit(class) if pool_of(plan, class) == pool => {
+            push_line(text, plan, kind, name, body, position, class)
+        }
+        _ => Ok(()),
+    }
+}
+
+/// Appends the line of the submit of the class at this position of the body.
+fn push_line(
+    text: &mut String,
+    plan: &Plan,
+    kind: &str,
+    name: &str,
+    body: &[Action],
+    position: usize,
+    class: usize,
+) -> Result<(), AllocError>
+    ensures { Pushes result text.old text.new
+        (spec.submit_line plan.now kind.now name.now body.now position class) }
+{
+    let class = plan.class_name(class);
+    let open = open_words(has_open_future(body, position));
+    write!(text, "  {kind} {name} action {position}")?;
+    writeln!(text, " submits {class}{open}")
+}
+
+fn open_words(is_open: bool) -> &'static str
+    ensures { result.now ≡ spec.open_text is_open }
+{
+    if is_open {
+        ": a future is open here"
+    } else {
+        ""
+    }
+}

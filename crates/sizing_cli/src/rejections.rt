@@ -1,0 +1,51 @@
+//! The search for rejections by the pools that may reject jobs.
+
+ghost use Rattle.std.specs.Prelude.{IfOk, IfSome};
+ghost use Rattle.report.specs.Finding.{RejectsAfter, AreRejections};
+
+use cert_text::{Cert, PoolCert};
+use counterexample::find_rejection;
+use job_bodies::Plan;
+use std::alloc::{AllocError, Global};
+
+/// The maximum number of states in which a rejection is searched for.
+const STATES: usize = 100_000;
+
+/// Returns, for each pool of the certificate, the number of events after which the pool rejects a
+/// job, or `None` if no such events were found. Searches only for the pools without a bound: a pool
+/// with a bound never rejects a job.
+#[tactic(auto, using(crate::proofs::RejectionLists::one_more))]
+pub(crate) fn rejections_of(
+    alloc: Global,
+    plan: &Plan,
+    cert: &Cert,
+) -> Result<Vec<Option<u64>>, AllocError>
+    ensures { IfOk result (λ found. AreRejections plan.now found.items) }
+{
+    let mut found = Vec::new(alloc);
+    for part in &cert.pools {
+        let pool = found.len();
+        let events = rejection_of(alloc, plan, pool, part)?;
+        found.push(events)?;
+    }
+    Ok(found)
+}
+
+/// Returns the number of events after which the pool rejects a job. Returns `None` if the pool has
+/// a bound, or if no such events were found.
+fn rejection_of(
+    alloc: Global,
+    plan: &Plan,
+    pool: usize,
+    part: &PoolCert,
+) -> Result<Option<u64>, AllocError>
+    ensures { IfOk result (λ found. IfSome found (RejectsAfter plan.now pool)) }
+{
+    if part.bound.is_some() {
+        return Ok(None);
+    }
+    match find_rejection(alloc, plan, pool, STATES)? {
+        Some(events) => Ok(Some(events.len() as u64)),
+        None => Ok(None),
+    }
+}
