@@ -19,7 +19,10 @@ trial that the program computes.
    random plans are too small for this case.)
 4. In each round, from round 0, each pool without a rank whose blocked vector is found gets the number of the round as its rank. A
    get is not counted if its jobs depend only on pools with ranks. In round 0 each pool also needs a standing vector or, if there is
-   none, a lifetime vector: all jobs of the pool weigh at least 1 at every point, gets subtract nothing, and no pool lends.
+   none, a lifetime vector: all jobs of the pool weigh at least 1 at every point, gets subtract nothing, and no pool lends. A pool that
+   may reject jobs needs neither: if none is found, it has no bound.
+
+In a third of the plans, pools may reject jobs.
 
     python3 checks/found_certs.py [PLANS [SEED]]     # by default 2,000 plans and seed 1
 
@@ -45,7 +48,7 @@ def main():
     words = [int(word) for word in sys.argv[1:]]
     count, seed = (words + [2000, 1][len(words):])[:2]
     chance = random.Random(seed)
-    plans = [plan_by_chance(chance) for _ in range(count)]
+    plans = [plan_by_chance(chance, rejecting=number % 3 == 2) for number in range(count)]
     answers = [answer(plan) for plan in plans]
     printed = each(lambda plan: output_for(program, text(plan)), plans)
     differing = [number for number in range(count) if printed[number] != answers[number]]
@@ -53,7 +56,9 @@ def main():
         print(f"for plan {number},\n{text(plans[number])}the answer is\n{printed[number]}\ninstead of\n{answers[number]}")
     found = sum(printed != NONE for printed in answers)
     lifetimes = sum("lifetime" in printed for printed in answers)
-    print(f"{count} plans, {len(differing)} differ; {found} get a certificate, {lifetimes} of them with a lifetime vector")
+    rejecting = sum("may reject" in printed for printed in answers)
+    print(f"{count} plans, {len(differing)} differ; {found} get a certificate, {lifetimes} of them with a lifetime vector, "
+          f"{rejecting} with a pool that may reject jobs and has no bound")
     return 1 if differing else 0
 
 
@@ -69,8 +74,8 @@ NONE = "no certificate found"
 
 
 class Pool:
-    def __init__(self, core, most, queue, prestart):
-        self.core, self.most, self.queue, self.prestart = core, most, queue, prestart
+    def __init__(self, core, most, queue, prestart, may_reject=False):
+        self.core, self.most, self.queue, self.prestart, self.may_reject = core, most, queue, prestart, may_reject
 
 
 class Class:
@@ -99,8 +104,9 @@ class Plan:
         return found
 
 
-def plan_by_chance(chance):
-    pools = [pool_by_chance(chance) for _ in range(chance.randint(1, 4))]
+def plan_by_chance(chance, rejecting=False):
+    """Returns a random plan. If it is rejecting, each of its pools may reject jobs with a chance of one half."""
+    pools = [pool_by_chance(chance, rejecting) for _ in range(chance.randint(1, 4))]
     count = chance.randint(1, 5)
     # In most plans, a class submits only classes before it. A few plans have cycles of submits.
     free = chance.random() < 0.05
@@ -117,9 +123,10 @@ def plan_by_chance(chance):
     return Plan(pools, *renumbered(classes, clients, order))
 
 
-def pool_by_chance(chance):
+def pool_by_chance(chance, rejecting):
     core = chance.randint(1, 4)
-    return Pool(core, core + chance.choice([0, 0, 1, 3]), chance.choice([1, 2, 3, 5, 10, 30]), chance.random() < 0.2)
+    sizes = core, core + chance.choice([0, 0, 1, 3]), chance.choice([1, 2, 3, 5, 10, 30])
+    return Pool(*sizes, chance.random() < 0.2, rejecting and chance.random() < 0.5)
 
 
 def body_by_chance(chance, classes):
@@ -155,6 +162,7 @@ def text(plan):
     for number, pool in enumerate(plan.pools):
         lines += ["[[pool]]", f'name = "p{number}"', f"core = {pool.core}", f"max = {pool.most}", f"queue = {pool.queue}"]
         lines += ["prestart = true"] if pool.prestart else []
+        lines += ["may_reject = true"] if pool.may_reject else []
     for number, entry in enumerate(plan.classes):
         lines += ["[[class]]", f'name = "a{number}"', f'pool = "p{entry.pool}"', f"body = {spelled(entry.body)}"]
     for number, client in enumerate(plan.clients):
@@ -193,7 +201,7 @@ def answer(plan):
         for pool in unranked:
             if rank == 0:
                 bounds[pool] = bound(plan, levels, pool)
-                if bounds[pool] is None:
+                if bounds[pool] is None and not plan.pools[pool].may_reject:
                     return NONE
             blocked[pool] = blocked_total(plan, levels, pool, reached, rank)
         placed = [pool for pool in unranked if blocked[pool] is not None]
@@ -204,8 +212,8 @@ def answer(plan):
         rank += 1
     lines = ["yes"]
     for pool, sizes in enumerate(plan.pools):
-        word, total, limit = bounds[pool]
-        lines.append(f"pool p{pool}: {word} {total} of {limit}, blocked {blocked[pool]} of {sizes.core - 1}")
+        bound_words = "{} {} of {}".format(*bounds[pool]) if bounds[pool] else "may reject"
+        lines.append(f"pool p{pool}: {bound_words}, blocked {blocked[pool]} of {sizes.core - 1}")
     return "\n".join(lines)
 
 

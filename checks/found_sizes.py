@@ -102,7 +102,7 @@ def sizes_in(printed):
 
 
 def with_sizes(plan, sizes):
-    pools = [Pool(*found, pool.prestart) for pool, found in zip(plan.pools, sizes)]
+    pools = [Pool(*found, pool.prestart, pool.may_reject) for pool, found in zip(plan.pools, sizes)]
     return Plan(pools, plan.classes, plan.clients)
 
 
@@ -145,7 +145,7 @@ def small_plan(chance):
 
 def small_pool(pool):
     core = min(pool.core, 2)
-    return Pool(core, core + min(pool.most - pool.core, 1), min(pool.queue, 2), pool.prestart)
+    return Pool(core, core + min(pool.most - pool.core, 1), min(pool.queue, 2), pool.prestart, pool.may_reject)
 
 
 if __name__ == "__main__":

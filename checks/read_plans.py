@@ -9,7 +9,7 @@ from small_plans import Class, Client, Plan, Pool
 def read_plan(text):
     tables = tomllib.loads(text)
     pools = [
-        Pool(pool["name"], pool["core"], pool["max"], pool["queue"], pool.get("prestart", False))
+        Pool(pool["name"], pool["core"], pool["max"], pool["queue"], pool.get("prestart", False), pool.get("may_reject", False))
         for pool in tables.get("pool", [])
     ]
     pool_numbers = {pool.name: number for number, pool in enumerate(pools)}

@@ -158,6 +158,7 @@ def boundaries():
     changes += [(table, "name", value) for table in BASE for value in NAMES]
     changes += [("client", "body", value) for value in BODIES]
     changes += [("pool", "prestart", "true"), ("pool", "prestart", "1"), ("pool", "note", '"x"'), ("client", "repeat", '"yes"')]
+    changes += [("pool", "may_reject", "true"), ("pool", "may_reject", "1"), ("pool", "may_reject", '"true"'), ("class", "may_reject", "true")]
     changes += [(table, key, None) for table, keys in BASE.items() for key in keys]
     for table, key, value in changes:
         plan = {name: dict(keys) for name, keys in BASE.items()}

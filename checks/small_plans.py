@@ -26,7 +26,7 @@ MOST_STATES = 20_000
 STEPS_OF_A_WALK = 40
 SECONDS = 120
 
-Pool = namedtuple("Pool", "name core max queue prestart")
+Pool = namedtuple("Pool", "name core max queue prestart may_reject", defaults=[False])
 Class = namedtuple("Class", "name pool body")
 Client = namedtuple("Client", "name count repeat body")
 Plan = namedtuple("Plan", "pools classes clients")
@@ -115,6 +115,8 @@ class Machine:
             phase, queues, outcome = 0, state.queues, f"started job {number}"
         elif room:
             phase, queues, outcome = QUEUED, put(state.queues, of, state.queues[of] + (number,)), f"queued job {number}"
+        elif pool.may_reject:
+            phase, queues, outcome = DONE, state.queues, f"rejected by {pool.name} as job {number}"
         else:
             return state, f"refused by {pool.name}"
         old = latest(state, actor, position)
@@ -258,12 +260,15 @@ def plans():
         classes = [Class("a", 0, bodies(outer)), Class("b", 0, bodies("1"))]
         yield Plan([pool], classes, [Client("c", count, repeat, bodies(ask))])
     pairs = [(Pool("p", *one, two, False), Pool("q", *other, three, False)) for one in sizes for other in sizes for two in (1, 2) for three in (1, 2)]
-    for pair, repeat in itertools.product(pairs, (False, True)):
+    for pair, rejecting, repeat in itertools.product(pairs, (None, 0, 1), (False, True)):
+        both = [pool._replace(may_reject=number == rejecting) for number, pool in enumerate(pair)]
         there_and_back = [Class("a", 0, bodies("b+ -")), Class("b", 1, bodies("1")), Class("c", 1, bodies("d+ -")), Class("d", 0, bodies("1"))]
-        yield Plan(list(pair), there_and_back, [Client("u", 1, repeat, bodies("a+ -")), Client("w", 1, repeat, bodies("c+ -"))])
+        yield Plan(both, there_and_back, [Client("u", 1, repeat, bodies("a+ -")), Client("w", 1, repeat, bodies("c+ -"))])
         chain = [Class("a", 0, bodies("b+ -")), Class("b", 1, bodies("c+ -")), Class("c", 0, bodies("1"))]
-        yield Plan(list(pair), chain, [Client("u", 1, repeat, bodies("a+ -"))])
-        yield Plan(list(pair), chain[:2] + [Class("c", 1, bodies("1"))], [Client("u", 2, repeat, bodies("a+ -"))])
+        yield Plan(both, chain, [Client("u", 1, repeat, bodies("a+ -"))])
+        yield Plan(both, chain[:2] + [Class("c", 1, bodies("1"))], [Client("u", 2, repeat, bodies("a+ -"))])
+        if rejecting is not None:
+            yield Plan(both, chain, [Client("u", 2, repeat, bodies("a")), Client("w", 1, repeat, bodies("b+ -"))])
 
 
 def text_of(plan):
@@ -271,6 +276,7 @@ def text_of(plan):
     for pool in plan.pools:
         lines += ["[[pool]]", f'name = "{pool.name}"', f"core = {pool.core}", f"max = {pool.max}", f"queue = {pool.queue}"]
         lines += ["prestart = true"] if pool.prestart else []
+        lines += ["may_reject = true"] if pool.may_reject else []
     for one in plan.classes:
         lines += ["[[class]]", f'name = "{one.name}"', f'pool = "{plan.pools[one.pool].name}"', f"body = {body_text(plan, one.body)}"]
     for client in plan.clients:
@@ -313,12 +319,18 @@ def walk(plan, draw):
             answers.append("not possible")
             break
         state, outcome = done
-        made += outcome.startswith(("started", "queued"))
+        made += outcome.startswith(("started", "queued", "rejected"))
         answers.append(outcome)
-    refused = sum(outcome.startswith("refused") for outcome in answers)
-    unfinished = sum(job.phase != DONE for _, job in state.jobs)
+    counts = counts_text(plan, *(sum(outcome.startswith(word) for outcome in answers) for word in ("refused", "rejected")),
+                         sum(job.phase != DONE for _, job in state.jobs))
     text = "".join(f"{number}: {outcome}\n" for number, outcome in enumerate(answers, 1))
-    return "\n".join(lines), f"{text}refusals {refused}, unfinished {unfinished}\n"
+    return "\n".join(lines), f"{text}{counts}\n"
+
+
+def counts_text(plan, refused, rejected, unfinished):
+    """Returns the last line of a replay."""
+    rejections = f"rejected {rejected}, " if any(pool.may_reject for pool in plan.pools) else ""
+    return f"refusals {refused}, {rejections}unfinished {unfinished}"
 
 
 def main():

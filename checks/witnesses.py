@@ -2,7 +2,8 @@
 """Replays each witness that `sizing refute` finds against random plans, on the machine of small_plans.py, which is independent of
 the crates.
 
-The random plans are those for which the second search of found_certs.py finds no certificate. For each of them:
+The random plans are those for which the second search of found_certs.py finds no certificate. In a third of them, pools may reject
+jobs, which is no refusal. For each of them:
 
 - Each event of a witness is possible, and only the last event may be a refused submit. If it is not, the named jobs are unfinished
   and wait only for each other after it.
@@ -85,7 +86,7 @@ def uncertified(count, chance):
     """Returns the texts of random plans without a certificate, `count` in all."""
     texts = []
     while len(texts) < count:
-        plan = plan_by_chance(chance)
+        plan = plan_by_chance(chance, rejecting=len(texts) % 3 == 2)
         if answer(plan) == NONE:
             texts.append(text(plan))
     return texts
@@ -144,7 +145,7 @@ def replayed(text_of_plan, lines):
         if done is None:
             return "witness", len(lines), f"line {number} is not possible: {line}"
         state, outcome = done
-        made += outcome.startswith(("started", "queued"))
+        made += outcome.startswith(("started", "queued", "rejected"))
     if members is None:
         return "refused", len(lines), None if outcome.startswith("refused") else "nothing is refused"
     if not wait_for_each_other(machine, state, members):

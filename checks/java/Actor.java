@@ -1,4 +1,5 @@
 import java.util.List;
+import java.util.concurrent.CompletableFuture;
 import java.util.concurrent.ExecutionException;
 import java.util.concurrent.Future;
 import java.util.concurrent.RejectedExecutionException;
@@ -91,6 +92,10 @@ class Actor {
         try {
             job.future = replay.poolOf(number).executor.submit(job);
         } catch (RejectedExecutionException refused) {
+            if (replay.poolOf(number).pool.mayReject()) {
+                job.future = CompletableFuture.completedFuture(job);
+                return submitted(job, "rejected");
+            }
             if (free) {
                 replay.refusedFree();
                 throw refused;
@@ -99,11 +104,15 @@ class Actor {
         } finally {
             within = false;
         }
+        return submitted(job, "submitted");
+    }
+
+    private String submitted(Job job, String outcome) {
         submitted[position] = job;
         if (free) {
             replay.submittedFree(job);
         }
-        return "submitted";
+        return outcome;
     }
 
     private static String get(Job job) throws InterruptedException, ExecutionException {

@@ -85,7 +85,7 @@ final class Facts {
         FutureTask<Integer> task = withDone(() -> 7, Facts::fail);
         pool.execute(task);
         int got = task.get();
-        await(() -> pool.ended.size() == 1);
+        Rest.await(() -> pool.ended.size() == 1);
         return "got " + got + ", ended by " + pool.ended + ", threads " + pool.getPoolSize();
     }
 
@@ -110,7 +110,7 @@ final class Facts {
             by[1] = Thread.currentThread();
             pool.execute(() -> { });
         }).cancel(false);
-        await(() -> pool.getCompletedTaskCount() == 3);
+        Rest.await(() -> pool.getCompletedTaskCount() == 3);
         return "jobs " + pool.getCompletedTaskCount() + ", submitted by a thread of the pool " + (by[0] != Thread.currentThread())
                 + ", by the thread that cancels " + (by[1] == Thread.currentThread());
     }
@@ -120,7 +120,7 @@ final class Facts {
         ExecutorCompletionService<Integer> service = new ExecutorCompletionService<>(pool, new ArrayBlockingQueue<>(1));
         service.submit(() -> 1);
         service.submit(() -> 2);
-        await(() -> pool.ended.size() == 1);
+        Rest.await(() -> pool.ended.size() == 1);
         return "ended by " + pool.ended + ", taken " + service.take().get() + ", then " + service.poll();
     }
 
@@ -133,7 +133,7 @@ final class Facts {
         boolean ranAlone = ran.await(50, TimeUnit.MILLISECONDS);
         String before = "ran " + ranAlone + ", threads " + pool.getPoolSize() + ", queued " + pool.getQueue().size();
         pool.submit(() -> 7).get();
-        await(() -> ran.getCount() == 0);
+        Rest.await(() -> ran.getCount() == 0);
         return before + "; after a submit ran " + (ran.getCount() == 0);
     }
 
@@ -143,18 +143,18 @@ final class Facts {
         Pool other = new Pool(1, 1, queue);
         CountDownLatch held = new CountDownLatch(1);
         other.prestartAllCoreThreads();
-        one.execute(() -> hold(held));
+        one.execute(() -> Rest.hold(held));
         CountDownLatch started = new CountDownLatch(1);
         one.execute(() -> {
             started.countDown();
-            hold(held);
+            Rest.hold(held);
         });
         started.await();
         String ran = "threads at work " + one.getActiveCount() + " and " + other.getActiveCount();
         one.execute(() -> { });
         String refused = submits(other) ? "served" : "refused";
         held.countDown();
-        await(() -> one.getCompletedTaskCount() + other.getCompletedTaskCount() == 3);
+        Rest.await(() -> one.getCompletedTaskCount() + other.getCompletedTaskCount() == 3);
         return ran + ", a submit to the other " + refused;
     }
 
@@ -166,7 +166,7 @@ final class Facts {
         Pool pool = new Pool(2, 2, new ArrayQueue(1, new Moments() {
             @Override
             public Taking beforeTaking(boolean timed) {
-                hold(held);
+                Rest.hold(held);
                 return Taking.AS_EVER;
             }
         }));
@@ -184,7 +184,7 @@ final class Facts {
 
     private static boolean submitsHeld(ThreadPoolExecutor pool, CountDownLatch held) {
         try {
-            pool.execute(() -> hold(held));
+            pool.execute(() -> Rest.hold(held));
             return true;
         } catch (RejectedExecutionException refused) {
             return false;
@@ -215,7 +215,7 @@ final class Facts {
                 public State getState() {
                     if (isSecond && added.getCount() > 0) {
                         added.countDown();
-                        hold(goOn);
+                        Rest.hold(goOn);
                     }
                     return super.getState();
                 }
@@ -226,11 +226,11 @@ final class Facts {
             return thread;
         });
         pool.execute(() -> {
-            hold(fails);
+            Rest.hold(fails);
             failing.countDown();
             fail();
         });
-        Thread second = new Thread(() -> pool.execute(() -> hold(held)));
+        Thread second = new Thread(() -> pool.execute(() -> Rest.hold(held)));
         second.start();
         added.await();
         pool.execute(() -> started.add("queued"));
@@ -239,14 +239,14 @@ final class Facts {
         awaitWaiting(threads.get(0));
         Thread third = new Thread(() -> pool.execute(() -> {
             started.add("later");
-            hold(held);
+            Rest.hold(held);
         }));
         third.start();
-        await(() -> threads.size() == 3);
+        Rest.await(() -> threads.size() == 3);
         goOn.countDown();
         second.join();
         third.join();
-        await(() -> started.contains("later") && (max == 2 || started.size() == 2) && pool.ended.size() == 1);
+        Rest.await(() -> started.contains("later") && (max == 2 || started.size() == 2) && pool.ended.size() == 1);
         String report = "ended by " + pool.ended + ", threads " + pool.getPoolSize() + ", started " + started.stream().sorted().toList();
         held.countDown();
         return report;
@@ -264,7 +264,7 @@ final class Facts {
         pool.setKeepAliveTime(1, TimeUnit.MILLISECONDS);
         CountDownLatch held = new CountDownLatch(1);
         for (int job = 0; job < max + 1; job++) {
-            pool.execute(() -> hold(held));
+            pool.execute(() -> Rest.hold(held));
         }
         int threads = pool.getPoolSize();
         held.countDown();
@@ -287,26 +287,5 @@ final class Facts {
             }
         }
         return "permits " + permits.availablePermits();
-    }
-
-    // ---- waits
-
-    private interface Condition {
-        boolean holds();
-    }
-
-    private static void await(Condition condition) throws InterruptedException {
-        for (long turns = 0; !condition.holds(); turns++) {
-            Rest.within(turns);
-            TimeUnit.MILLISECONDS.sleep(1);
-        }
-    }
-
-    private static void hold(CountDownLatch latch) {
-        try {
-            latch.await();
-        } catch (InterruptedException over) {
-            Thread.currentThread().interrupt();
-        }
     }
 }

@@ -4,7 +4,7 @@ import java.util.List;
 
 /** A plan as the Python side writes it: a line for each pool, class and client, with numbers in place of names. */
 record Plan(List<Pool> pools, List<Kind> classes, List<Kind> clients) {
-    record Pool(String name, int core, int max, int queue, boolean prestart) {}
+    record Pool(String name, int core, int max, int queue, boolean prestart, boolean mayReject) {}
 
     /** An action 'w', 's' or 'g'; the operand is the units, the class, or the position of the submit. */
     record Action(char what, int operand) {}
@@ -19,7 +19,7 @@ record Plan(List<Pool> pools, List<Kind> classes, List<Kind> clients) {
             String[] words = line.split(" ");
             switch (words[0]) {
                 case "pool" -> plan.pools.add(new Pool(words[1], Integer.parseInt(words[2]), Integer.parseInt(words[3]),
-                        Integer.parseInt(words[4]), Boolean.parseBoolean(words[5])));
+                        Integer.parseInt(words[4]), Boolean.parseBoolean(words[5]), Boolean.parseBoolean(words[6])));
                 case "class" -> plan.classes.add(kind(words));
                 case "client" -> plan.clients.add(kind(words));
                 default -> throw new IllegalArgumentException(line);

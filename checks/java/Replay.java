@@ -23,6 +23,7 @@ final class Replay {
     private volatile boolean free;
     private double leaves;
     private int refusals;
+    private int rejections;
 
     Replay(Plan plan, String kind, boolean inSteps) throws InterruptedException {
         this.plan = plan;
@@ -105,7 +106,19 @@ final class Replay {
             refusals++;
             return "refused by " + poolOf(actor.body.get(before).operand()).pool.name();
         }
-        return outcome.equals("submitted") ? submitted(actor.submitted[before]) : outcome;
+        return switch (outcome) {
+            case "submitted" -> submitted(actor.submitted[before]);
+            case "rejected" -> rejected(actor.submitted[before]);
+            default -> outcome;
+        };
+    }
+
+    /** Adds a job that the pool rejected, which is done. */
+    private String rejected(Job job) {
+        rejections++;
+        job.number = jobs.size();
+        jobs.add(job);
+        return "rejected by " + poolOf(job.of).pool.name() + " as job " + job.number;
     }
 
     /** Adds a job that the pool accepted: it is in the queue, or a new thread starts it. */
@@ -180,7 +193,8 @@ final class Replay {
 
     List<String> counts() {
         List<String> lines = new ArrayList<>();
-        lines.add("refusals " + refusals + ", unfinished " + unfinished());
+        boolean mayReject = plan.pools().stream().anyMatch(Plan.Pool::mayReject);
+        lines.add("refusals " + refusals + (mayReject ? ", rejected " + rejections : "") + ", unfinished " + unfinished());
         pools.forEach(pool -> lines.add(pool.counts()));
         return lines;
     }

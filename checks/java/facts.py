@@ -11,9 +11,24 @@ Derived by hand from the Javadoc and from the rules of docs/GUIDE.md:
   thread and overtakes a queued job. With max above core the pool then has a thread above core, although its queue was never full.
 - The keep-alive time has no effect if core is max. With max above core it ends the idle thread above core.
 - A permit whose submit is refused comes back only if the submitter releases it.
+
+About full pools that are meant to reject jobs. Each pool has one thread and one place, unless stated otherwise:
+
+- `CallerRunsPolicy` runs a job on the thread of its submitter. If this is the only core thread of p, and the job gets a job of p, then
+  both pools stop. They do not stop if p has a second core thread, or if the handler throws and the exception is caught. If the job
+  submits to p, then more threads than those of q do that, and p refuses a job.
+- A pool p with core 2, max 2 and queue 2 serves all rounds of that client: the queue has a place for the client's job, or for the job
+  that it submits and gets, and a place for the job of q's thread. With one place fewer p refuses a job.
+- A discarded job is never done. `DiscardOldestPolicy` drops the head of the queue, and queues the new job.
+- If the second job of an `invokeAll` is rejected, it cancels the first one and throws. The first one stays in the queue, and its body
+  never runs.
+- `supplyAsync` throws the exception of the handler. A later stage whose job is rejected is done at once, with that exception, and the
+  stages after it submit nothing.
+- After `shutdown`, `CallerRunsPolicy` drops the job.
+- A caller that holds a semaphore waits for itself if it runs a job that acquires it. With a reentrant lock it does not.
 """
 
-BY_HAND = {
+EXECUTORS = {
     "done throws": "got 7, ended by [Planned], threads 1",
     "done throws in a cancel": "cancel threw Planned",
     "done submits": "jobs 3, submitted by a thread of the pool true, by the thread that cancels true",
@@ -29,15 +44,48 @@ BY_HAND = {
     "permit after shutdown, with catch": "permits 1",
     "permit after shutdown, without catch": "permits 0",
 }
+REJECTIONS = {
+    "caller runs a job with a get, core 1": "third done false, p 1 at work, 2 queued, q 1 at work, 1 queued",
+    "caller runs a job with a get, core 2": "third done true, p 0 at work, 0 queued, q 0 at work, 0 queued",
+    "abort a job with a get, core 1": "third done true, p 0 at work, 0 queued, q 0 at work, 0 queued",
+    "caller runs a job that submits": "rejected by q 2, refused by p 1",
+    "abort a job that submits": "rejected by q 2, refused by p 0",
+    "caller runs, 2000 rounds, queue 2": "all 2000 served, some by the caller true",
+    "caller runs, 2000 rounds, queue 1": "refused",
+    "discard and a get": "queued done true, last done false",
+    "discard oldest and a get": "queued done false, last done true",
+    "caller runs and a get": "queued done true, last done true",
+    "invokeAll, abort": "threw RejectedExecutionException, queued 1, ran 0",
+    "invokeAll, caller runs": "returned, queued 0, ran 2",
+    "supplyAsync, abort": "threw RejectedExecutionException",
+    "thenApplyAsync, abort": "join threw RejectedExecutionException, later stages 0, cpu 1 at work, 1 queued",
+    "caller runs after shutdown": "done false",
+    "caller runs before shutdown": "done true, by the caller true",
+    "caller runs under a semaphore": "the caller waits true",
+    "caller runs under a reentrant lock": "the caller waits false",
+}
+# The facts, by the program that prints them.
+BY_HAND = {"Facts": EXECUTORS, "Rejections": REJECTIONS}
 # Pairs that differ only in the cause of a fact, so their outcomes must differ.
 PAIRS = (("prestarted late", "not prestarted"), ("execute throws, max 2", "execute throws, max 3"),
          ("keep-alive, core 1, max 1", "keep-alive, core 1, max 2"),
-         ("permit after shutdown, with catch", "permit after shutdown, without catch"))
+         ("permit after shutdown, with catch", "permit after shutdown, without catch"),
+         ("caller runs a job with a get, core 1", "caller runs a job with a get, core 2"),
+         ("caller runs a job with a get, core 1", "abort a job with a get, core 1"),
+         ("caller runs a job that submits", "abort a job that submits"),
+         ("caller runs, 2000 rounds, queue 2", "caller runs, 2000 rounds, queue 1"),
+         ("discard and a get", "caller runs and a get"), ("discard oldest and a get", "caller runs and a get"),
+         ("invokeAll, abort", "invokeAll, caller runs"),
+         ("caller runs after shutdown", "caller runs before shutdown"),
+         ("caller runs under a semaphore", "caller runs under a reentrant lock"))
 
 
 def part(tools):
-    printed = dict(zip(BY_HAND, tools.run_java("Facts", *BY_HAND), strict=True))
-    wrong = [f"facts, {name}: {printed[name]}, expected {wanted}" for name, wanted in BY_HAND.items() if printed[name] != wanted]
+    wanted, printed = {}, {}
+    for program, facts in BY_HAND.items():
+        wanted |= facts
+        printed |= zip(facts, tools.run_java(program, *facts), strict=True)
+    wrong = [f"facts, {name}: {printed[name]}, expected {by_hand}" for name, by_hand in wanted.items() if printed[name] != by_hand]
     differ = sum(printed[one] != printed[other] for one, other in PAIRS)
-    print(f"facts: {len(BY_HAND)}, {len(wrong)} wrong; without the cause another outcome: {differ} of {len(PAIRS)}", flush=True)
+    print(f"facts: {len(wanted)}, {len(wrong)} wrong; without the cause another outcome: {differ} of {len(PAIRS)}", flush=True)
     return wrong + ([] if differ == len(PAIRS) else ["facts: a fact does not depend on its cause"])

@@ -3,7 +3,7 @@
 
 def plan_lines(plan):
     for pool in plan.pools:
-        yield f"pool {pool.name} {pool.core} {pool.max} {pool.queue} {str(pool.prestart).lower()}"
+        yield f"pool {pool.name} {pool.core} {pool.max} {pool.queue} {str(pool.prestart).lower()} {str(pool.may_reject).lower()}"
     for one in plan.classes:
         yield " ".join(["class", str(one.pool), "false", *actions(one.body)])
     for client in plan.clients:

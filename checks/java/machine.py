@@ -1,8 +1,11 @@
 """A machine that computes the answers of an executor to a list of events, by the three rules of the Javadoc (docs/GUIDE.md).
 
 A submit is one event or, with `in_steps`, up to three: with fewer than core threads a new thread starts the job; otherwise the job is
-offered to the queue; and if the offer fails, the pool tries to add a thread. An actor can skip a submit, and then also skips its get.
+offered to the queue; and if the offer fails, the pool tries to add a thread. If the pool has all its threads, it refuses the job, or
+rejects it if it may: then the job is done at once. An actor can skip a submit, and then also skips its get.
 """
+
+from small_plans import counts_text
 
 NOT_POSSIBLE = "not possible"
 
@@ -27,7 +30,7 @@ class Job(Actor):
 
 class Machine:
     def __init__(self, plan, in_steps=False):
-        self.plan, self.in_steps, self.refusals = plan, in_steps, 0
+        self.plan, self.in_steps, self.refusals, self.rejections = plan, in_steps, 0, 0
         self.clients = [Actor(client.body, client.repeat) for client in plan.clients for _ in range(client.count)]
         self.jobs = []
         self.gave_up = False  # some actor skipped a submit that was refused before
@@ -138,6 +141,9 @@ class Machine:
                 return actor.call
         if self.threads(pool) < sizes.max:
             return self.makes(actor, kind, pool, "running")
+        if sizes.may_reject:
+            self.rejections += 1
+            return self.makes(actor, kind, pool, "done")
         actor.call, actor.tried = None, True
         self.refusals += 1
         return f"refused by {sizes.name}"
@@ -152,7 +158,8 @@ class Machine:
         actor.spots[actor.position] = len(actor.path)
         actor.path.append(("submit", job))
         actor.position += 1
-        return f"{'queued' if stage == 'queued' else 'started'} job {job.number}"
+        outcome = {"queued": "queued", "running": "started", "done": f"rejected by {self.plan.pools[pool].name} as"}[stage]
+        return f"{outcome} job {job.number}"
 
     # ---- jobs that wait only for each other
 
@@ -173,9 +180,9 @@ class Machine:
         return members
 
     def counts(self):
-        """Returns a line with the numbers of refused submits and unfinished jobs, and a line with the counts of each pool."""
+        """Returns the last line of a replay, and a line with the counts of each pool."""
         unfinished = sum(job.stage != "done" for job in self.jobs)
-        return [f"refusals {self.refusals}, unfinished {unfinished}"] + [
+        return [counts_text(self.plan, self.refusals, self.rejections, unfinished)] + [
             f"{one.name}: threads {self.threads(pool)}, idle {self.idle[pool]}, queued {len(self.queues[pool])}"
             for pool, one in enumerate(self.plan.pools)
         ]

@@ -14,6 +14,8 @@ from walks import plan_by_chance, walk
 EXAMPLES = Path(__file__).resolve().parent.parent.parent / "examples"
 KINDS = ("array", "linked")
 LISTS = 1000
+# The number of lists for plans with pools that may reject jobs.
+REJECTING = 500
 # The number of plans on which each deliberate error is tried.
 SLIPPED = 100
 # The number of jobs that never finish after the events of an example, if all jobs and threads continue and no client acts. It is derived
@@ -26,8 +28,9 @@ PART_LEFT_OUT = 0.3
 
 
 def part(tools):
-    chance = random.Random(1)
-    return [*examples(tools), *lists(tools, chance), *slips(tools, chance)]
+    chance, rejecting = random.Random(1), random.Random(2)
+    return [*examples(tools), *lists(tools, chance, "random replays"), *slips(tools, chance),
+            *lists(tools, rejecting, "random replays with pools that may reject jobs", REJECTING, True), *slip_of_rejections(tools, rejecting)]
 
 
 def numbered(answers):
@@ -94,10 +97,10 @@ class List:
         return plan, events, numbered(answers) + self.wanted[len(self.answers) : len(self.answers) + 1]
 
 
-def lists(tools, chance):
+def lists(tools, chance, name, number=LISTS, rejecting=False):
     wrong, count, found, certified = [], Counter(), [], []
-    for _ in range(LISTS):
-        one = List(chance, plan_by_chance(chance))
+    for _ in range(number):
+        one = List(chance, plan_by_chance(chance, rejecting))
         found.append(one)
         status, _ = tools.sizing("certify", text_of(one.plan))
         certified.append(status == 0)
@@ -117,13 +120,14 @@ def lists(tools, chance):
         count["prestarted"] += any(pool.prestart for pool in one.plan.pools)
         count["answers"] += len(one.answers)
         count["refused"] += sum(printed.startswith("refused") for printed in one.answers)
+        count["rejected"] += one.machine.rejections
         count["stuck yes"] += one.answers.count("stuck yes")
         count["retired"] += one.answers.count("retired")
         count["certified"] += sure
         wanted = one.wanted + (["then refusals 0, unfinished 0"] if sure else [])
         if printed != wanted:
             wrong.append(f"replays, {one.kind}, in steps {one.in_steps}: {printed}, expected {wanted} for\n{one.case()}")
-    print("random replays: " + ", ".join(f"{what} {number}" for what, number in count.items()) + f", with {len(wrong)} wrong", flush=True)
+    print(f"{name}: " + ", ".join(f"{what} {number}" for what, number in count.items()) + f", with {len(wrong)} wrong", flush=True)
     return wrong
 
 
@@ -182,6 +186,15 @@ def slips(tools, chance):
         found[name] = sum(by_rule(rule, one) != answers for one, answers in zip(some, printed))
     print(f"deliberate errors, by the number of {SLIPPED} lists that find them: " + ", ".join(f"'{name}' {number}" for name, number in found.items()), flush=True)
     return [f"replays: the deliberate error '{name}' is not found" for name, number in found.items() if not number]
+
+
+def slip_of_rejections(tools, chance):
+    """Makes the executors' pools refuse what they may reject, and checks that this is found."""
+    some = [List(chance, plan_by_chance(chance, True)) for _ in range(SLIPPED)]
+    printed = on_executors(tools, [one.case(with_pools(one.plan, lambda pool: {"may_reject": False})) for one in some])
+    found = sum(printed[: len(one.answers)] != one.wanted[: len(one.answers)] for one, printed in zip(some, printed))
+    print(f"deliberate error 'a pool refuses what it may reject': found by {found} of {SLIPPED} lists", flush=True)
+    return [] if found else ["replays: the deliberate error 'a pool refuses what it may reject' is not found"]
 
 
 def by_rule(rule, one):

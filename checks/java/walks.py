@@ -14,11 +14,13 @@ MOST_JOBS = 60
 WEIGHTS = {"client": 4, "job": 4, "take": 2, "retire": 1, "leave": 2}
 
 
-def plan_by_chance(chance):
+def plan_by_chance(chance, rejecting=False):
+    """Returns a random plan. If it is rejecting, about two thirds of its pools may reject jobs."""
     pools = []
     for number in range(chance.choice([1, 1, 2, 3])):
         core = chance.choice([1, 1, 2, 3])
-        pools.append(Pool("pqr"[number], core, core + chance.choice([0, 1, 2]), chance.choice([1, 1, 2, 3]), chance.random() < 0.3))
+        pools.append(Pool("pqr"[number], core, core + chance.choice([0, 1, 2]), chance.choice([1, 1, 2, 3]), chance.random() < 0.3,
+                          rejecting and chance.random() < 0.67))
     classes = [
         Class("abcd"[number], chance.randrange(len(pools)), body_by_chance(chance, number))
         for number in range(chance.choice([1, 2, 3, 4]))

@@ -3,7 +3,7 @@
 
 use crate::faults::{Fault, Kind};
 use crate::object::{object, Object};
-use crate::plan::{Body, Plan};
+use crate::plan::{Body, Plan, Pool};
 use serde::de::Error;
 use serde::{Deserialize, Deserializer, Serialize};
 use serde_json::Value;
@@ -31,8 +31,9 @@ pub struct Certificate {
 #[derive(Serialize)]
 pub struct PoolCertificate {
     pub blocked: Vector,
+    /// `None` only for a pool that may reject jobs.
     #[serde(flatten)]
-    pub bound: Bound,
+    pub bound: Option<Bound>,
 }
 
 /// The vector that bounds a pool's queue, or the number of jobs that the pool is ever given.
@@ -61,7 +62,7 @@ pub struct Ranks {
 
 impl Certificate {
     pub fn new(pools: Vec<PoolCertificate>, ranks: Ranks) -> Certificate {
-        let version = if has_lifetime(&pools) { 2 } else { 1 };
+        let version = if are_standing(&pools) { 1 } else { 2 };
         Certificate { pools, ranks, version }
     }
 
@@ -80,7 +81,7 @@ impl Certificate {
 
     fn check(&self, plan: &Plan) -> Result<(), Kind> {
         check_version(self.version)?;
-        if self.version == 1 && has_lifetime(&self.pools) || !self.fits(plan) {
+        if self.version == 1 && !are_standing(&self.pools) || !self.fits(plan) {
             return Err(Kind::WrongShape);
         }
         if !self.is_light() {
@@ -93,7 +94,7 @@ impl Certificate {
     fn fits(&self, plan: &Plan) -> bool {
         let Ranks { levels, pools, reach } = &self.ranks;
         self.pools.len() == plan.pools.len()
-            && self.pools.iter().all(|pool| pool.bound.vector().fits(plan) && pool.blocked.fits(plan))
+            && self.pools.iter().zip(&plan.pools).all(|(part, pool)| part.fits(plan, pool))
             && pools.len() == plan.pools.len()
             && reach.len() == plan.classes.len()
             && levels.len() == plan.classes.len()
@@ -101,7 +102,7 @@ impl Certificate {
 
     fn is_light(&self) -> bool {
         let Ranks { levels, pools, reach } = &self.ranks;
-        self.pools.iter().all(|pool| pool.bound.vector().is_light() && pool.blocked.is_light())
+        self.pools.iter().flat_map(PoolCertificate::vectors).all(Vector::is_light)
             && [levels, pools, reach].iter().all(|numbers| are_light(numbers))
     }
 }
@@ -120,8 +121,19 @@ fn check_version(version: u64) -> Result<(), Kind> {
     }
 }
 
-fn has_lifetime(pools: &[PoolCertificate]) -> bool {
-    pools.iter().any(|pool| matches!(pool.bound, Bound::Lifetime(_)))
+/// Returns whether each pool has a standing vector, which version 1 requires.
+fn are_standing(pools: &[PoolCertificate]) -> bool {
+    pools.iter().all(|pool| matches!(pool.bound, Some(Bound::Standing(_))))
+}
+
+impl PoolCertificate {
+    fn fits(&self, plan: &Plan, pool: &Pool) -> bool {
+        (self.bound.is_some() || pool.may_reject) && self.vectors().all(|vector| vector.fits(plan))
+    }
+
+    fn vectors(&self) -> impl Iterator<Item = &Vector> {
+        self.bound.iter().map(Bound::vector).chain([&self.blocked])
+    }
 }
 
 impl Bound {
@@ -168,9 +180,10 @@ impl<'de> Deserialize<'de> for PoolCertificate {
 
         let Text { blocked, standing, lifetime } = object(from)?;
         let bound = match (standing, lifetime) {
-            (Some(vector), None) => Bound::Standing(vector),
-            (None, Some(vector)) => Bound::Lifetime(vector),
-            _ => return Err(D::Error::custom("one of `standing` and `lifetime` is wanted")),
+            (Some(vector), None) => Some(Bound::Standing(vector)),
+            (None, Some(vector)) => Some(Bound::Lifetime(vector)),
+            (None, None) => None,
+            _ => return Err(D::Error::custom("at most one of `standing` and `lifetime` is wanted")),
         };
         Ok(PoolCertificate { blocked, bound })
     }

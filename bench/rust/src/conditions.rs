@@ -76,12 +76,13 @@ pub fn check(plan: &Plan, certificate: &Certificate) -> Answer {
     let mut text = String::from(if is_accepted { "yes\n" } else { "no\n" });
     for (pool, of_pool) in plan.pools.iter().zip(&certificate.pools) {
         let blocked = total(plan, &of_pool.blocked);
-        let (kind, bounded, most) = match &of_pool.bound {
-            Bound::Standing(vector) => ("standing", total(plan, vector), pool.queue),
-            Bound::Lifetime(vector) => ("lifetime", total(plan, vector), pool.queue + pool.max - pool.first_threads()),
+        let bound = match &of_pool.bound {
+            Some(Bound::Standing(vector)) => format!("standing {} of {}", total(plan, vector), pool.queue),
+            Some(Bound::Lifetime(vector)) => format!("lifetime {} of {}", total(plan, vector), pool.most_jobs()),
+            None => "may reject".into(),
         };
         let (name, limit) = (&pool.name, pool.core - 1);
-        writeln!(text, "pool {name}: {kind} {bounded} of {most}, blocked {blocked} of {limit}").unwrap();
+        writeln!(text, "pool {name}: {bound}, blocked {blocked} of {limit}").unwrap();
     }
     Answer { text: text.into_bytes(), is_no: !is_accepted }
 }
@@ -126,8 +127,9 @@ fn each_condition(
     each_of_ranks(plan, &certificate.ranks, visit)?;
     for (number, of_pool) in certificate.pools.iter().enumerate() {
         match &of_pool.bound {
-            Bound::Standing(vector) => each_of_standing(plan, number, vector, visit)?,
-            Bound::Lifetime(vector) => each_of_lifetime(plan, number, vector, visit)?,
+            Some(Bound::Standing(vector)) => each_of_standing(plan, number, vector, visit)?,
+            Some(Bound::Lifetime(vector)) => each_of_lifetime(plan, number, vector, visit)?,
+            None => {}
         }
         each_of_blocked(plan, number, &of_pool.blocked, &certificate.ranks, visit)?;
     }
@@ -187,7 +189,7 @@ fn each_of_lifetime(
             visit(Condition { section, place, rule: Rule::L2, left: 1, right: *weight })?;
         }
     }
-    let right = pool.queue + pool.max - pool.first_threads();
+    let right = pool.most_jobs();
     visit(Condition { section, place: Place::Total, rule: Rule::L3, left: total(plan, vector), right })
 }
 

@@ -16,6 +16,8 @@ pub enum Outcome {
     Started(usize),
     Queued(usize),
     Refused(usize),
+    /// This pool rejected this job, as the plan allows. The job counts as done at once.
+    Rejected(usize, usize),
     Worked(u32),
     Got(usize),
     Looped,
@@ -33,11 +35,12 @@ pub struct Machine<'a> {
     state: State,
 }
 
-/// The part of the machine that actors change: the pools, the jobs, and the number of refused submits.
+/// The part of the machine that actors change: the pools, the jobs, and the numbers of refused submits and of rejected jobs.
 struct State {
     pools: Vec<PoolState>,
     jobs: Vec<Job>,
     refusals: u64,
+    rejected: u64,
     unfinished: u64,
 }
 
@@ -88,12 +91,16 @@ impl<'a> Machine<'a> {
             plan,
             first_clients,
             clients: HashMap::new(),
-            state: State { pools: pools.collect(), jobs: Vec::new(), refusals: 0, unfinished: 0 },
+            state: State { pools: pools.collect(), jobs: Vec::new(), refusals: 0, rejected: 0, unfinished: 0 },
         }
     }
 
     pub fn refusals(&self) -> u64 {
         self.state.refusals
+    }
+
+    pub fn rejected(&self) -> u64 {
+        self.state.rejected
     }
 
     pub fn unfinished(&self) -> u64 {
@@ -238,11 +245,17 @@ impl State {
         } else if pool.threads < sizes.max {
             pool.threads += 1;
             Phase::AtWork
+        } else if sizes.may_reject {
+            Phase::Done
         } else {
             self.refusals += 1;
             return Outcome::Refused(of_class.pool);
         };
         self.jobs.push(Job { class, phase, actor: Actor::new(&of_class.body) });
+        if phase == Phase::Done {
+            self.rejected += 1;
+            return Outcome::Rejected(of_class.pool, number);
+        }
         self.unfinished += 1;
         match phase {
             Phase::Queued => Outcome::Queued(number),

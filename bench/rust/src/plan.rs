@@ -25,6 +25,7 @@ pub struct Pool {
     pub max: u64,
     pub queue: u64,
     pub prestart: bool,
+    pub may_reject: bool,
 }
 
 pub struct Class {
@@ -68,6 +69,11 @@ impl Pool {
         } else {
             0
         }
+    }
+
+    /// Returns the number of jobs that the pool may be given in all without ever being full.
+    pub fn most_jobs(&self) -> u64 {
+        self.queue + self.max - self.first_threads()
     }
 }
 
@@ -155,6 +161,7 @@ fn pool(Object(text): Object<PoolText>) -> Pool {
         max: text.max as u64,
         queue: text.queue as u64,
         prestart: text.prestart,
+        may_reject: text.may_reject,
     }
 }
 

@@ -29,6 +29,8 @@ pub struct PoolText {
     pub queue: i64,
     #[serde(default)]
     pub prestart: bool,
+    #[serde(default)]
+    pub may_reject: bool,
 }
 
 #[derive(Deserialize)]
@@ -111,13 +113,14 @@ fn each<T>(values: Vec<Value>, read: fn(usize, Value) -> Result<T, Fault>) -> Re
 }
 
 fn pool(index: usize, value: Value) -> Result<PoolText, Fault> {
-    let mut keys = Keys::of(value, Entry::Pool(index), &["name", "core", "max", "queue", "prestart"])?;
+    let mut keys = Keys::of(value, Entry::Pool(index), &["name", "core", "max", "queue", "prestart", "may_reject"])?;
     Ok(PoolText {
         name: keys.text("name")?,
         core: keys.number("core")?,
         max: keys.number("max")?,
         queue: keys.number("queue")?,
         prestart: keys.flag("prestart")?,
+        may_reject: keys.flag("may_reject")?,
     })
 }
 

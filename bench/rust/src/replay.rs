@@ -36,8 +36,11 @@ pub fn replay(plan: &Plan, text: &[u8]) -> Result<Answer, Fault> {
             },
         }
     }
-    let (refusals, unfinished) = (machine.refusals(), machine.unfinished());
-    writeln!(answer.text, "refusals {refusals}, unfinished {unfinished}").unwrap();
+    write!(answer.text, "refusals {}", machine.refusals()).unwrap();
+    if plan.pools.iter().any(|pool| pool.may_reject) {
+        write!(answer.text, ", rejected {}", machine.rejected()).unwrap();
+    }
+    writeln!(answer.text, ", unfinished {}", machine.unfinished()).unwrap();
     Ok(answer)
 }
 
@@ -50,6 +53,11 @@ fn tell(answer: &mut Answer, plan: &Plan, outcome: Outcome) {
             answer.push_no(": refused by ");
             answer.push(&plan.pools[pool].name);
             answer.push("\n");
+        }
+        Outcome::Rejected(pool, job) => {
+            answer.push(": rejected by ");
+            answer.push(&plan.pools[pool].name);
+            push_numbered(answer, " as job ", job as u64);
         }
         Outcome::Worked(units) => push_numbered(answer, ": worked ", u64::from(units)),
         Outcome::Got(job) => push_numbered(answer, ": got job ", job as u64),

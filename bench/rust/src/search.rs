@@ -42,16 +42,20 @@ fn search(plan: &Plan) -> Option<Certificate> {
     Some(certificate).filter(|certificate| accepts(plan, certificate))
 }
 
-/// Returns a standing vector of the pool or, if none is found, a lifetime vector.
-fn bound(plan: &Plan, order: &[usize], number: usize) -> Option<Bound> {
+/// Returns a standing vector of the pool or, if none is found, a lifetime vector. If that is not found either, a pool that
+/// may reject jobs has no bound, and `None` is returned for any other pool.
+fn bound(plan: &Plan, order: &[usize], number: usize) -> Option<Option<Bound>> {
     let pool = &plan.pools[number];
     let standing = Target { pool: number, need: Need::WhileQueued, limit: pool.queue };
     if let Some(vector) = least_vector(plan, order, &standing) {
-        return Some(Bound::Standing(vector));
+        return Some(Some(Bound::Standing(vector)));
     }
-    let most = pool.queue + pool.max - pool.first_threads();
-    let lifetime = Target { pool: number, need: Need::Everywhere, limit: most };
-    least_vector(plan, order, &lifetime).map(Bound::Lifetime)
+    let lifetime = Target { pool: number, need: Need::Everywhere, limit: pool.most_jobs() };
+    match least_vector(plan, order, &lifetime) {
+        Some(vector) => Some(Some(Bound::Lifetime(vector))),
+        None if pool.may_reject => Some(None),
+        None => None,
+    }
 }
 
 /// Returns the rank and the blocked vector of each pool. They are found in rounds. A pool whose vector is found in a

@@ -13,6 +13,7 @@ import java.util.concurrent.ExecutorService;
 import java.util.concurrent.Executors;
 import java.util.concurrent.ForkJoinPool;
 import java.util.concurrent.LinkedBlockingQueue;
+import java.util.concurrent.RejectedExecutionHandler;
 import java.util.concurrent.ScheduledThreadPoolExecutor;
 import java.util.concurrent.SynchronousQueue;
 import java.util.concurrent.ThreadPoolExecutor;
@@ -41,6 +42,49 @@ class PlanCheckTest {
             pool = "db"
             body = ["work 1"]
             """;
+
+    private static final String SHEDDING = """
+            pool = [
+              {name = "bulkhead", core = 1, max = 2, queue = 3, may_reject = true},
+              {name = "db", core = 1, max = 1, queue = 3},
+            ]
+            [[class]]
+            name = "ping"
+            pool = "bulkhead"
+            body = ["work 1"]
+            [[class]]
+            name = "query"
+            pool = "db"
+            body = []
+            """;
+    private static final String GETS = """
+            [[class]]
+            name = "call"
+            pool = "bulkhead"
+            body = ["submit query as q", "get q"]
+            [[client]]
+            name = "request"
+            count = 2
+            body = ["submit ping as p", "submit query as q", "get q", "get p"]
+            [[class]]
+            name = "late"
+            pool = "bulkhead"
+            body = ["work 1", "submit query"]
+            """;
+    private static final String NO_GETS = """
+            [[client]]
+            name = "request"
+            count = 2
+            body = ["submit ping", "submit query as p", "get p"]
+            """;
+
+    /** A handler that is none of the JDK. */
+    private static class Retry implements RejectedExecutionHandler {
+        @Override
+        public void rejectedExecution(Runnable task, ThreadPoolExecutor executor) {
+            executor.execute(task);
+        }
+    }
 
     @Test
     void executorsOfThePlanHaveNoDifference() throws Exception {
@@ -126,6 +170,74 @@ class PlanCheckTest {
     }
 
     @Test
+    void abortPolicyFitsAPoolThatMayReject() throws Exception {
+        handled(new ThreadPoolExecutor.AbortPolicy(), GETS);
+        handled(new ThreadPoolExecutor.AbortPolicy(), NO_GETS);
+    }
+
+    @Test
+    void callerRunsPolicyFitsAPoolThatMayRejectWithALineForEachClassThatIsNoLeaf() throws Exception {
+        Map<String, ThreadPoolExecutor> executors = shedding(new ThreadPoolExecutor.CallerRunsPolicy());
+        Path plan = file(SHEDDING + GETS);
+        PlanCheck.check(plan, executors);
+        assertEquals(List.of(
+                "pool bulkhead: handler CallerRunsPolicy, so the plan needs the body of class call in place before each submit of it",
+                "pool bulkhead: handler CallerRunsPolicy, so the plan needs the body of class late in place before each submit of it"),
+                PlanCheck.differences(plan, executors));
+        handled(new ThreadPoolExecutor.CallerRunsPolicy(), NO_GETS);
+    }
+
+    @Test
+    void aPolicyThatDiscardsFitsAPoolThatMayRejectIfNobodyGetsItsJobs() throws Exception {
+        String why = "but client request gets a job of class ping: this get may never return";
+        handled(new ThreadPoolExecutor.DiscardPolicy(), GETS, "pool bulkhead: may_reject and handler DiscardPolicy, " + why);
+        String sizes = "pool bulkhead: may_reject and handler DiscardOldestPolicy, but a plan describes it only if max is equal to core";
+        handled(new ThreadPoolExecutor.DiscardOldestPolicy(), GETS, "pool bulkhead: may_reject and handler DiscardOldestPolicy, " + why, sizes);
+        handled(new ThreadPoolExecutor.DiscardPolicy(), NO_GETS);
+        handled(new ThreadPoolExecutor.DiscardOldestPolicy(), NO_GETS, sizes);
+        Map<String, ThreadPoolExecutor> executors = Map.of("bulkhead", Recording.executor(2, 2, 3), "db", Recording.executor(1, 1, 3));
+        executors.get("bulkhead").setRejectedExecutionHandler(new ThreadPoolExecutor.DiscardOldestPolicy());
+        compared(file((SHEDDING + NO_GETS).replace("core = 1, max = 2", "core = 2, max = 2")), executors);
+        String job = NO_GETS + "[[class]]\nname = 'deep'\npool = 'db'\nbody = ['submit query as q', 'get q', 'submit ping as q', 'work 1', 'get q']";
+        handled(new ThreadPoolExecutor.DiscardPolicy(), job,
+                "pool bulkhead: may_reject and handler DiscardPolicy, but class deep gets a job of class ping: this get may never return");
+    }
+
+    @Test
+    void aHandlerThatIsNoneOfTheJdkFailsAPoolThatMayReject() throws Exception {
+        String why = ", but a plan describes only the handlers of the JDK";
+        handled(new Retry(), NO_GETS, "pool bulkhead: may_reject and handler Retry" + why);
+        RejectedExecutionHandler unnamed = new Retry() {};
+        handled(unnamed, NO_GETS, "pool bulkhead: may_reject and handler " + unnamed.getClass().getName() + why);
+        RejectedExecutionHandler derived = new ThreadPoolExecutor.AbortPolicy() {};
+        handled(derived, NO_GETS, "pool bulkhead: may_reject and handler " + derived.getClass().getName() + why);
+    }
+
+    @Test
+    void aPoolThatMustNotRejectHasAnyHandlerBesideOneThatMay() throws Exception {
+        Map<String, ThreadPoolExecutor> executors = shedding(new ThreadPoolExecutor.AbortPolicy());
+        executors.get("db").setRejectedExecutionHandler(new Retry());
+        Path plan = file(SHEDDING + GETS);
+        PlanCheck.check(plan, executors);
+        assertEquals(List.of("pool db: handler Retry, which a safe plan never calls"), PlanCheck.differences(plan, executors));
+        Path without = file(SHEDDING.replace("may_reject = true", "may_reject = false") + GETS);
+        executors.get("bulkhead").setRejectedExecutionHandler(new ThreadPoolExecutor.DiscardPolicy());
+        PlanCheck.check(without, executors);
+        assertEquals("pool bulkhead: handler DiscardPolicy, which a safe plan never calls", PlanCheck.differences(without, executors).get(0));
+    }
+
+    @Test
+    void theHandlerOfARecordedExecutorIsItsOwn() throws Exception {
+        Recording recording = new Recording();
+        Map<String, ExecutorService> recorded = new LinkedHashMap<>();
+        shedding(new ThreadPoolExecutor.DiscardPolicy()).forEach((name, executor) -> recorded.put(name, recording.pool(name, executor)));
+        assertEquals(List.of("pool bulkhead: may_reject and handler DiscardPolicy, but client request gets a job of class ping: this get may never return"),
+                PlanCheck.differences(file(SHEDDING + GETS), recorded));
+        assertEquals(List.of(), PlanCheck.differences(file(SHEDDING + NO_GETS), recorded));
+        recording.recorder.close();
+    }
+
+    @Test
     void executorsThatAreWrappedAreComparedOrNamed() throws Exception {
         Path plan = file("pool = [{name = 'web', core = 1, max = 1, queue = 2147483647}]");
         ExecutorService single = Executors.newSingleThreadExecutor();
@@ -169,12 +281,19 @@ class PlanCheckTest {
         wrong("pools = 1", "a plan has [[pool]], [[class]] and [[client]], not [pools]");
         wrong("pool = 1", "pool is not a list of tables: write [[pool]]");
         wrong("[pool]\nname = 'p'", "pool is not a list of tables: write [[pool]]");
-        wrong("pool = [1]", "a pool is a table with name, core, max, queue and prestart, not 1");
-        wrong("[[pool]]\nname = 'p'\ncorePoolSize = 1", "a pool is a table with name, core, max, queue and prestart, not {name=p, corePoolSize=1}");
+        wrong("pool = [1]", "a pool is a table with name, core, max, queue, prestart and may_reject, not 1");
+        wrong("[[pool]]\nname = 'p'\ncorePoolSize = 1", "a pool is a table with name, core, max, queue, prestart and may_reject, not {name=p, corePoolSize=1}");
         wrong("[[pool]]\nname = 'p'\ncore = '1'", "invalid core in pool {name=p, core=1}");
         wrong("[[pool]]\nname = 'p'\ncore = 1\nmax = 1", "invalid queue in pool {name=p, core=1, max=1}");
         String pool = "[[pool]]\nname = 'p'\ncore = 1\nmax = 1\nqueue = 1\n";
         wrong(pool + "prestart = 1", "invalid prestart in pool {name=p, core=1, max=1, queue=1, prestart=1}");
+        wrong(pool + "may_reject = 'yes'", "invalid may_reject in pool {name=p, core=1, max=1, queue=1, may_reject=yes}");
+        String shedding = pool + "may_reject = true\n";
+        wrong(shedding + "[class]", "class is not a list of tables: write [[class]]");
+        wrong(shedding + "[[class]]\nname = 'a'\npool = 1", "invalid pool in class {name=a, pool=1}");
+        wrong(shedding + "[[class]]\nname = 'a'\npool = 'p'\nbody = [1]", "invalid body in class {name=a, pool=p, body=[1]}");
+        wrong("client = [1]\n" + shedding, "invalid name in client 1");
+        wrong(shedding + "[[client]]\nname = 'c'", "invalid body in client {name=c}");
         wrong(pool + pool, "duplicate pool p");
         wrong("core = 08", "line 1: unsupported value: 08");
     }
@@ -187,8 +306,22 @@ class PlanCheckTest {
         return executors;
     }
 
+    private static Map<String, ThreadPoolExecutor> shedding(RejectedExecutionHandler handler) {
+        Map<String, ThreadPoolExecutor> executors = Map.of("bulkhead", Recording.executor(1, 2, 3), "db", Recording.executor(1, 1, 3));
+        executors.get("bulkhead").setRejectedExecutionHandler(handler);
+        return executors;
+    }
+
+    /** Compares a pool that may reject and has this handler. */
+    private static void handled(RejectedExecutionHandler handler, String bodies, String... lines) throws Exception {
+        compared(file(SHEDDING + bodies), shedding(handler), lines);
+    }
+
     private static void same(Map<String, ThreadPoolExecutor> executors, String... lines) throws Exception {
-        Path plan = file(PLAN);
+        compared(file(PLAN), executors, lines);
+    }
+
+    private static void compared(Path plan, Map<String, ThreadPoolExecutor> executors, String... lines) throws Exception {
         assertEquals(List.of(lines), PlanCheck.differences(plan, executors));
         if (lines.length == 0) {
             PlanCheck.check(plan, executors);

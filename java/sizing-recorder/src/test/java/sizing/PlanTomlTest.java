@@ -65,7 +65,9 @@ class PlanTomlTest {
     @Test
     void everyExamplePlanIsRead() throws Exception {
         for (Path plan : plans()) {
-            assertFalse(PlanPool.allOf(Files.readString(plan)).isEmpty());
+            Map<String, Object> tables = PlanToml.read(Files.readString(plan));
+            assertFalse(PlanPool.allOf(tables).isEmpty());
+            new PlanBodies(tables);
         }
         assertTrue(plans().size() > 30);
     }

@@ -211,7 +211,7 @@ final class PoolServices {
     }
 
     /** A call of a {@code ThreadPoolBulkhead}: one job, and a stage that completes when the job is done. */
-    private static <T> CompletionStage<T> executeSupplier(ExecutorService bulkhead, Supplier<T> supplier) {
+    static <T> CompletionStage<T> executeSupplier(ExecutorService bulkhead, Supplier<T> supplier) {
         CompletableFuture<T> stage = new CompletableFuture<>();
         CompletableFuture.supplyAsync(supplier, bulkhead).whenComplete((value, failed) -> {
             if (failed == null) {

@@ -34,6 +34,7 @@ import org.opentest4j.TestAbortedException;
 class SizingPlanTest {
     private static final String SHOP = Path.of("target", "test-classes", "shop.toml").toString();
     private static final String SMALL_SHOP = Path.of("target", "test-classes", "shop-small.toml").toString();
+    private static final String SHEDDING = Path.of("target", "test-classes", "shop-shedding.toml").toString();
     private String program;
     private String optional;
 
@@ -117,6 +118,15 @@ class SizingPlanTest {
         @Test
         void visitors(Sizing sizing) throws Exception {
             sizing.pool("web", new ThreadPoolExecutor(2, 4, 1, TimeUnit.SECONDS, new LinkedBlockingQueue<>(6), new ThreadPoolExecutor.CallerRunsPolicy()));
+        }
+    }
+
+    @SizingPlan("shop-shedding.toml")
+    static class Discarding {
+        @Test
+        void visitors(Sizing sizing) throws Exception {
+            sizing.pool("web", new ThreadPoolExecutor(2, 2, 1, TimeUnit.SECONDS, new LinkedBlockingQueue<>(2), new ThreadPoolExecutor.CallerRunsPolicy()));
+            sizing.pool("web", new ThreadPoolExecutor(2, 2, 1, TimeUnit.SECONDS, new LinkedBlockingQueue<>(2), new ThreadPoolExecutor.DiscardPolicy()));
         }
     }
 
@@ -222,6 +232,15 @@ class SizingPlanTest {
         try (StubProgram stub = new StubProgram(0, "SAFE", 0, "conforms")) {
             assertEquals("the executor is not that of " + SHOP + ":\n  pool web: max 4, plan 2", failureOf(OtherSizes.class));
             assertEquals(1, stub.runs().size());
+        }
+    }
+
+    @Test
+    void aHandlerThatDoesNotFitMayRejectFailsTheTest() throws Exception {
+        try (StubProgram stub = new StubProgram(0, "SAFE", 0, "conforms")) {
+            assertEquals("the executor is not that of " + SHEDDING + ":\n  pool web: may_reject and handler DiscardPolicy, "
+                    + "but client visitor gets a job of class request: this get may never return", failureOf(Discarding.class));
+            assertEquals(2, stub.runs().size());
         }
     }
 
