@@ -124,17 +124,17 @@ lints_of_classes plan marks = flat_map (λ (entry : ℕ × Class). lints_of_clas
 
 -- ---- client kinds
 
--- the pool has one core thread, and a queue with fewer places than `count`
+-- the pool has one core thread and a queue with fewer places than `count`, and must not reject
 abbrev pub is_small : ℕ → Pool → Bool
-is_small count pool = pool.core == 1 && nat_lt pool.queue count
+is_small count pool = pool.core == 1 && nat_lt pool.queue count && not pool.may_reject
 
--- the action is no submit, or submits to a pool with one core thread whose queue has fewer places than `count`
+-- the action is no submit, or submits to a pool with one core thread whose queue has fewer places than `count` and that must not reject
 abbrev pub is_for_small : Plan → ℕ → Action → Bool
 is_for_small plan count (Submit k) = is_small count (pool_at plan (class_at plan k).pool)
 is_for_small plan count _ = true
 
--- the clients of this kind submit jobs, and only to pools with one core thread whose queues have fewer places than there are clients of the
--- kind
+-- the clients of this kind submit jobs, and only to pools that must not reject and have one core thread and a queue with fewer places than
+-- there are clients of the kind
 abbrev pub are_a_crowd : Plan → Client → Bool
 are_a_crowd plan client = list_any is_submit client.body && list_all (is_for_small plan client.count) client.body
 

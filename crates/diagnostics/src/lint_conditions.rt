@@ -130,8 +130,8 @@ fn may_reject(plan: &Plan, pool: usize) -> bool
     }
 }
 
-/// Returns whether the clients of this kind submit jobs, and each pool to which they submit has one
-/// core thread and a queue capacity below the number of these clients.
+/// Returns whether the clients of this kind submit jobs, and each pool to which they submit must not
+/// reject, has one core thread, and has a queue capacity below the number of these clients.
 pub(crate) fn are_a_crowd(plan: &Plan, client: &Client) -> bool
     ensures { result ≡ spec.are_a_crowd plan.now client.now }
 {
@@ -156,8 +156,8 @@ fn submits_to_small_alone(plan: &Plan, count: u64, body: &[Action]) -> bool
     body.iter().all(|action| is_for_small(plan, count, *action))
 }
 
-/// Returns whether the action is not a submit, or submits a job to a pool with one core thread and
-/// a queue capacity below `count`.
+/// Returns whether the action is not a submit, or submits a job to a pool that must not reject, with
+/// one core thread and a queue capacity below `count`.
 fn is_for_small(plan: &Plan, count: u64, action: Action) -> bool
     ensures { result ≡ spec.is_for_small plan.now count action }
 {
@@ -186,11 +186,12 @@ fn is_small_at(plan: &Plan, count: u64, pool: usize) -> bool
     }
 }
 
-/// Returns whether the pool has one core thread and a queue capacity below `count`.
+/// Returns whether the pool must not reject, has one core thread, and has a queue capacity below
+/// `count`.
 fn is_small(count: u64, pool: &Pool) -> bool
     ensures { result ≡ spec.is_small count pool.now }
 {
-    pool.core == 1 && pool.queue < count
+    pool.core == 1 && pool.queue < count && !pool.may_reject
 }
 
 /// Returns whether the length of a `work` is at least 50 units, and equals a size of a pool or the
