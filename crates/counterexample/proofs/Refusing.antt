@@ -6,7 +6,7 @@ use Rattle.std.proofs.Math.Seq.{map-set_same}
 use Rattle.std.proofs.lemmas.List.{length-set}
 use Rattle.std.proofs.lemmas.List.Folds.{list_all-map}
 use Rattle.job_bodies.specs.Plan.{Pool, Class, Plan, no_pool, pool_at}
-use Rattle.job_bodies.specs.WellFormed.{is_valid_name, is_valid_pool, is_valid_class, is_valid_body, are_distinct, IsWellFormed}
+use Rattle.job_bodies.specs.WellFormed.{is_valid_name, is_valid_pool, is_valid_body, are_distinct, IsWellFormed}
 use Rattle.counterexample.specs.Rejection.{refusing}
 
 pub refusing_is_well_formed : (plan : Plan) (p : ℕ) → IsWellFormed plan → IsWellFormed (refusing plan p)

@@ -1,5 +1,5 @@
 -- Replays up to the first job that a pool rejects.
-use Rattle.std.proofs.Common.{◌≡◌, ◌≢◌, ℕ, ◌+◌, ◌<◌, Bool, true, false, eqb, List, [], ◌∷◌, ◌++◌, length, get_or, take, Some, refl, sym, ap, subst, ◌∙◌}
+use Rattle.std.proofs.Common.{◌≡◌, ◌≢◌, ℕ, ◌+◌, ◌<◌, true, false, eqb, List, [], ◌∷◌, ◌++◌, length, get_or, take, Some, refl, sym, ap, subst, ◌∙◌}
 use Rattle.std.proofs.lemmas.Bool.{false≢true, eqb-true, eq-eqb}
 use Rattle.std.proofs.lemmas.List.{take_more}
 use Rattle.support.proofs.Members.{not_In_nil}
@@ -8,9 +8,7 @@ use Rattle.written_machine.specs.declared.event.Event.{Event}
 use Rattle.written_machine.specs.declared.event.Event.TheVariants as event
 use Rattle.written_machine.specs.declared.event.Outcome.{Outcome}
 use Rattle.written_machine.specs.declared.event.Outcome.TheVariants as outcome
-use Rattle.written_machine.specs.State.{State}
-use Rattle.written_machine.specs.Step.{step}
-use Rattle.written_machine.specs.Reach.{start, Reaches}
+use Rattle.written_machine.specs.Reach.{start}
 use Rattle.interleaving.specs.LiveView.{View, live_view}
 use Rattle.counterexample.specs.ReplayResult.{ComesTo}
 use Rattle.counterexample.specs.Rejection.{is_rejection_by, NoneRejected, EndsRejected}

@@ -1,6 +1,5 @@
 -- The event lines of a witness, as `replay` reads them.
 use Rattle.std.specs.Prelude.{ℕ, List, [], ◌∷◌, ◌++◌, map}
-use Rattle.job_bodies.specs.Plan.{Plan}
 use Rattle.written_machine.specs.declared.event.Event.{Event}
 use Rattle.event_lines.specs.EventLine.{Line, Perform, Stuck}
 use Rattle.counterexample.specs.declared.ending.Ending.{Ending}

@@ -13,7 +13,7 @@ use Rattle.weights.specs.Standing.{standing_rows}
 use Rattle.soundness.specs.WeightLaws.{RejectedAreLight}
 
 -- some vector satisfies the conditions of a standing vector of the pool, and a rejected job does not increase the weight of a state.
--- Where no pool may reject jobs, the conditions are enough
+-- If no pool may reject jobs, the conditions are enough
 pub record HasStanding (plan : Plan) (p : ℕ) : Type 0 where
   pub vector : Vector
   pub hold : AllHold (standing_rows plan p vector)

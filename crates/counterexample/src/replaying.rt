@@ -21,7 +21,7 @@ pub(crate) enum ReplayResult {
 }
 
 /// Performs the events in `world`, which must be in the plan's initial state. Stops after the first
-/// refused submit, or before the first event that is not possible. Goes on after a submit that is
+/// refused submit, or before the first event that is not possible. Continues after a submit that is
 /// rejected, as the plan allows.
 ///
 /// # Errors

@@ -1,9 +1,9 @@
 -- The quantities of the classes include all generations of jobs, whatever valid levels the ranks have.
-use Rattle.std.proofs.Common.{◌≡◌, ◌≤◌, ◌<◌, ◌+◌, ◌*◌, ℕ, zero, suc, List, [], ◌∷◌, length, max, fold, slice_get, slice_index, get_or, Some, sum_by, refl, sym, ap, ap₂, ◌∙◌, arith}
+use Rattle.std.proofs.Common.{◌≡◌, ◌≤◌, ◌<◌, ◌+◌, ◌*◌, ℕ, zero, suc, List, [], ◌∷◌, max, fold, slice_get, slice_index, Some, sum_by, refl, sym, ap, ◌∙◌, arith}
 use Rattle.std.proofs.lemmas.List.Sums.{sum_by-cons}
 use Rattle.job_bodies.specs.declared.action.Action.{Action}
 use Rattle.job_bodies.specs.declared.action.Action.TheVariants.{Work, Submit, Get}
-use Rattle.job_bodies.specs.Plan.{Plan, Class, Client, class_at}
+use Rattle.job_bodies.specs.Plan.{Plan, Class, class_at}
 use Rattle.weights.specs.Ranks.{Ranks, level}
 use Rattle.soundness.proofs.RankLaws.{RankLaws, rank_laws}
 use Rattle.locked_runner.specs.declared.numbers.Measure.TheVariants.{Jobs, Units, Events}

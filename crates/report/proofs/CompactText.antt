@@ -4,7 +4,7 @@ use Rattle.std.specs.Prelude.{◌≢◌, nat_lt}
 use Rattle.std.specs.List.{AllByRecursion, list_all, prefix_len}
 use Rattle.std.specs.Char.{is_ascii_digit, digit_char}
 use Rattle.std.proofs.lemmas.List.Elements.{All-from_recursion}
-use Rattle.std.proofs.lemmas.Bool.{false≢true, eqb-true, eqb-false, cond_both}
+use Rattle.std.proofs.lemmas.Bool.{false≢true, eqb-false, cond_both}
 use Rattle.json.specs.Token.{Token, begin_object, end_object, begin_array, end_array, key, string, number, boolean, null, bad}
 use Rattle.json.specs.Word.{head, after_digits, after_minus, after_sign, after_whole, after_fraction, after_exponent, after_number}
 use Rattle.json.specs.Lex.{tokens}

@@ -60,7 +60,7 @@ goes_no_further plan all old first e rest new view after goes performs from reac
       reached = subst (IsReached plan) (sym (ap (last_state here.state) none) ∙ here.ends) here.reached;
     }
 
--- the events end, because there are no more
+-- the events end, because there are none left
 pub goes_to_end : (plan : Plan) (all : List Event) (old : List EventStep) (first : View) (new : List EventStep) (view : View)
     → Goes plan all old first [] new view
     → (from : State) → IsReached plan from → live_view plan from ≡ first → Appends plan from all old new view

@@ -92,7 +92,7 @@ emitted_closed plan places old steps values after run index next inside is_next 
           ∙ emitted.emitted;
     }
 
--- there are no more steps
+-- there are no steps left
 pub emitted_all : (plan : Plan) (places : PlanPlaces) (old : List Data) (steps : List EventStep) (values after : List Data) (run : OpenRun) (index : ℕ)
     → length steps ≤ index → after ≡ values ++ run_data plan places (run_of run steps) ∷ []
     → Emitted plan places old steps values run index → after ≡ old ++ emitted_runs plan places (runs (shown_from [] steps))

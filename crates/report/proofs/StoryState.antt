@@ -1,15 +1,14 @@
 -- The live view of a reached state shows the pools, and what the jobs wait for.
-use Rattle.std.proofs.Common.{◌≡◌, ℕ, ◌+◌, ◌<◌, ◌≤◌, Bool, true, false, ◌&&◌, if◌then◌else◌, List, [], ◌∷◌, ◌++◌, length, map, take, slice_get, get_or, Option, Some, None, refl, sym, ap, ap₂, ◌∙◌, le_refl, arith, append_assoc}
+use Rattle.std.proofs.Common.{◌≡◌, ℕ, ◌+◌, ◌<◌, ◌≤◌, Bool, true, false, ◌&&◌, if◌then◌else◌, List, [], ◌∷◌, ◌++◌, length, take, slice_get, Some, None, refl, sym, ap, ap₂, ◌∙◌, arith, append_assoc}
 use Rattle.std.specs.Prelude.{flat_map, string_bytes, String, Result, Ok, Err}
 use Rattle.std.specs.List.{enumerate_from}
 use Rattle.std.proofs.lemmas.Option.{get_or_from_slice_get}
 use Rattle.support.specs.Pushed.{Pushes}
-use Rattle.job_bodies.specs.declared.action.Action.{Action}
 use Rattle.job_bodies.specs.Plan.{Plan, Pool, class_at}
 use Rattle.job_bodies.specs.WellFormed.{IsWellFormed}
 use Rattle.job_bodies.proofs.Bodies.{HasValidBodies, ordered}
 use Rattle.pool_machine.specs.PoolState.{PoolView}
-use Rattle.written_machine.specs.State.{Stage, State, CreatedJob, job_at, pool_of, pool_seen, is_unfinished, child}
+use Rattle.written_machine.specs.State.{Stage, State, CreatedJob, job_at, child}
 use Rattle.written_machine.specs.State.Stage.{Queued, At, Done, Claimed}
 use Rattle.written_machine.specs.Reach.{IsReached}
 use Rattle.written_machine.proofs.Reached.{kept}
@@ -18,8 +17,8 @@ use Rattle.interleaving.specs.declared.job_view.Phase.TheVariants as phase
 use Rattle.interleaving.specs.LiveView.{View, live_view, may_get, is_number, phase_seen, job_with}
 use Rattle.interleaving.proofs.View.{view_at, pool_at_view}
 use Rattle.interleaving.proofs.Changes.{seen_at}
-use Rattle.interleaving.specs.ViewStep.{no_pool_view, pool_in}
-use Rattle.report.specs.Story.{pool_text, pool_line, pools_text, queued_text, awaited_text, awaited_class, wait_text, wait_of, waits_text, more_text}
+use Rattle.interleaving.specs.ViewStep.{no_pool_view}
+use Rattle.report.specs.Story.{pool_text, pool_line, pools_text, awaited_text, awaited_class, wait_text, wait_of, waits_text, more_text}
 use Rattle.report.specs.StorySeen as seen
 use Rattle.report.proofs.WaitsShown.{awaited_shown}
 use Rattle.report.specs.StorySeen.{pool_line_seen}

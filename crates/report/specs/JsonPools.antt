@@ -66,7 +66,7 @@ bound_data plan (Some bound) = fitting_data plan bound
 unfoldable pub waiting_data : ℕ → ℕ → Data
 waiting_data left most = object (member (codes "left") (number (unsigned left)) (member (codes "most") (number (unsigned most)) no_members))
 
--- the most core threads that wait at once where others must go on, and how many are left; null if it is not known
+-- the most core threads that wait at once where others must continue, and how many are left; null if it is not known
 abbrev pub blocked_of : Pool → Option ℕ → Data
 blocked_of pool None = null
 blocked_of pool (Some most) = waiting_data (pool.core - most) most

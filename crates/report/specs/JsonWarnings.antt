@@ -1,5 +1,5 @@
 -- Warnings about a plan as JSON.
-use Rattle.std.specs.Prelude.{ℕ, List, map, codes, string_bytes, Option, Some}
+use Rattle.std.specs.Prelude.{ℕ, List, map, codes, string_bytes, Some}
 use Rattle.serde_json.specs.Data.{Data, string, array, object, member, no_members}
 use Rattle.serde_json.specs.View.{items_of}
 use Rattle.plan_text.specs.declared.place.TextPlace.{TextPlace}

@@ -19,7 +19,6 @@ use Rattle.weights.specs.declared.row.Rule.TheVariants.{S1, S2, B1, B2}
 use Rattle.weights.specs.Row.{row, AllHold}
 use Rattle.weights.specs.Vector.{Vector, queued_weight, job_weight, total, has_small_numbers}
 use Rattle.weights.specs.Rows.{rows, classes_of}
-use Rattle.weights.specs.Standing.{standing_rows}
 use Rattle.soundness.proofs.BoundLaws.{PoolBoundLaws}
 use Rattle.weights.specs.Blocked.{is_get, counted_rows, blocked_rows}
 use Rattle.weights.specs.Ranks.{is_counted, rank_rows}

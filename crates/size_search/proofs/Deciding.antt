@@ -1,5 +1,5 @@
 -- The result of the search decides whether there are sizes.
-use Rattle.std.proofs.Common.{◌≡◌, ◌≤◌, subst, arith, inl, inr}
+use Rattle.std.proofs.Common.{◌≡◌, ◌≤◌, subst, inl, inr}
 use Rattle.std.specs.Prelude.{IsTrue}
 use Rattle.std.proofs.lemmas.Bool.{cases_lt}
 use Rattle.job_bodies.specs.declared.limits.TheConstants.{MAX_SIZE}

@@ -16,7 +16,7 @@ use Rattle.cert_text.specs.Cert.{PoolCert, Cert, pool_cert_at, cert_fits}
 use Rattle.soundness.specs.Conditions.{failing}
 use Rattle.soundness.specs.Accepted.{is_nil, accepted}
 use Rattle.soundness.proofs.Faults.{pool_numbers}
-use Rattle.size_search.specs.Fitted.{queue_needed, with_core, with_queue, raised_pool, raised, has_queue, have_queues, fails_only_at_totals, fitted, shape, KeepsQueues, IsNoSmaller, IsResized, IsFit, IsLeastFit, NoneFits, FittedSizesAreLeast, AcceptedPlansFit, limit_of, LargerSizesAreAccepted, smallest_pool, smallest, SmallestFitIsLeast}
+use Rattle.size_search.specs.Fitted.{queue_needed, with_core, raised_pool, raised, has_queue, have_queues, fails_only_at_totals, fitted, shape, KeepsQueues, IsNoSmaller, IsResized, IsFit, IsLeastFit, NoneFits, FittedSizesAreLeast, AcceptedPlansFit, limit_of, LargerSizesAreAccepted, smallest_pool, smallest, SmallestFitIsLeast}
 use Rattle.size_search.proofs.Shapes.{bare, length-changed, pool_at-shape, length-shape, total-shape, total_of, cert_fits-shape}
 use Rattle.size_search.proofs.Holding.{at_number}
 use Rattle.size_search.proofs.Numbered.{numbered_at, numbered_past, map-numbered, numbered_same, map-twice, changed_at}

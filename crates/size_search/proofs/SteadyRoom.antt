@@ -1,23 +1,20 @@
 -- The steady certificate for pools with other sizes.
 use Rattle.std.proofs.Common.{◌≡◌, ℕ, zero, suc, ◌+◌, ◌<◌, ◌≤◌, max, Bool, true, false, cond, List, [], ◌∷◌, length, map, get_or, IsTrue, refl, sym, ap, ap₂, subst, ◌∙◌, arith, inl, inr}
-use Rattle.std.specs.List.{list_all}
 use Rattle.std.proofs.lemmas.Bool.{cases_lt}
 use Rattle.std.proofs.lemmas.List.{length-map, get_or-map, get_or_past}
 use Rattle.job_bodies.specs.declared.limits.TheConstants.{MAX_SIZE}
-use Rattle.job_bodies.specs.Plan.{Pool, Class, Client, Plan, no_pool, pool_at}
-use Rattle.job_bodies.specs.WellFormed.{has_valid_sizes, IsWellFormed}
+use Rattle.job_bodies.specs.Plan.{Pool, Class, Plan, no_pool, pool_at}
+use Rattle.job_bodies.specs.WellFormed.{IsWellFormed}
 use Rattle.weights.specs.Vector.{Vector, has_small_numbers, total}
-use Rattle.weights.specs.Ranks.{Ranks}
-use Rattle.cert_text.specs.Cert.{PoolCert, Cert, no_pool_cert, pool_cert_at}
+use Rattle.cert_text.specs.Cert.{PoolCert, Cert, no_pool_cert}
 use Rattle.soundness.specs.Accepted.{accepted}
 use Rattle.size_search.specs.Fitted.{shape, NoneFits}
 use Rattle.size_search.specs.Widened.{outline, with_max, widened, NoneFitsWide}
 use Rattle.size_search.proofs.Numbered.{map-twice}
-use Rattle.size_search.proofs.Shapes.{length-changed, map-agree}
-use Rattle.size_search.proofs.Changes.{nameplate, HasSizes, length-outline, valid_from_sizes, sizes_at, sized_from_places, well_formed_changed}
+use Rattle.size_search.proofs.Changes.{nameplate, HasSizes, sizes_at, sized_from_places, well_formed_changed}
 use Rattle.size_search.proofs.LeastMaxes.{length-widened, widened-outline, widened_at}
 use Rattle.size_search.specs.Submitted.{IsAllGot}
-use Rattle.size_search.specs.Steady.{level_above, levels_within, bound_of, pool_of, steady_vector, steady_total, steady_levels, steady_pool, steady_cert}
+use Rattle.size_search.specs.Steady.{level_above, levels_within, bound_of, pool_of, steady_vector, steady_total, steady_pool, steady_cert}
 use Rattle.size_search.proofs.Accepting.{accepting}
 use Rattle.size_search.proofs.SizesExist.{with_pools, clients-pools, jobs_within-pools, small-pools, total-pools, free-pools}
 

@@ -1,7 +1,7 @@
 -- A plan without pools has no jobs, so its steady certificate is never too large.
 use Rattle.std.proofs.Common.{◌≡◌, ◌⊎◌, inl, inr, ℕ, zero, suc, ◌+◌, ◌-◌, ◌*◌, ◌<◌, ◌≤◌, max, Bool, true, false, ◌&&◌, cond, List, [], ◌∷◌, length, map, drop, get_or, sum_by, slice_get, Option, Some, None, IsTrue, ⊎_elim, refl, sym, ap, subst, ◌∙◌, arith}
 use Rattle.std.specs.List.{list_all, enumerate_from}
-use Rattle.std.proofs.lemmas.Bool.{and_parts, and_from, cases_lt, false≢true, false_from_ne_true}
+use Rattle.std.proofs.lemmas.Bool.{and_parts, and_from, cases_lt, false≢true}
 use Rattle.std.proofs.lemmas.List.{get_or-map, get_or_past, nil_from_length, length-map}
 use Rattle.std.proofs.lemmas.List.Sums.{sum_by-cons}
 use Rattle.job_bodies.specs.declared.action.Action.{Action}
@@ -11,13 +11,12 @@ use Rattle.job_bodies.specs.Plan.{Pool, Class, Client, Plan, no_pool, no_client,
 use Rattle.job_bodies.specs.ValidBody.{IsValidBody}
 use Rattle.job_bodies.specs.WellFormed.{IsWellFormed}
 use Rattle.job_bodies.proofs.Bodies.{ordered}
-use Rattle.weights.specs.Vector.{Vector, done_weight, client_weight, client_weights, workers_weight, is_small, has_small_numbers, has_shape, vector_fits}
-use Rattle.weights.specs.Ranks.{ranks_fit}
+use Rattle.weights.specs.Vector.{Vector, done_weight, client_weight, workers_weight, is_small, has_small_numbers, has_shape, vector_fits}
 use Rattle.cert_text.specs.Cert.{PoolCert, no_vector, no_pool_cert, cert_fits}
 use Rattle.cert_text.proofs.Fitting.{parts_fit}
 use Rattle.soundness.specs.Conditions.{failing}
 use Rattle.soundness.specs.Accepted.{accepted, is_nil}
-use Rattle.size_search.specs.Steady.{sum_below, greatest_upto, submitted_weight, awaited_weight, open_weight, most, weight_at, weights_from, client_end, client_row, jobs, jobs_within, steady_vector, steady_total, steady_pool, steady_cert}
+use Rattle.size_search.specs.Steady.{sum_below, greatest_upto, submitted_weight, awaited_weight, open_weight, most, weight_at, weights_from, client_end, client_row, steady_vector, steady_total, steady_pool, steady_cert}
 use Rattle.size_search.specs.Submitted.{IsNeverGot, LosesRejected, by_client, by_job}
 use Rattle.size_search.specs.Sized.{IsSteadyTooLarge, IsTooLarge}
 use Rattle.size_search.proofs.Losses.{class_submitted}

@@ -39,7 +39,7 @@ pub fn cause_of(alloc: Global, plan: &Plan) -> Result<Option<Cause>, AllocError>
 }
 
 /// Returns whether a repeating client causes a submit that is never got, to a pool that may reject
-/// jobs. This is not a cause, but the plan's steady certificate then accepts the plan with no sizes.
+/// jobs. This is not a cause, but then no sizes are enough for the plan's steady certificate.
 /// [`cause_of`] must have found no cause.
 pub(crate) fn loses_rejected(alloc: Global, plan: &Plan) -> Result<bool, AllocError>
     requires { IsWithoutCause plan.now }

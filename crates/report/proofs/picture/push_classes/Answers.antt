@@ -1,4 +1,4 @@
-use Rattle.std.proofs.Common.{◌≡◌, ◌<◌, length, get_or, refl}
+use Rattle.std.proofs.Common.{◌≡◌, ◌<◌}
 use Rattle.report.specs.Picture.{class_node}
 use Rattle.report.proofs.Rows.{part_more}
 use Rattle.report.proofs.picture.push_classes.Goals as goal
