@@ -51,12 +51,17 @@ stays_full plan (Some (Lifetime v)) s s' o p kept inside happened full =
     let by_jobs = (threads_change plan s s' o kept happened p inside).by_jobs in
     omega arith
 
+-- a submit to a pool that has a bound, and whose queue was full, finds fewer than max threads
+pub bound_leaves_room : (plan : Plan) (bound : Bound) (s : State) (a : Parent) (body : List Action) (i k : ℕ) → HasValidBodies plan → BoundHolds plan (pool_of plan k) (Some bound) → StateInvariant plan s → IsBoundBalanced plan (Some bound) s → IsAtAction plan s a body i (Some (action.Submit k))
+    → QueueWasFull plan (Some bound) s (pool_of plan k) → (pool_at plan (pool_of plan k)).max ≤ threads plan s (pool_of plan k) → ⊥
+bound_leaves_room plan (Standing v) s a body i k ordered holds kept balanced at full all_started = full
+bound_leaves_room plan (Lifetime v) s a body i k ordered holds kept balanced at full all_started = lifetime_leaves_room plan v s a body i k ordered holds.0 kept balanced at (omega arith)
+
 -- a submit to a pool that must not reject jobs, and whose queue was full, finds fewer than max threads
 leaves_room : (plan : Plan) (bound : Option Bound) (s : State) (a : Parent) (body : List Action) (i k : ℕ) → HasValidBodies plan → BoundHolds plan (pool_of plan k) bound → StateInvariant plan s → IsBoundBalanced plan bound s → IsAtAction plan s a body i (Some (action.Submit k))
     → (pool_at plan (pool_of plan k)).may_reject ≡ false → QueueWasFull plan bound s (pool_of plan k) → (pool_at plan (pool_of plan k)).max ≤ threads plan s (pool_of plan k) → ⊥
 leaves_room plan None s a body i k ordered holds kept balanced at must full all_started = false≢true (sym must ∙ holds)
-leaves_room plan (Some (Standing v)) s a body i k ordered holds kept balanced at must full all_started = full
-leaves_room plan (Some (Lifetime v)) s a body i k ordered holds kept balanced at must full all_started = lifetime_leaves_room plan v s a body i k ordered holds.0 kept balanced at (omega arith)
+leaves_room plan (Some bound) s a body i k ordered holds kept balanced at must full all_started = bound_leaves_room plan bound s a body i k ordered holds kept balanced at full all_started
 
 -- ---- the calls
 

@@ -11,9 +11,9 @@ use Rattle.soundness.specs.JavaSafe.{JavaReaches, JavaCanProgress}
 use Rattle.soundness.proofs.JavaEvents.{java_happens}
 use Rattle.soundness.proofs.JavaReplays.{java_replay_keeps, java_possible}
 use Rattle.cert_text.specs.Cert.{Cert}
-use Rattle.soundness.specs.Headline.{AcceptedPlansAreJavaSafe, AcceptedPlansMakeJavaProgress}
+use Rattle.soundness.specs.Headline.{AcceptedPlansAreJavaSafe, AcceptedPlansMakeJavaProgress, bound_of}
 use Rattle.soundness.proofs.CertLaws.{CertLaws, cert_laws}
-use Rattle.soundness.proofs.Theorem.{bound_of, bounds_hold, Sound, sound_start, sound_step, sound_waits, sound_safe}
+use Rattle.soundness.proofs.Theorem.{bounds_hold, Sound, sound_start, sound_step, sound_waits, sound_safe}
 use Rattle.soundness.proofs.Calls.{CallsKept, calls_none, machine_keeps, calls_step}
 
 -- ---- the invariants of the reachable states of an accepted plan

@@ -1,3 +1,4 @@
+pub mod Rejections
 pub mod VectorLaws
 pub mod BoundLaws
 pub mod NeverRises
@@ -35,5 +36,6 @@ pub mod JavaTheorem
 pub mod JavaBounded
 pub mod JavaDrains
 pub mod Skipping
+pub mod NeverRejects
 pub mod SkippingDrains
 pub mod Promised

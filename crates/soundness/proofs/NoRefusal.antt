@@ -32,6 +32,7 @@ use Rattle.weights.specs.Bound.{bound_vector, bound_get_return}
 use Rattle.soundness.specs.WeightedSum.{stage_weight}
 use Rattle.soundness.proofs.VectorLaws.{VectorLaws}
 use Rattle.soundness.proofs.BoundLaws.{StandingLaws, LifetimeLaws, BoundLaws}
+use Rattle.soundness.proofs.Rejections.{IsDeclined}
 use Rattle.soundness.proofs.NeverRises.{jobs_weight, IsBalanced, busy_workers_weight-with_position, actors_weight-with_job, busy_workers_weight-with_job, never_rises_queued}
 use Rattle.soundness.proofs.WithinTotal.{busy_workers_weight-le, actors_weight-le-total}
 
@@ -147,3 +148,8 @@ not_refused plan (Lifetime v) s a body i k ordered laws kept have balanced at no
 -- no event refuses a submit to a pool with a bound whose rows hold
 pub never_refused : (plan : Plan) (bound : Bound) (s s' : State) (p : ℕ) {e : Event} → HasValidBodies plan → BoundLaws plan p bound → StateInvariant plan s → HaveJobs plan s → IsBalanced (bound_get_return bound) plan (bound_vector bound) s → Happens plan s e s' (outcome.Refused p) → ⊥
 never_refused plan bound s s' p ordered laws kept have balanced (is_refused a body i k at must no_room all_started) = not_refused plan bound s a body i k ordered laws kept have balanced at no_room all_started
+
+-- no actor is at a submit to a pool with a bound whose rows hold, and that has a full queue and max threads
+pub never_declined : (plan : Plan) (bound : Bound) (s : State) (p : ℕ) → HasValidBodies plan → BoundLaws plan p bound → StateInvariant plan s → HaveJobs plan s → IsBalanced (bound_get_return bound) plan (bound_vector bound) s → IsDeclined plan s p → ⊥
+never_declined plan bound s p ordered laws kept have balanced full =
+    not_refused plan bound s full.actor full.body full.position full.class ordered (subst (λ (q : ℕ). BoundLaws plan q bound) (sym full.of_pool) laws) kept have balanced full.at full.no_room full.all_started

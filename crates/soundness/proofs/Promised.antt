@@ -10,6 +10,7 @@ use Rattle.soundness.proofs.JavaTheorem.{accepted_plans_are_java_safe, accepted_
 use Rattle.soundness.proofs.JavaDrains.{accepted_plans_java_drain}
 use Rattle.soundness.proofs.Skipping.{accepted_plans_may_skip, accepted_plans_make_progress_with_skips}
 use Rattle.soundness.proofs.SkippingDrains.{accepted_plans_drain_with_skips}
+use Rattle.soundness.proofs.NeverRejects.{accepted_bounds_never_reject, accepted_bounds_never_decline}
 
 pub promises : (plan : Plan) (cert : Cert) → IsWellFormed plan → IsTrue (accepted plan cert) → Promises plan cert
 promises plan cert well_formed is_accepted = record {
@@ -22,4 +23,6 @@ promises plan cert well_formed is_accepted = record {
   skipping_is_safe = accepted_plans_may_skip plan cert well_formed is_accepted;
   skipping_makes_progress = accepted_plans_make_progress_with_skips plan cert well_formed is_accepted;
   skipping_drains = accepted_plans_drain_with_skips plan cert well_formed is_accepted;
+  bounded_pools_never_reject = accepted_bounds_never_reject plan cert well_formed is_accepted;
+  bounded_pools_never_decline = accepted_bounds_never_decline plan cert well_formed is_accepted;
 }

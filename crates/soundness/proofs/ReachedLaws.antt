@@ -20,7 +20,8 @@ use Rattle.soundness.proofs.VectorLaws.{VectorLaws, vector_laws}
 use Rattle.soundness.proofs.BoundLaws.{lifetime_laws, bound_laws, bound_vector_laws}
 use Rattle.soundness.proofs.NeverRises.{IsBalanced, balanced_start, never_rises, balanced_step}
 use Rattle.soundness.proofs.WithinTotal as within
-use Rattle.soundness.proofs.NoRefusal.{never_refused, jobs-le-total}
+use Rattle.soundness.proofs.NoRefusal.{never_refused, never_declined, jobs-le-total}
+use Rattle.soundness.proofs.Rejections.{rejected_when}
 
 -- every reachable state is balanced
 pub balanced : (get_return : GetReturn) (plan : Plan) (v : Vector) (s : State) → IsWellFormed plan → VectorLaws get_return plan v → RejectedAreLight plan v → IsReached plan s → IsBalanced get_return plan v s
@@ -39,12 +40,17 @@ pub sum_stays_within_total : SumStaysWithinTotal
 sum_stays_within_total get_return plan v s well_formed hold light reached =
     within.sum_of-le-total get_return plan v s (ordered plan well_formed) (kept plan s well_formed reached) (balanced get_return plan v s well_formed (vector_laws get_return plan v hold) light reached)
 
--- the law that a pool with a bound whose rows hold refuses nothing
+-- the law that a pool with a bound whose rows hold refuses and rejects nothing
 pub bounds_refuse_nothing : BoundsRefuseNothing
-bounds_refuse_nothing plan p bound s s' event well_formed fits hold light reached refused =
+bounds_refuse_nothing plan p bound s s' event well_formed fits hold light reached =
+    let is_ordered = ordered plan well_formed in
     let laws = bound_laws plan p bound fits hold in
-    never_refused plan bound s s' p (ordered plan well_formed) laws (kept plan s well_formed reached) (threads_have_made plan s well_formed reached)
-    (balanced (bound_get_return bound) plan (bound_vector bound) s well_formed (bound_vector_laws plan p bound laws) light reached) (happens plan s event s' (outcome.Refused p) refused)
+    let invariant = kept plan s well_formed reached in
+    let have = threads_have_made plan s well_formed reached in
+    let is_balanced = balanced (bound_get_return bound) plan (bound_vector bound) s well_formed (bound_vector_laws plan p bound laws) light reached in (
+      λ refused. never_refused plan bound s s' p is_ordered laws invariant have is_balanced (happens plan s event s' (outcome.Refused p) refused),
+      λ j rejected. never_declined plan bound s p is_ordered laws invariant have is_balanced (rejected_when plan s s' event p j rejected),
+    )
 
 -- the law that the number of jobs submitted to a pool is at most the total of its lifetime vector
 pub jobs_stay_within_total : JobsStayWithinTotal

@@ -34,9 +34,9 @@ use Rattle.soundness.proofs.Walks.{done-le-queued}
 use Rattle.soundness.proofs.ThreadChanges.{change_skipped}
 use Rattle.soundness.proofs.ExchangedJobs.{AreAlike, IsExchange, is_exchange, kept_exchanged, threads-exchanged, jobs_made-exchanged, have_jobs_exchanged, no_heavier_exchanged}
 use Rattle.soundness.proofs.Choices.{IsSkipped, leaves, is_skipped, choices_keep}
-use Rattle.soundness.specs.Headline.{AcceptedPlansMaySkip, AcceptedPlansMakeProgressWithSkips}
+use Rattle.soundness.specs.Headline.{AcceptedPlansMaySkip, AcceptedPlansMakeProgressWithSkips, bound_of}
 use Rattle.soundness.proofs.CertLaws.{CertLaws, cert_laws}
-use Rattle.soundness.proofs.Theorem.{bound_of, Sound, sound_safe}
+use Rattle.soundness.proofs.Theorem.{Sound, sound_safe}
 use Rattle.soundness.proofs.Calls.{QueueWasFull, CallsKept}
 use Rattle.soundness.proofs.JavaTheorem.{JavaSound, java_sound_start, java_sound_step, java_makes_progress}
 
@@ -136,7 +136,7 @@ choice_keeps plan cert ordered laws s (Skips e) s' held is_step = left_keeps pla
 choice_keeps plan cert ordered laws s (Exchanges a t u) s' held is_step = exchange_keeps plan cert s a t u s' held (is_exchange plan s a t u s' is_step)
 
 -- every state that choices reach is sound
-choices_sound : (plan : Plan) (cert : Cert) → HasValidBodies plan → CertLaws plan cert → (choices : List Choice) (s : JavaState) → ChoicesReach plan choices s → JavaSound plan cert s
+pub choices_sound : (plan : Plan) (cert : Cert) → HasValidBodies plan → CertLaws plan cert → (choices : List Choice) (s : JavaState) → ChoicesReach plan choices s → JavaSound plan cert s
 choices_sound plan cert ordered laws choices s reached = choices_keep plan (JavaSound plan cert) (choice_keeps plan cert ordered laws) choices (without_calls (start plan)) s (java_sound_start plan cert ordered) reached
 
 -- ---- the laws

@@ -29,7 +29,7 @@ use Rattle.soundness.proofs.CountedGets.{may_block-below_core}
 use Rattle.soundness.proofs.Descent.{none_waits_loosely}
 use Rattle.soundness.proofs.Draining.{lowers, ends_thread, no_client_cases, not_counted, same_todo}
 use Rattle.soundness.specs.Accepted.{accepted}
-use Rattle.soundness.specs.Headline.{AcceptedPlansAreSafe, AcceptedPlansMakeProgress, AcceptedPlansDrain}
+use Rattle.soundness.specs.Headline.{AcceptedPlansAreSafe, AcceptedPlansMakeProgress, AcceptedPlansDrain, bound_of}
 use Rattle.soundness.proofs.CertLaws.{CertLaws, cert_laws}
 use Rattle.soundness.proofs.Bounded.{BoundHolds, Bounded, BoundsHold, bounded_start, bounded_step, keeps_sizes}
 use Rattle.soundness.proofs.BoundLaws.{PoolBoundLaws, bound_vector_laws}
@@ -37,10 +37,6 @@ use Rattle.soundness.proofs.RankLaws.{RankLaws}
 use Rattle.soundness.proofs.Walks.{rejected_are_light}
 
 -- ---- the invariants of the reachable states of an accepted plan
-
--- the bound of pool p in the certificate
-abbrev pub bound_of : Cert → ℕ → Option Bound
-bound_of cert p = (pool_cert_at cert p).bound
 
 bound_holds : (plan : Plan) (cert : Cert) (p : ℕ) (bound : Option Bound) → HasValidBodies plan → RankLaws plan cert.ranks → PoolBoundLaws plan p bound → BoundHolds plan p bound
 bound_holds plan cert p None ordered ranked laws = laws
@@ -72,7 +68,7 @@ sound_step plan cert s s' o ordered laws sound happened = record {
 }
 
 -- every reachable state is sound
-sound : (plan : Plan) (cert : Cert) (s : State) → HasValidBodies plan → CertLaws plan cert → IsReached plan s → Sound plan cert s
+pub sound : (plan : Plan) (cert : Cert) (s : State) → HasValidBodies plan → CertLaws plan cert → IsReached plan s → Sound plan cert s
 sound plan cert s ordered laws reached = reached_keeps plan (Sound plan cert) (sound_start plan cert ordered) (λ s₁ e s₂ o held happened. sound_step plan cert s₁ s₂ o ordered laws held happened) s reached
 
 -- ---- safety and progress

@@ -3,28 +3,45 @@ use Rattle.std.specs.Prelude.{◌≡◌, ◌≤◌, ◌<◌, ℕ, List, length, 
 use Rattle.job_bodies.specs.Plan.{Plan, pool_at}
 use Rattle.job_bodies.specs.WellFormed.{IsWellFormed}
 use Rattle.written_machine.specs.declared.event.Event.{Event}
+use Rattle.written_machine.specs.declared.event.Outcome.TheVariants.{Rejected}
 use Rattle.written_machine.specs.declared.parent.Parent.{Parent}
-use Rattle.written_machine.specs.State.{State, pool_part, threads}
+use Rattle.written_machine.specs.State.{State, pool_of, pool_part, threads}
+use Rattle.written_machine.specs.Step.{step}
 use Rattle.written_machine.specs.Reach.{Reaches}
 use Rattle.written_machine.specs.Safe.{Safe, MakesProgress}
 use Rattle.soundness.specs.Drain.{Drains}
-use Rattle.soundness.specs.Execute.{JavaState, is_calling}
+use Rattle.soundness.specs.Execute.{JavaState, Submission, submission, is_calling}
 use Rattle.soundness.specs.JavaSafe.{JavaReaches, JavaSafe, JavaMakesProgress, JavaDrains}
-use Rattle.soundness.specs.Skipping.{SkippingIsSafe, SkippingMakesProgress, SkippingDrains}
+use Rattle.soundness.specs.Skipping.{Choice, ChoicesReach, SkippingIsSafe, SkippingMakesProgress, SkippingDrains}
 use Rattle.weights.specs.declared.bound.Bound.{Bound}
 use Rattle.weights.specs.declared.bound.Bound.TheVariants.{Standing}
 use Rattle.weights.specs.Row.{AllHold}
 use Rattle.weights.specs.Vector.{Vector, vector_fits}
 use Rattle.weights.specs.Bound.{bound_vector, bound_rows}
-use Rattle.cert_text.specs.Cert.{Cert}
+use Rattle.cert_text.specs.Cert.{Cert, pool_cert_at}
 use Rattle.soundness.specs.Accepted.{accepted}
 use Rattle.soundness.specs.WeightLaws.{RejectedAreLight}
+
+-- the bound of pool p in the certificate
+abbrev pub bound_of : Cert → ℕ → Option Bound
+bound_of cert p = (pool_cert_at cert p).bound
+
+-- in every reachable state of the plan, a pool that rejects a job has no bound
+abbrev pub BoundedPoolsNeverReject : Plan → (ℕ → Option Bound) → Type 0
+BoundedPoolsNeverReject plan bounds = (events : List Event) (s s' : State) (event : Event) (p j : ℕ) → Reaches plan events s → step plan s event ≡ Some (s', Rejected p j) → bounds p ≡ None
+
+-- in every state that choices reach, a pool has no bound if an actor's call requests a thread of it and it has max threads, so that the
+-- job is refused or rejected
+abbrev pub BoundedPoolsNeverDecline : Plan → (ℕ → Option Bound) → Type 0
+BoundedPoolsNeverDecline plan bounds = (choices : List Choice) (s : JavaState) (event : Event) (x : Submission) → ChoicesReach plan choices s → submission plan s.machine event ≡ Some x
+    → IsTrue (is_calling s.requesting x.actor (pool_of plan x.class)) → (pool_at plan (pool_of plan x.class)).max ≤ threads plan s.machine (pool_of plan x.class) → bounds (pool_of plan x.class) ≡ None
 
 -- The guarantees of an accepted certificate for its plan: every reachable state is safe; in every reachable state with an
 -- unfinished job an event of a job or a take is possible; and the plan drains, that is, if no client acts, the number of job
 -- events and takes that can follow is bounded, and when none of them is possible, no job is unfinished. These three hold if each
 -- submit is one event (the first three fields), if each submit is the steps of Java's `execute` (the `java` fields), and if, in
--- addition to these steps, actors skip submits together with their gets and exchange alike jobs (the `skipping` fields).
+-- addition to these steps, actors skip submits together with their gets and exchange alike jobs (the `skipping` fields). Last, a pool
+-- that has a bound in the certificate rejects no job, even if it may, with submits in one event and in the steps of the `skipping` fields.
 pub record Promises (plan : Plan) (cert : Cert) : Type 0 where
   pub safe : Safe plan
   pub makes_progress : MakesProgress plan
@@ -35,6 +52,8 @@ pub record Promises (plan : Plan) (cert : Cert) : Type 0 where
   pub skipping_is_safe : SkippingIsSafe plan
   pub skipping_makes_progress : SkippingMakesProgress plan
   pub skipping_drains : SkippingDrains plan cert.ranks
+  pub bounded_pools_never_reject : BoundedPoolsNeverReject plan (bound_of cert)
+  pub bounded_pools_never_decline : BoundedPoolsNeverDecline plan (bound_of cert)
 
 -- if a certificate accepts a well-formed plan, every reachable state is safe
 abbrev pub AcceptedPlansAreSafe : Type 0
@@ -118,3 +137,13 @@ AcceptedPlansMakeProgressWithSkips = (plan : Plan) (cert : Cert) → IsWellForme
 -- and skips by jobs that can follow is bounded, and when no job event and no take is possible, no job is unfinished
 abbrev pub AcceptedPlansDrainWithSkips : Type 0
 AcceptedPlansDrainWithSkips = (plan : Plan) (cert : Cert) → IsWellFormed plan → IsTrue (accepted plan cert) → SkippingDrains plan cert.ranks
+
+-- ---- pools that may reject jobs and have a bound
+
+-- if a certificate accepts a well-formed plan, a pool with a bound rejects no job in any reachable state
+abbrev pub AcceptedBoundsNeverReject : Type 0
+AcceptedBoundsNeverReject = (plan : Plan) (cert : Cert) → IsWellFormed plan → IsTrue (accepted plan cert) → BoundedPoolsNeverReject plan (bound_of cert)
+
+-- if a certificate accepts a well-formed plan, a pool with a bound refuses and rejects no job in any state that choices reach
+abbrev pub AcceptedBoundsNeverDecline : Type 0
+AcceptedBoundsNeverDecline = (plan : Plan) (cert : Cert) → IsWellFormed plan → IsTrue (accepted plan cert) → BoundedPoolsNeverDecline plan (bound_of cert)

@@ -4,7 +4,7 @@ use Rattle.job_bodies.specs.Plan.{Plan, pool_at}
 use Rattle.job_bodies.specs.WellFormed.{IsWellFormed}
 use Rattle.written_machine.specs.declared.event.Event.{Event}
 use Rattle.written_machine.specs.declared.event.Outcome.{Outcome}
-use Rattle.written_machine.specs.declared.event.Outcome.TheVariants.{Refused}
+use Rattle.written_machine.specs.declared.event.Outcome.TheVariants.{Refused, Rejected}
 use Rattle.written_machine.specs.State.{State, pool_of}
 use Rattle.written_machine.specs.Step.{step}
 use Rattle.written_machine.specs.Reach.{IsReached}
@@ -32,11 +32,11 @@ SumNeverRises = (get_return : GetReturn) (plan : Plan) (v : Vector) (s s' : Stat
 abbrev pub SumStaysWithinTotal : Type 0
 SumStaysWithinTotal = (get_return : GetReturn) (plan : Plan) (v : Vector) (s : State) → IsWellFormed plan → AllHold (rows get_return plan v) → RejectedAreLight plan v → IsReached plan s → sum_of get_return plan v s ≤ total plan v
 
--- a pool that has a standing or a lifetime vector whose rows hold refuses no job in any reachable state, whatever the other pools
--- do
+-- a pool that has a standing or a lifetime vector whose rows hold refuses and rejects no job in any reachable state, whatever the other
+-- pools do
 abbrev pub BoundsRefuseNothing : Type 0
 BoundsRefuseNothing = (plan : Plan) (p : ℕ) (bound : Bound) (s s' : State) (event : Event) → IsWellFormed plan → IsTrue (vector_fits plan (bound_vector bound)) → AllHold (bound_rows plan p bound) → RejectedAreLight plan (bound_vector bound) → IsReached plan s
-    → step plan s event ≢ Some (s', Refused p)
+    → (step plan s event ≢ Some (s', Refused p)) × ((j : ℕ) → step plan s event ≢ Some (s', Rejected p j))
 
 -- if the rows of a pool's lifetime vector hold, the number of jobs ever submitted to the pool is at most the vector's total
 abbrev pub JobsStayWithinTotal : Type 0

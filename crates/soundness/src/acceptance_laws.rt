@@ -18,6 +18,7 @@ ghost use Rattle.soundness.specs.Headline.{
   StandingPoolsAreNotAsked,
 };
 ghost use Rattle.soundness.specs.Headline.{AcceptedPlansMaySkip, AcceptedPlansMakeProgressWithSkips, AcceptedPlansDrainWithSkips};
+ghost use Rattle.soundness.specs.Headline.{AcceptedBoundsNeverReject, AcceptedBoundsNeverDecline};
 
 /// Proves that, if a certificate accepts a well-formed plan, every reachable state is safe. In a
 /// safe state, no submit was refused, each pool is within its maximum and its queue's capacity, and
@@ -111,4 +112,17 @@ pub fn accepted_plans_make_progress_with_skips()
 /// Threads above core may end and jobs may be exchanged in between.
 pub fn accepted_plans_drain_with_skips()
     ensures { AcceptedPlansDrainWithSkips }
+{}
+
+/// Proves that, if a certificate accepts a well-formed plan and has a bound for the queue of a pool,
+/// the pool rejects no job in any reachable state, even if the plan says that it may.
+pub fn accepted_bounds_never_reject()
+    ensures { AcceptedBoundsNeverReject }
+{}
+
+/// Proves that, if a certificate accepts a well-formed plan and has a bound for the queue of a pool,
+/// the pool refuses and rejects no job, under the assumptions of [`accepted_plans_may_skip`]: a call
+/// that requests a thread of this pool finds fewer than max threads.
+pub fn accepted_bounds_never_decline()
+    ensures { AcceptedBoundsNeverDecline }
 {}

@@ -14,9 +14,10 @@ mod starvation_laws;
 mod weight_laws;
 
 pub use acceptance_laws::{
-    accepted_plans_are_java_safe, accepted_plans_are_safe, accepted_plans_drain,
-    accepted_plans_drain_with_skips, accepted_plans_java_drain, accepted_plans_make_java_progress,
-    accepted_plans_make_progress, accepted_plans_make_progress_with_skips, accepted_plans_may_skip,
+    accepted_bounds_never_decline, accepted_bounds_never_reject, accepted_plans_are_java_safe,
+    accepted_plans_are_safe, accepted_plans_drain, accepted_plans_drain_with_skips,
+    accepted_plans_java_drain, accepted_plans_make_java_progress, accepted_plans_make_progress,
+    accepted_plans_make_progress_with_skips, accepted_plans_may_skip,
     bounded_plans_java_refuse_nothing, bounded_plans_refuse_nothing, standing_pools_are_not_asked,
 };
 pub use java_laws::{
