@@ -16,7 +16,7 @@ use Rattle.written_machine.proofs.Busy.{one_if}
 use Rattle.written_machine.proofs.StateInvariant.{StateInvariant}
 use Rattle.written_machine.proofs.Reached.{kept}
 use Rattle.weights.specs.declared.get_return.GetReturn.TheVariants.{DoneWeight}
-use Rattle.weights.specs.Vector.{Vector, queued_weight, job_weight, done_weight}
+use Rattle.weights.specs.Vector.{Vector, queued_weight, job_weight, done_weight, total}
 use Rattle.weights.specs.Ranks.{Ranks, rank, reach, is_counted_action, is_counted}
 use Rattle.soundness.specs.WeightedSum.{stage_weight}
 use Rattle.soundness.specs.CountedGets.{passes_from, may_block_at, may_block_in, may_block, FewerThanCoreMayBlock}
@@ -179,15 +179,23 @@ module _ (plan : Plan) (ranks : Ranks) (v : Vector) (p : ℕ) (s : State) (order
       let right = sum_by-add (λ (e : ℕ × CreatedJob). weight e.1) owed_to numbered in
       omega (arith, each, left, right, sum_of_elements blocks 0 s.jobs, sum_of_elements owes 0 s.jobs, sum_of_elements weight 0 s.jobs, owed-le-debts plan ranks v r s.jobs s.jobs)
 
-  -- the number of jobs of the pool that may block is below core, because the weight of all jobs is at most the vector's total
+  -- the number of jobs of the pool that may block is at most the vector's total, because the weight of all jobs is
+  pub may_block-le-total : IsBalanced DoneWeight plan v s → may_block plan ranks s p ≤ total plan v
+  may_block-le-total balanced = omega (arith, may_block-le-weight, actors_weight-le-total DoneWeight plan v s ordered kept balanced)
+
+  -- the number of jobs of the pool that may block is below core
   pub may_block-below_core : p < length plan.pools → IsBalanced DoneWeight plan v s → may_block plan ranks s p < (pool_at plan p).core
   may_block-below_core inside balanced =
       let some_core = ordered.core p inside in
       let limit = laws.within in
-      omega (arith, may_block-le-weight, actors_weight-le-total DoneWeight plan v s ordered kept balanced)
+      omega (arith, may_block-le-total balanced)
 
--- the law that in every reachable state fewer jobs of a pool than its core size may block
+-- the law that in every reachable state at most as many jobs of a pool may block as its blocked vector allows, and fewer than core
 pub fewer_than_core_may_block : FewerThanCoreMayBlock
 fewer_than_core_may_block plan ranks p v s well_formed inside ranks_hold hold reached =
     let laws = blocked_laws plan (is_counted plan ranks) p v hold in
-    may_block-below_core plan ranks v p s (ordered plan well_formed) (rank_laws plan ranks ranks_hold) laws (kept plan s well_formed reached) inside (balanced DoneWeight plan v s well_formed laws.laws (rejected_are_light DoneWeight plan v ranks (ordered plan well_formed) (rank_laws plan ranks ranks_hold) laws.laws) reached)
+    let is_ordered = ordered plan well_formed in
+    let ranked = rank_laws plan ranks ranks_hold in
+    let invariant = kept plan s well_formed reached in
+    let is_balanced = balanced DoneWeight plan v s well_formed laws.laws (rejected_are_light DoneWeight plan v ranks is_ordered ranked laws.laws) reached in
+    (may_block-le-total plan ranks v p s is_ordered ranked laws invariant is_balanced, may_block-below_core plan ranks v p s is_ordered ranked laws invariant inside is_balanced)

@@ -155,4 +155,4 @@ none_waits_loosely plan ranks s members valid laws kept few waiting = impossible
 -- the law that no reachable state has a loose waiting set
 pub no_loose_waiting_sets : NoLooseWaitingSets
 no_loose_waiting_sets plan ranks vectors s well_formed ranks_hold hold reached members =
-    none_waits_loosely plan ranks s members (ordered plan well_formed) (rank_laws plan ranks ranks_hold) (kept plan s well_formed reached) (λ p inside. fewer_than_core_may_block plan ranks p (vectors p) s well_formed inside ranks_hold (hold p inside) reached)
+    none_waits_loosely plan ranks s members (ordered plan well_formed) (rank_laws plan ranks ranks_hold) (kept plan s well_formed reached) (λ p inside. (fewer_than_core_may_block plan ranks p (vectors p) s well_formed inside ranks_hold (hold p inside) reached).1)
