@@ -52,7 +52,7 @@ Clients are numbered from 0 in the order of the plan: each [[client]] has `count
 numbered from 0 in the order in which they are submitted.
 
 The answer has a line for each event, up to the first that is not possible, and then the number of
-refused submits and of unfinished jobs.
+refused submits, of rejected submits if a pool may reject jobs, and of unfinished jobs.
 
 Exit status:
   0  each event is possible, no submit is refused, and no jobs are stuck
@@ -71,12 +71,14 @@ The answer is `yes` or `no`, and then a line for each pool:
   pool NAME: standing T of Q, blocked T of B
 `standing T of Q`: at most T jobs are in the queue at once, and its capacity is Q. A certificate can
 have `lifetime T of Q` instead: at most T jobs are ever submitted, and Q of them fit into queue and
-threads. `blocked T of B`: at most T of the pool's threads wait for jobs that need this pool, and B,
-core - 1, may.
+threads. `may reject` in its place: the pool has `may_reject = true`, and no bound for its queue.
+`blocked T of B`: at most T of the pool's threads wait for jobs that need this pool, and B, core - 1,
+may.
 
 `yes` means that in every state that any order of events reaches, no submit was refused, each pool
-respects its maximum and its queue's capacity, and no jobs wait only for each other. `no` means that
-this certificate does not prove it; `sizing explain` lists the conditions that fail.
+respects its maximum and its queue's capacity, and no jobs wait only for each other. (A submit that
+a pool with `may_reject = true` rejects is not refused, but skipped together with its get.) `no`
+means that this certificate does not prove it; `sizing explain` lists the conditions that fail.
 
 Exit status:
   0  yes
@@ -144,8 +146,8 @@ Otherwise the answer is `no fitting sizes found`, and the reason:
   class NAME action I: submits for ever, never got
   pool NAME: sizes above 1000000
 With the first three, no sizes have a certificate. With the fourth the search reached the limit for a
-size or a weight; other sizes may do. Actions are numbered from 0. With --bundle the answer can also
-be `no bundle: text too long`.
+size or a weight, or nothing gets some jobs of a pool that may reject; other sizes may do. Actions
+are numbered from 0. With --bundle the answer can also be `no bundle: text too long`.
 
 Exit status:
   0  no size changes, or a bundle was written
@@ -169,7 +171,8 @@ job one per action and 2 more, for each client one per action and one between tw
 The answer is one of these lines:
   jobs N, units N, refused 0   the number of jobs, and the work of clients and jobs
   no                           `sizing check` answers no
-  fault 40 RunTooLarge         the run would exceed these limits, and was not started
+  fault 40 RunTooLarge         the run would exceed these limits, or a pool of the plan may reject
+                               jobs; it was not started
 
 Exit status:
   0  the plan was run
@@ -191,7 +194,8 @@ Otherwise the answer is a witness, if one is found. Its first line says how it e
   stuck forever: J jobs wait only for each other, after N events of M clients
   stuck now: J jobs wait only for each other, after N events of M clients
 Then come the steps, where equal steps of several clients are one line, the state of each pool, and
-which job waits for which. A plan with a witness has no certificate. If none is found, the answer is
+which job waits for which. A plan with a witness has no certificate. A submit that a pool with
+`may_reject = true` rejects ends no witness. If none is found, the answer is
   not decided: S states were searched
 With --bundle the answer is the plan, a line `%%`, and the events of the witness for `sizing replay`.
 
@@ -209,13 +213,14 @@ pub(crate) const ASK: Help = Help {
 sizing ask [--strict] [--format FORMAT] [--certificate FILE] PLAN [CERTIFICATE]
        sizing ask [--strict] [--format FORMAT] [--certificate FILE] < PLAN",
     notes: "\
-CERTIFICATE is one of an earlier run: if it still holds, nothing is searched.
+CERTIFICATE is one of an earlier run: if it still holds, no other one is searched for.
 
 If the plan is invalid, the answer lists its faults, at most 100:
   shop.toml:17:40: class page, action 2 \"get row\": nothing was submitted as row; did you mean rows?
 Otherwise it lists the warnings, and then says
-  SAFE         no submit is ever refused, and no jobs wait only for each other; how many jobs can
-               wait in the queue of each pool, and who submits them
+  SAFE         no submit is ever refused, except by a pool with `may_reject = true`, and no jobs
+               wait only for each other; how many jobs can wait in the queue of each pool, and who
+               submits them
   NOT SAFE     steps that end in a refused submit or in jobs that wait only for each other, and
                sizes that prevent it, or why there are none
   NOT DECIDED  neither was found; sizes that are certainly safe
@@ -229,7 +234,7 @@ The values of --format, which excludes --json and --dot:
   sarif   a SARIF log, for tools that show the results of analyses
 
 Exit status:
-  0  SAFE (with --strict: and no warning)
+  0  SAFE (with --strict: and no warning; a note is no warning)
   1  NOT SAFE, or with --strict SAFE with a warning
   4  NOT DECIDED
   2 or 3 after an error (see `sizing --help`)
@@ -286,6 +291,8 @@ the first difference of each class and kind:
   line 3: pool db: max 20, plan 10
 and the first line of each kind that invalidates the answer of `ask` for this service:
   line 40: a yes is void from here on: job 3 of class price in pool db was refused
+For each pool that rejected jobs, as its handler may by the plan, the answer ends with their number:
+  pool q rejected 3 jobs, as the plan allows
 
 Exit status:
   0  the recording conforms
@@ -307,9 +314,10 @@ RECORDING has a line for each event of the service's pools, as the recorder in `
 The answer is a plan in TOML: the pools with their recorded sizes, a class for each label of jobs,
 and a kind of client for each label of rounds. Each body covers all recorded paths of its label; if
 no single body does, there are several classes NAME, NAME_2 and so on. `count` is the largest number
-of rounds that were open at once, and a kind repeats if more rounds began in all. Comments at the top
-list what the plan leaves out, and what invalidates the answer of `ask` for this service. With
---strict only these differences are written, and no plan.
+of rounds that were open at once, and a kind repeats if more rounds began in all. A pool that rejected
+jobs only as its handler may has `may_reject = true`. Comments at the top list what the plan leaves
+out, and what invalidates the answer of `ask` for this service. With --strict only these differences
+are written, and no plan.
 
 A path that was not taken, and a pool or class that was not used, is not in the plan. Review the plan
 before you rely on it.

@@ -88,6 +88,7 @@ pub mod LineSurveyAfter
 pub mod RefusalsAfter
 pub mod RejectionRules
 pub mod RejectionCounts
+pub mod RejectingPools
 pub mod RejectionsAllowed
 mod WorkedRejections
 pub mod ExcessTrackerAfter

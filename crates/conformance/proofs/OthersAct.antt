@@ -21,10 +21,10 @@ use Rattle.cert_text.specs.Cert.{Cert}
 use Rattle.soundness.specs.Execute.{Call, JavaState, is_calling, without_calls_of}
 use Rattle.soundness.specs.Exchange.{exchanged_job, after_exchange}
 use Rattle.soundness.specs.Skipping.{Choice, choice_step}
-use Rattle.soundness.specs.Skipping.Choice.{Acts, Skips, Exchanges}
+use Rattle.soundness.specs.Skipping.Choice.{Acts, Skips, Misses, Exchanges}
 use Rattle.soundness.proofs.JavaEvents.{JavaHappens, is_atomic, ends, finds_core, finds_full, finds_all, call_of_others, one_more, java_happens}
 use Rattle.soundness.proofs.JavaTheorem.{JavaSound}
-use Rattle.soundness.proofs.Choices.{IsSkipped, leaves, is_skipped}
+use Rattle.soundness.proofs.Choices.{IsSkipped, leaves, is_skipped, is_missed}
 use Rattle.soundness.proofs.ExchangedJobs.{exchanges_swap_two_gets, point-exchanged, is_exchange}
 use Rattle.conformance.specs.LaggingRun.{is_event_of, is_choice_of}
 use Rattle.conformance.proofs.Undisturbed.{KeepsJobs, keeps_same, keeps_both, keeps_staged, keeps_moved, keeps_pushed, at_not_claimed, at_not_done, queued_not_done, queued_not_at, done_not_claimed, Stands, stands_other, stands_staged, stands_pushed, not_that_job}
@@ -109,7 +109,7 @@ happens_other plan a body i m s s' o kept other stands (takes p j queue idle is_
           ∙ stands_staged plan s a j (Stage.At 0) body i (not_that_job plan s a j body i (λ n at. queued_not_at n queued at) stands) stands;
       jobs = keeps_staged a m s.jobs j (Stage.At 0) (λ own. (at_not_claimed 0, λ done. absurd (queued_not_done queued done)));
     }
-happens_other plan a body i m s s' o kept other stands (retires p idle is_idle above) = record {
+happens_other plan a body i m s s' o kept other stands (retires p idle is_idle above not_handed) = record {
   stands = point_same plan s s' a refl refl ∙ stands;
   jobs = keeps_same a m s.jobs;
 }
@@ -178,5 +178,6 @@ pub choice_other : (plan : Plan) (cert : Cert) (a : Parent) (body : List Action)
     → StaysQuiet plan a body i m s s'
 choice_other plan cert a body i m s (Acts e) s' ordered sound other stands is_step = java_other plan a body i m s s' sound.sound.bounded.kept other stands (java_happens plan s e s' ordered sound.calls.offering is_step)
 choice_other plan cert a body i m s (Skips e) s' ordered sound other stands is_step = skip_other plan a body i m s s' other stands (is_skipped plan s e s' is_step)
+choice_other plan cert a body i m s (Misses e) s' ordered sound other stands is_step = java_other plan a body i m s s' sound.sound.bounded.kept other stands (is_missed plan s e s' is_step)
 choice_other plan cert a body i m s (Exchanges b t u) s' ordered sound other stands is_step =
     subst (StaysQuiet plan a body i m s) (is_exchange plan s b t u s' is_step).after (exchange_other plan a b body i m t u s other stands)

@@ -15,7 +15,7 @@ use Rattle.recordings.specs.LineParts.{declares}
 use Rattle.recordings.specs.Before.{has_pool, is_closed}
 use Rattle.conformance.specs.declared.difference.Difference.{Difference}
 use Rattle.conformance.specs.declared.difference.Difference.TheVariants.{Core, Max, KindOfQueue, Capacity, CoreTimeout, Prestarted}
-use Rattle.conformance.specs.Sizes.{differences, unless, is_array_or_linked, IsAsPlanned}
+use Rattle.conformance.specs.Sizes.{differences, unless, is_kind_of, IsAsPlanned}
 use Rattle.conformance.specs.PoolDeviations.{Deviation, NotPlanned, Differs, NotRecorded, pool_named, is_pool, is_among, has_difference, was_reported, unreported, deviations_of_pool, deviations_by_line, deviations_by_lines, unrecorded_at, unrecorded_by, unrecorded}
 use Rattle.conformance.specs.ComparisonLaws.{DeviationsAddUp, PoolsAreAsPlanned, PoolsAreRecorded, IsPlannedPool}
 use Rattle.conformance.proofs.LineByLine.{by_last, any_more, all_more, any_line_more, nothing_first, nothing_last}
@@ -166,12 +166,12 @@ as_planned is_first sizes pool none =
     let five = nothing_first _ started none in
     let four = nothing_first _ (unless (not sizes.timeout) CoreTimeout) five in
     let three = nothing_first _ (unless (sizes.capacity == pool.queue) (Capacity sizes.capacity pool.queue)) four in
-    let two = nothing_first _ (unless (is_array_or_linked sizes.queue) (KindOfQueue sizes.queue)) three in
+    let two = nothing_first _ (unless (is_kind_of pool.queue sizes.queue) (KindOfQueue sizes.queue)) three in
     let one = nothing_first _ (unless (sizes.max == pool.max) (Max sizes.max pool.max)) two in
     record {
       core = eqb-true _ _ (agrees (sizes.core == pool.core) _ one);
       max = eqb-true _ _ (agrees (sizes.max == pool.max) _ (nothing_last (unless (sizes.core == pool.core) (Core sizes.core pool.core)) _ two));
-      array_or_linked = agrees (is_array_or_linked sizes.queue) _ (nothing_last _ (unless (is_array_or_linked sizes.queue) (KindOfQueue sizes.queue)) three);
+      kind_of_queue = agrees (is_kind_of pool.queue sizes.queue) _ (nothing_last _ (unless (is_kind_of pool.queue sizes.queue) (KindOfQueue sizes.queue)) three);
       capacity = eqb-true _ _ (agrees (sizes.capacity == pool.queue) _ (nothing_last _ (unless (sizes.capacity == pool.queue) (Capacity sizes.capacity pool.queue)) four));
       core_stays = not-true _ (agrees (not sizes.timeout) _ (nothing_last _ (unless (not sizes.timeout) CoreTimeout) five));
       prestarted = λ first. eqb-true _ _ (counts_first is_first (sizes.prestarted == first_workers pool) (agrees (not is_first || sizes.prestarted == first_workers pool) _ (nothing_last _ started none)) first);

@@ -6,6 +6,7 @@ use Rattle.job_bodies.specs.declared.action.Action.{Action}
 use Rattle.job_bodies.specs.declared.action.Action.TheVariants as action
 use Rattle.job_bodies.specs.Plan.{Plan, pool_at}
 use Rattle.job_bodies.proofs.Bodies.{HasValidBodies}
+use Rattle.pool_machine.specs.PoolState.{queue_limit}
 use Rattle.pool_machine.specs.declared.offer.Offer.TheVariants as offer
 use Rattle.written_machine.specs.declared.event.Event.{Event}
 use Rattle.written_machine.specs.declared.parent.Parent.{Parent}
@@ -18,12 +19,12 @@ use Rattle.written_machine.proofs.Children.{same_actor_true, same_actor_refl}
 use Rattle.cert_text.specs.Cert.{Cert}
 use Rattle.soundness.specs.Execute.{Call, JavaState, is_calling, without_calls_of, submission_at, submission_of, answers, checks_core, offers_job, requests_thread, java_stepped}
 use Rattle.soundness.specs.Skipping.{Choice, choice_step, event_of_actor}
-use Rattle.soundness.specs.Skipping.Choice.{Acts, Skips, Exchanges}
+use Rattle.soundness.specs.Skipping.Choice.{Acts, Skips, Misses, Exchanges}
 use Rattle.soundness.proofs.CertLaws.{CertLaws}
 use Rattle.soundness.proofs.Theorem.{sound_safe}
 use Rattle.soundness.proofs.JavaEvents.{ends_with, JavaHappens, is_atomic, ends, finds_core, finds_full, finds_all, java_happens}
 use Rattle.soundness.proofs.JavaTheorem.{JavaSound}
-use Rattle.soundness.proofs.Choices.{IsSkipped, leaves, is_skipped}
+use Rattle.soundness.proofs.Choices.{IsSkipped, leaves, is_skipped, is_missed}
 use Rattle.soundness.proofs.ExchangedJobs.{is_exchange}
 use Rattle.soundness.proofs.Skipping.{choice_keeps}
 use Rattle.conformance.specs.LaggingRun.{is_event_of, is_choice_of, OthersAct, stays, acts, NextOfSubmit, IsTakenWithin}
@@ -62,6 +63,7 @@ skip_calls plan a s s' (leaves b bd k c at no_offer no_request) = λ p. (refl, r
 choice_calls : (plan : Plan) (cert : Cert) (a : Parent) (s : JavaState) (x : Choice) (s' : JavaState) → HasValidBodies plan → JavaSound plan cert s → is_choice_of a x ≡ false → choice_step plan s x ≡ Some s' → HasSameCalls a s s'
 choice_calls plan cert a s (Acts e) s' ordered sound other is_step = java_calls plan a s s' other (java_happens plan s e s' ordered sound.calls.offering is_step)
 choice_calls plan cert a s (Skips e) s' ordered sound other is_step = skip_calls plan a s s' (is_skipped plan s e s' is_step)
+choice_calls plan cert a s (Misses e) s' ordered sound other is_step = java_calls plan a s s' other (is_missed plan s e s' is_step)
 choice_calls plan cert a s (Exchanges b t u) s' ordered sound other is_step = subst (HasSameCalls a s) (is_exchange plan s b t u s' is_step).after (λ p. (refl, refl))
 
 first_call : (a : Parent) (p : ℕ) (calls : List Call) → is_calling (record { actor = a; pool = p } ∷ calls) a p ≡ true
@@ -134,7 +136,7 @@ module _ (plan : Plan) (cert : Cert) (a : Parent) (body : List Action) (q k : �
 
   -- The second step.
   offers : (s : JavaState) → IsAtSubmit s → is_calling s.requesting a (pool_of plan k) ≡ false → is_calling s.offering a (pool_of plan k) ≡ true
-      → (room : Bool) → ltb (length (pool_part s.machine (pool_of plan k)).queue) (pool_at plan (pool_of plan k)).queue ≡ room → NextOfSubmit plan a s (IsTakenWithin 1 plan a)
+      → (room : Bool) → ltb (length (pool_part s.machine (pool_of plan k)).queue) (queue_limit (pool_at plan (pool_of plan k)).queue (pool_part s.machine (pool_of plan k)).idle) ≡ room → NextOfSubmit plan a s (IsTakenWithin 1 plan a)
   offers s at not_requesting is_offering true is_room = record {
     next = answers plan s a q k offer.Queued;
     is_next = executed s at false true not_requesting is_offering ∙ ap (λ (b : Bool). Some (cond b (answers plan s a q k offer.Queued) (finds_no_room s))) is_room;
@@ -172,7 +174,7 @@ module _ (plan : Plan) (cert : Cert) (a : Parent) (body : List Action) (q k : �
           refl,
           λ s' others.
               let later = others_stay others (record { sound = choice_keeps plan cert is_ordered laws s (Acts (event_of_actor a)) (finds_the_core s) at.sound stepped; stands = at.stands }) in
-              offers s' later.at ((later.calls p).1 ∙ not_requesting) ((later.calls p).0 ∙ first_call a p s.offering) (ltb (length (pool_part s'.machine p).queue) (pool_at plan p).queue) refl,
+              offers s' later.at ((later.calls p).1 ∙ not_requesting) ((later.calls p).0 ∙ first_call a p s.offering) (ltb (length (pool_part s'.machine p).queue) (queue_limit (pool_at plan p).queue (pool_part s'.machine p).idle)) refl,
         );
       }
 

@@ -80,7 +80,8 @@ pub discards : rejected (plan_of true submits) (refusal Discard []) ≡ 0 ∷ []
 unfolding is_got has_handler is_shut has_acted submit_pool rule_for pools_in has_started
 discards = refl
 
-pub discards_oldest : rejected (plan_of true submits) (refusal DiscardOldest (JobStarts 0 ∷ [])) ≡ 0 ∷ []
+-- The handler accepted this job and dropped another one.
+pub discards_oldest : rejected (plan_of true submits) (refusal DiscardOldest (JobStarts 0 ∷ [])) ≡ []
 unfolding is_got has_handler is_shut has_acted submit_pool rule_for pools_in has_started
 discards_oldest = refl
 

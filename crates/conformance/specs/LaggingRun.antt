@@ -16,7 +16,7 @@ use Rattle.cert_text.specs.Cert.{Cert}
 use Rattle.soundness.specs.Accepted.{accepted}
 use Rattle.soundness.specs.Execute.{JavaState, is_calling}
 use Rattle.soundness.specs.Skipping.{Choice, choice_step, ChoicesReach, event_of_actor}
-use Rattle.soundness.specs.Skipping.Choice.{Acts, Skips, Exchanges}
+use Rattle.soundness.specs.Skipping.Choice.{Acts, Skips, Misses, Exchanges}
 use Rattle.conformance.specs.declared.step.ActorKind.{ActorKind}
 use Rattle.conformance.specs.declared.step.PathStep.{PathStep}
 use Rattle.conformance.specs.declared.step.PathStep.TheVariants as step
@@ -36,6 +36,7 @@ is_event_of _ _ = false
 abbrev pub is_choice_of : Parent → Choice → Bool
 is_choice_of actor (Acts e) = is_event_of actor e
 is_choice_of actor (Skips e) = is_event_of actor e
+is_choice_of actor (Misses e) = is_event_of actor e
 is_choice_of actor (Exchanges other t u) = same_parent actor other
 
 -- Choices of other actors and of pools lead from the first state to the second.

@@ -51,6 +51,7 @@ pub mod Conforms
 pub mod RejectionLaws
 pub mod FollowedActors
 pub mod RejectionRule
+pub mod RejectingPools
 pub mod Handlers
 pub mod RefusedJobs
 pub mod RefusalFacts

@@ -56,12 +56,12 @@ is_caller_runs handler.Discard = false
 is_caller_runs handler.DiscardOldest = false
 is_caller_runs handler.Other = false
 
--- The handler drops a job without an exception: the new one, or the oldest one in the queue.
+-- The handler drops the new job without an exception. One that drops the oldest job of the queue instead accepts the new one.
 abbrev pub is_discard : HandlerKind → Bool
 is_discard handler.Abort = false
 is_discard handler.CallerRuns = false
 is_discard handler.Discard = true
-is_discard handler.DiscardOldest = true
+is_discard handler.DiscardOldest = false
 is_discard handler.Other = false
 
 -- The line is a `pool` line of the pool whose handler is not of this kind.
@@ -146,6 +146,10 @@ abbrev pub is_allowed_at : Plan → List RecordedLine → List RecordedLine → 
 is_allowed_at plan lines before job by pool = is_allowed_by by (has_acted lines job) (has_started lines job) (is_shut before (pool_at plan pool).name)
 
 -- ---- a line
+-- The pool of the plan that the first `submit` line of the job names.
+abbrev pub pool_of_job : Plan → List RecordedLine → ℕ → Option ℕ
+pool_of_job plan lines job = option_and_then (pool_named plan) (submit_pool lines job)
+
 -- The pool, if it allows the rejection of the job, which `before` precedes.
 abbrev pub pool_if_allowed : Plan → List RecordedLine → List RecordedLine → ℕ → Option ℕ → Option ℕ
 pool_if_allowed plan lines before job None = None
@@ -153,12 +157,22 @@ pool_if_allowed plan lines before job (Some pool) = if is_allowed_at plan lines 
 
 -- The pool of the plan that rejected the job, if the plan allows this. `before` precedes the line.
 abbrev pub rejecting_pool : Plan → List RecordedLine → List RecordedLine → ℕ → Option ℕ
-rejecting_pool plan lines before job = pool_if_allowed plan lines before job (option_and_then (pool_named plan) (submit_pool lines job))
+rejecting_pool plan lines before job = pool_if_allowed plan lines before job (pool_of_job plan lines job)
 
 -- The pool of the plan that rejected a job in this line of the recording, if the plan allows this.
 abbrev pub pool_of_rejection : Plan → List RecordedLine → List RecordedLine → RecordedLine → Option ℕ
 pool_of_rejection plan lines before (Refused actor job) = rejecting_pool plan lines before job
 pool_of_rejection plan lines before line = None
+
+-- The pool of a refused job, if no pool rejected the job as the plan allows.
+abbrev pub unless_rejected : Option ℕ → Option ℕ → Option ℕ
+unless_rejected (Some rejecting) pool = None
+unless_rejected None pool = pool
+
+-- The pool of the plan that refused a job in this line of the recording, if the plan does not allow this.
+abbrev pub pool_of_refusal : Plan → List RecordedLine → List RecordedLine → RecordedLine → Option ℕ
+pool_of_refusal plan lines before (Refused actor job) = unless_rejected (rejecting_pool plan lines before job) (pool_of_job plan lines job)
+pool_of_refusal plan lines before line = None
 
 -- The line of the recording, which `before` precedes, is a `refused` line that invalidates nothing.
 abbrev pub is_allowed_rejection : Plan → List RecordedLine → List RecordedLine → RecordedLine → Bool
@@ -169,6 +183,10 @@ is_allowed_rejection plan lines before line = is_some (pool_of_rejection plan li
 -- count.
 unfoldable pub pools_in : Plan → List RecordedLine → List RecordedLine → List ℕ
 pools_in plan lines read = filter_map (λ (before, line). pool_of_rejection plan lines before line) (with_lines_before read)
+
+-- The pools of the refusals that the plan does not allow, in the order of their lines.
+unfoldable pub refusing_pools_in : Plan → List RecordedLine → List RecordedLine → List ℕ
+refusing_pools_in plan lines read = filter_map (λ (before, line). pool_of_refusal plan lines before line) (with_lines_before read)
 
 abbrev pub refusal_unless : Bool → Invalidation → Option Invalidation
 refusal_unless allowed refusal = if allowed then None else Some refusal

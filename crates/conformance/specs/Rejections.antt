@@ -1,5 +1,5 @@
 -- The refusals of a recording, as a function of the lines read.
-use Rattle.std.specs.Prelude.{◌≡◌, ◌==◌, ◌++◌, ℕ, true, false, if◌then◌else◌, List, count_by, Option, Some, None}
+use Rattle.std.specs.Prelude.{◌≡◌, ◌==◌, ◌++◌, ℕ, Bool, true, false, if◌then◌else◌, List, count_by, Option, Some, None}
 use Rattle.std.specs.List.{slice_get, filter_map, enumerate_from}
 use Rattle.std.specs.Option.{option_to_list}
 use Rattle.job_bodies.specs.Plan as plans
@@ -12,11 +12,13 @@ use Rattle.conformance.specs.declared.rejections.PoolRejections.{PoolRejections}
 use Rattle.conformance.specs.declared.rejections.Rejections.{Rejections}
 use Rattle.conformance.specs.PoolComparison.{has_name}
 use Rattle.conformance.specs.RefusedJobs.{or_else}
-use Rattle.conformance.specs.RejectionRule.{is_shut, has_rejecting_pool, pools_in, refusals_in}
+use Rattle.conformance.specs.RejectingPools.{only_rejects_by}
+use Rattle.conformance.specs.RejectionRule.{is_shut, has_rejecting_pool, unless_rejected, pools_in, refusing_pools_in, refusals_in}
 
 -- The refusals in `read`, the first lines of the recording.
 pub record AreRejectionsSoFar (plan : Plan) (lines read : List RecordedLine) (rejections : Rejections) : Type 0 where
   pub pools : rejections.pools.items ≡ pools_in plan lines read
+  pub refusing : rejections.refusing.items ≡ refusing_pools_in plan lines read
   pub first : rejections.first_refusal ≡ slice_get (refusals_in plan lines read) 0
   pub shut : (pool : List ℕ) → has_name rejections.shut pool ≡ is_shut read pool
 
@@ -26,7 +28,8 @@ AreRejectionsOf plan lines None = has_rejecting_pool plan ≡ false
 AreRejectionsOf plan lines (Some rejections) = (has_rejecting_pool plan ≡ true) × AreRejectionsSoFar plan lines lines rejections
 
 -- ---- one refusal
--- The line refuses the job: it is appended to the rejections if this pool of the plan rejects it.
+-- The line refuses the job: the pool of the plan that rejects it is appended to the pools of the rejections. If there is none, the pool of
+-- the job is appended to the pools of the other refusals.
 abbrev pub pools_after : Option ℕ → List ℕ → List ℕ
 pools_after pool pools = pools ++ option_to_list pool
 
@@ -34,10 +37,15 @@ abbrev pub refusal_after : Option ℕ → Invalidation → Option Invalidation �
 refusal_after None refusal first = or_else first (Some refusal)
 refusal_after (Some pool) refusal first = first
 
-pub record NotesRefusal (pool : Option ℕ) (number : ℕ) (actor : RecordedActor) (job : ℕ) (old new : Rejections) : Type 0 where
+pub record NotesRefusal (pool of_job : Option ℕ) (number : ℕ) (actor : RecordedActor) (job : ℕ) (old new : Rejections) : Type 0 where
   pub pools : new.pools.items ≡ pools_after pool old.pools.items
+  pub refusing : new.refusing.items ≡ pools_after (unless_rejected pool of_job) old.refusing.items
   pub first : new.first_refusal ≡ refusal_after pool (record { line = number; event = event.Refused actor job }) old.first_refusal
   pub shut : new.shut ≡ old.shut
+
+-- ---- the pools that only reject jobs
+abbrev pub only_rejected_by : Rejections → ℕ → Bool
+only_rejected_by rejections = only_rejects_by rejections.pools.items rejections.refusing.items
 
 -- ---- the number of rejections of each pool
 -- The number of rejections of the pool, if it may reject jobs.

@@ -1,11 +1,19 @@
 -- The differences between one `pool` line and a pool of the plan.
-use Rattle.std.specs.Prelude.{◌≡◌, Bool, true, false, ◌==◌, ◌||◌, not, if◌then◌else◌, List, [], ◌∷◌, ◌++◌, IsTrue}
+use Rattle.std.specs.Prelude.{◌≡◌, ℕ, Bool, true, false, ◌==◌, ◌||◌, not, if◌then◌else◌, List, [], ◌∷◌, ◌++◌, IsTrue}
 use Rattle.job_bodies.specs.Plan.{Pool, first_workers}
 use Rattle.recordings.specs.declared.pool_sizes.PoolSizes.{PoolSizes}
 use Rattle.recordings.specs.declared.pool_sizes.QueueKind.{QueueKind}
 use Rattle.recordings.specs.declared.pool_sizes.QueueKind.TheVariants as queue
 use Rattle.conformance.specs.declared.difference.Difference.{Difference}
 use Rattle.conformance.specs.declared.difference.Difference.TheVariants.{Core, Max, KindOfQueue, Capacity, CoreTimeout, Prestarted}
+
+-- The queue is a `SynchronousQueue`.
+abbrev pub is_synchronous : QueueKind → Bool
+is_synchronous queue.Array = false
+is_synchronous queue.Linked = false
+is_synchronous queue.Synchronous = true
+is_synchronous queue.Priority = false
+is_synchronous queue.Other = false
 
 -- The queue is an `ArrayBlockingQueue` or a `LinkedBlockingQueue`.
 abbrev pub is_array_or_linked : QueueKind → Bool
@@ -14,6 +22,10 @@ is_array_or_linked queue.Linked = true
 is_array_or_linked queue.Synchronous = false
 is_array_or_linked queue.Priority = false
 is_array_or_linked queue.Other = false
+
+-- The kind of the queue is one that a plan describes by this capacity.
+abbrev pub is_kind_of : ℕ → QueueKind → Bool
+is_kind_of capacity kind = if capacity == 0 then is_synchronous kind else is_array_or_linked kind
 
 -- A list with the difference, or an empty one if the two sides agree.
 abbrev pub unless : Bool → Difference → List Difference
@@ -25,7 +37,7 @@ abbrev pub differences : Bool → PoolSizes → Pool → List Difference
 differences is_first sizes pool =
     unless (sizes.core == pool.core) (Core sizes.core pool.core)
     ++ unless (sizes.max == pool.max) (Max sizes.max pool.max)
-    ++ unless (is_array_or_linked sizes.queue) (KindOfQueue sizes.queue)
+    ++ unless (is_kind_of pool.queue sizes.queue) (KindOfQueue sizes.queue)
     ++ unless (sizes.capacity == pool.queue) (Capacity sizes.capacity pool.queue)
     ++ unless (not sizes.timeout) CoreTimeout
     ++ unless (not is_first || sizes.prestarted == first_workers pool) (Prestarted sizes.prestarted (first_workers pool))
@@ -34,7 +46,7 @@ differences is_first sizes pool =
 pub record IsAsPlanned (is_first : Bool) (sizes : PoolSizes) (pool : Pool) : Type 0 where
   pub core : sizes.core ≡ pool.core
   pub max : sizes.max ≡ pool.max
-  pub array_or_linked : IsTrue (is_array_or_linked sizes.queue)
+  pub kind_of_queue : IsTrue (is_kind_of pool.queue sizes.queue)
   pub capacity : sizes.capacity ≡ pool.queue
   pub core_stays : sizes.timeout ≡ false
   pub prestarted : is_first ≡ true → sizes.prestarted ≡ first_workers pool

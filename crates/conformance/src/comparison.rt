@@ -67,7 +67,7 @@ pub enum Conformance {
 /// - is `caller_runs`, and no line has the job as an actor, other than its end. If the recording
 ///   has a `shutdown` of the pool, the job must also have a `start` line, and no `shutdown` of the
 ///   pool may precede the `refused` line;
-/// - or is `discard` or `discard_oldest`, and no body of the plan gets a job of the pool.
+/// - or is `discard`, and no body of the plan gets a job of the pool.
 ///
 /// If no finding concerns a label, a path or a number of rounds, all jobs and rounds behave as
 /// planned, whatever the pools are.

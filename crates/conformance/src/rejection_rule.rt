@@ -122,10 +122,10 @@ pub(crate) fn is_caller_runs(handler: HandlerKind) -> bool
     matches!(handler, HandlerKind::CallerRuns)
 }
 
-/// Returns whether the handler drops a job without an exception: the new one, or the oldest one in
-/// the queue.
+/// Returns whether the handler drops the new job without an exception. A handler that drops the
+/// oldest job of the queue instead accepts the new one, so it is not one of these.
 pub(crate) fn is_discard(handler: HandlerKind) -> bool
     ensures { result ≡ spec.is_discard handler }
 {
-    matches!(handler, HandlerKind::Discard | HandlerKind::DiscardOldest)
+    matches!(handler, HandlerKind::Discard)
 }

@@ -1,5 +1,5 @@
 //! The refused jobs of a recording, if some pool of the plan may reject jobs: the rejections that
-//! the plan allows, and the first other refusal.
+//! the plan allows, and the other refusals.
 
 ghost use Rattle.std.specs.Prelude.{◌≡◌, ◌+◌, ◌==◌, ◌++◌, ◌∷◌, [], ℕ, true, Some, List, count_by, length, OnOk, IfOk};
 ghost use Rattle.std.specs.Option.{option_to_list};
@@ -9,6 +9,7 @@ ghost use Rattle.recordings.specs.LineSteps.{is_refused};
 ghost use Rattle.recordings.specs.RecordingLine.{RecordedLine, line_view};
 ghost use Rattle.conformance.specs.Lines.{lines_of};
 ghost use Rattle.conformance.specs.RefusalFacts.{AreFactsFor};
+ghost use Rattle.conformance.specs.RejectingPools as rejecting;
 ghost use Rattle.conformance.specs.RejectionRule as rule;
 ghost use Rattle.conformance.specs.Rejections as spec;
 
@@ -32,6 +33,8 @@ pub struct PoolRejections {
 pub(crate) struct Rejections {
     /// The pools of the rejections that the plan allows, in the order of their lines.
     pools: Vec<usize>,
+    /// The pools of the other refusals, in the order of their lines.
+    refusing: Vec<usize>,
     /// The first other refusal.
     pub(crate) first_refusal: Option<Invalidation>,
     // The pools that are shut down.
@@ -43,9 +46,11 @@ impl Rejections {
         ensures { (plan : plans.Plan) (lines : List RecordedLine) → spec.AreRejectionsSoFar plan lines [] result }
     {
         let pools = Vec::new(alloc);
+        let refusing = Vec::new(alloc);
         let shut = PoolNames::new(alloc);
         Rejections {
             pools,
+            refusing,
             first_refusal: None,
             shut,
         }
@@ -88,9 +93,26 @@ impl Rejections {
             → number ≡ length before + 1
             → spec.AreRejectionsSoFar plan.now lines before self.old
             → OnOk result
-            (spec.NotesRefusal (rule.rejecting_pool plan.now lines before job) number actor job self.old self.new) }
+            (spec.NotesRefusal (rule.rejecting_pool plan.now lines before job) (rule.pool_of_job plan.now lines job) number actor job self.old self.new) }
     {
-        match self.rejecting_pool(plan, facts, job) {
+        let pool = self.rejecting_pool(plan, facts, job);
+        let of_job = facts.jobs.pool_of(job);
+        self.note(pool, of_job, number, actor, job)
+    }
+
+    // Notes that the pool rejects the job, as the plan allows. If there is no such pool, notes the
+    // refusal by the pool of the job.
+    fn note(
+        &mut self,
+        pool: Option<usize>,
+        of_job: Option<usize>,
+        number: usize,
+        actor: RecordedActor,
+        job: usize,
+    ) -> Result<(), AllocError>
+        ensures { OnOk result (spec.NotesRefusal pool of_job number actor job self.old self.new) }
+    {
+        match pool {
             Some(pool) => {
                 self.pools.push(pool)?;
                 Ok(())
@@ -102,7 +124,7 @@ impl Rejections {
                         event: InvalidatingEvent::Refused { actor, job },
                     });
                 }
-                Ok(())
+                push_some(&mut self.refusing, of_job)
             }
         }
     }
@@ -143,6 +165,14 @@ impl Rejections {
         }
     }
 
+    /// Returns whether the pool rejected a job, as the plan allows, and no other refusal is by the
+    /// pool.
+    pub(crate) fn only_rejects(&self, pool: usize) -> bool
+        ensures { result ≡ spec.only_rejected_by self.now pool }
+    {
+        is_among(pool, &self.pools) && !is_among(pool, &self.refusing)
+    }
+
     /// Returns the number of rejections of each pool that may reject jobs, in the order of the
     /// plan.
     ///
@@ -164,6 +194,15 @@ impl Rejections {
     }
 }
 
+fn push_some(pools: &mut Vec<usize>, pool: Option<usize>) -> Result<(), AllocError>
+    ensures { OnOk result (pools.new.items ≡ pools.old.items ++ option_to_list pool) }
+{
+    if let Some(pool) = pool {
+        pools.push(pool)?;
+    }
+    Ok(())
+}
+
 fn push_count(
     counts: &mut Vec<PoolRejections>,
     number: usize,
@@ -181,6 +220,12 @@ fn push_count(
         })?;
     }
     Ok(())
+}
+
+fn is_among(pool: usize, pools: &[usize]) -> bool
+    ensures { result ≡ rejecting.is_among pool pools.now }
+{
+    pools.iter().any(|one| *one == pool)
 }
 
 fn count_of(pools: &[usize], pool: usize) -> usize
@@ -206,9 +251,25 @@ pub(crate) fn find_rejections(
     if !has_rejecting_pool(plan) {
         return Ok(None);
     }
-    let facts = refusal_facts(alloc, plan, recording)?;
-    let rejections = rejections_by(alloc, plan, recording, &facts)?;
+    let rejections = rejections_in(alloc, plan, recording)?;
     Ok(Some(rejections))
+}
+
+/// Returns the refusals of a recording.
+///
+/// # Errors
+///
+/// Returns `AllocError` if memory runs out.
+pub(crate) fn rejections_in(
+    alloc: Global,
+    plan: &Plan,
+    recording: &[u8],
+) -> Result<Rejections, AllocError>
+    ensures { IfOk result
+        (spec.AreRejectionsSoFar plan.now (lines_of recording.now) (lines_of recording.now)) }
+{
+    let facts = refusal_facts(alloc, plan, recording)?;
+    rejections_by(alloc, plan, recording, &facts)
 }
 
 fn rejections_by(

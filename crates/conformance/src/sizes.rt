@@ -43,7 +43,7 @@ pub fn differences(
     )?;
     push_unless(
         &mut found,
-        is_array_or_linked(sizes.queue),
+        is_kind_of(pool.queue, sizes.queue),
         Difference::KindOfQueue(sizes.queue),
     )?;
     let (recorded, planned) = (sizes.capacity as u64, pool.queue);
@@ -62,7 +62,24 @@ pub fn differences(
     Ok(found)
 }
 
-/// Returns true if the queue is of one of the two kinds that a plan can describe.
+/// Returns whether the kind of the queue is one that a plan describes by this capacity: a
+/// `SynchronousQueue` by 0, and one of the two bounded queues by any other number.
+fn is_kind_of(capacity: u64, kind: QueueKind) -> bool
+    ensures { result ≡ spec.is_kind_of capacity kind }
+{
+    if capacity == 0 {
+        is_synchronous(kind)
+    } else {
+        is_array_or_linked(kind)
+    }
+}
+
+fn is_synchronous(kind: QueueKind) -> bool
+    ensures { result ≡ spec.is_synchronous kind }
+{
+    matches!(kind, QueueKind::Synchronous)
+}
+
 fn is_array_or_linked(kind: QueueKind) -> bool
     ensures { result ≡ spec.is_array_or_linked kind }
 {

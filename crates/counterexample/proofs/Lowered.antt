@@ -1,22 +1,23 @@
 -- A plan with lower maximums has the same steps, as long as no pool starts a thread above its lowered maximum.
-use Rattle.std.proofs.Common.{◌≡◌, ℕ, zero, suc, ◌+◌, ◌<◌, ◌≤◌, ◌⊎◌, Bool, true, false, cond, List, [], ◌∷◌, length, map, get_or, Option, Some, None, inl, inr, ⊎_elim, refl, sym, ap, ◌∙◌, arith}
+use Rattle.std.proofs.Common.{◌≡◌, ℕ, zero, suc, ◌+◌, ◌<◌, ◌≤◌, ◌⊎◌, Bool, true, false, cond, List, [], ◌∷◌, length, map, get_or, Option, Some, None, inl, inr, ⊎_elim, refl, sym, ap, subst, ◌∙◌, arith}
 use Rattle.std.specs.List.{enumerate_from}
 use Rattle.std.proofs.lemmas.Option.{same_Some}
 use Rattle.std.proofs.lemmas.Grind.{common_steps}
 use Rattle.job_bodies.specs.declared.action.Action.{Action}
 use Rattle.job_bodies.specs.declared.action.Action.TheVariants as action
 use Rattle.job_bodies.specs.Plan.{Pool, Plan, no_pool, pool_at, class_at, client_at}
+use Rattle.job_bodies.specs.WellFormed.{least_queue}
 use Rattle.job_bodies.specs.ValidBody.{IsValidBody}
 use Rattle.job_bodies.proofs.Bodies.{HasValidBodies}
 use Rattle.pool_machine.specs.declared.offer.Offer.{Offer}
 use Rattle.pool_machine.specs.declared.offer.Offer.TheVariants as offer
-use Rattle.pool_machine.specs.PoolState.{PoolView, new_pool, answer}
+use Rattle.pool_machine.specs.PoolState.{PoolView, queue_limit, new_pool, answer}
 use Rattle.written_machine.specs.declared.parent.Parent.{Parent}
 use Rattle.written_machine.specs.declared.parent.Parent.TheVariants as parent
 use Rattle.written_machine.specs.declared.event.Event.{Event}
 use Rattle.written_machine.specs.declared.event.Outcome.{Outcome}
 use Rattle.written_machine.specs.declared.event.Outcome.TheVariants as outcome
-use Rattle.written_machine.specs.State.{State, PoolPart, pool_of, pool_seen, part_of, threads}
+use Rattle.written_machine.specs.State.{State, PoolPart, pool_part, pool_of, pool_seen, part_of, threads}
 use Rattle.written_machine.specs.Step.{skipped, answered, submitted, step_action, step_at_point, step}
 use Rattle.written_machine.specs.Reach.{start}
 use Rattle.written_machine.proofs.Events.{IsAtAction, event_of, Happens, works, starts, queues, is_refused, is_rejected, gets, finishes, loops, takes, retires}
@@ -97,7 +98,10 @@ ordered-lowered plan most ordered between = record {
       let low = (between p (there p inside)).1 in
       let few = ordered.most_max p (there p inside) in
       omega (arith, max-lowered plan most p (there p inside));
-  queue = λ p inside. let some = ordered.queue p (there p inside) in omega (arith, queue-lowered plan most p);
+  queue = λ p inside.
+      let some = ordered.queue p (there p inside) in
+      let least : least_queue (pool_at (lowered plan most) p) ≡ least_queue (pool_at plan p) = ap (λ (may : Bool). cond may 0 1) (may_reject-lowered plan most p) in
+      omega (arith, queue-lowered plan most p);
   most_queue = λ p inside. let few = ordered.most_queue p (there p inside) in omega (arith, queue-lowered plan most p);
   count = ordered.count;
   most_count = ordered.most_count;
@@ -118,7 +122,7 @@ kept-lowered plan most s kept within = record {
       record {
         queue = pool.queue;
         within_max = omega (arith, within p inside, max-lowered plan most p inside);
-        within_queue = omega (arith, pool.within_queue, queue-lowered plan most p);
+        within_queue = subst (λ (queue : ℕ). length (pool_part s p).queue ≤ queue_limit queue (pool_part s p).idle) (sym (queue-lowered plan most p)) pool.within_queue;
         core = λ some. let enough = pool.core some in omega (arith, core-lowered plan most p);
       };
   actors = λ a body i stands. kept.actors a body i stands;
@@ -170,7 +174,8 @@ happens-lowered plan most s s' e o ordered between below (starts a body i k at r
     (⊎_elim (λ (few : threads plan s q < most q). inl (omega arith)) (λ (few : threads plan s q < (pool_at plan q).core). inr (omega arith)) (below a body i k at (started_answer plan s s' a body i k (length s.jobs) at is_step)))
 happens-lowered plan most s s' e o ordered between below (queues a body i k at at_core room) is_step =
     let q = pool_of plan k in
-    queues a body i k (stands-lowered plan most s a body i (Some (action.Submit k)) at) (omega (arith, core-lowered plan most q)) (omega (arith, queue-lowered plan most q))
+    queues a body i k (stands-lowered plan most s a body i (Some (action.Submit k)) at) (omega (arith, core-lowered plan most q))
+    (subst (λ (queue : ℕ). length (pool_part s q).queue < queue_limit queue (pool_part s q).idle) (sym (queue-lowered plan most q)) room)
 happens-lowered plan most s s' e o ordered between below (is_refused a body i k at must no_room all_started) is_step =
     let q = pool_of plan k in
     let inside = ordered.pools k (class_exists plan s a body i k ordered at) in
@@ -182,4 +187,5 @@ happens-lowered plan most s s' e o ordered between below (gets a body i t j at i
 happens-lowered plan most s s' e o ordered between below (finishes j body i at) is_step = finishes j body i (stands-lowered plan most s (parent.Job j) body i None at)
 happens-lowered plan most s s' e o ordered between below (loops c client body i at is_client repeats) is_step = loops c client body i (stands-lowered plan most s (parent.Client c) body i None at) is_client repeats
 happens-lowered plan most s s' e o ordered between below (takes p j queue idle is_queue is_idle) is_step = takes p j queue idle is_queue is_idle
-happens-lowered plan most s s' e o ordered between below (retires p idle is_idle above_core) is_step = retires p idle is_idle (omega (arith, core-lowered plan most p))
+happens-lowered plan most s s' e o ordered between below (retires p idle is_idle above_core not_handed) is_step =
+    retires p idle is_idle (omega (arith, core-lowered plan most p)) (λ none. not_handed (sym (queue-lowered plan most p) ∙ none))

@@ -59,7 +59,7 @@ impl SearchPool {
     pub(crate) fn answer(&self) -> Admission {
         if self.threads < self.core {
             Admission::Started
-        } else if (self.queue.len() as u64) < self.capacity {
+        } else if (self.queue.len() as u64) < self.queue_limit() {
             Admission::Queued
         } else if self.threads < self.max {
             Admission::Started
@@ -67,6 +67,16 @@ impl SearchPool {
             Admission::Rejected
         } else {
             Admission::Refused
+        }
+    }
+
+    /// Returns the number of jobs that the queue can hold at most: its capacity, or the number of
+    /// idle threads if the capacity is 0.
+    fn queue_limit(&self) -> u64 {
+        if self.capacity == 0 {
+            self.idle
+        } else {
+            self.capacity
         }
     }
 
@@ -128,7 +138,7 @@ impl SearchPool {
     /// Returns the number of further jobs that the pool accepts if no thread takes a job from the
     /// queue before that.
     pub(crate) fn room(&self) -> u64 {
-        let places = self.capacity.saturating_sub(self.queue.len() as u64);
+        let places = self.queue_limit().saturating_sub(self.queue.len() as u64);
         places.saturating_add(self.max.saturating_sub(self.threads))
     }
 

@@ -19,7 +19,8 @@ use std::alloc::{AllocError, Global};
 /// not reject jobs, or if there is no such pool. If the search finds none, the pool may still
 /// reject jobs. The result is the same for each call with the same arguments.
 ///
-/// The search is a search for a witness against the plan in which this pool must not reject jobs.
+/// The search is a search for a witness against the plan in which this pool must not reject jobs and
+/// has a queue of at least 1. The events are replayed in the given plan.
 /// It also ends at a refusal by another pool, and if jobs wait only for each other. There are no
 /// such states if a certificate accepts the plan.
 ///
@@ -63,8 +64,16 @@ fn refusing_pools(alloc: Global, plan: &Plan, pool: usize) -> Result<Vec<Pool>, 
     ensures well_formed { IsWellFormed plan.now }
 {
     let mut pools = copies_of(alloc, plan.pools())?;
-    pools[pool].may_reject = false;
+    forbid_rejections(&mut pools[pool]);
     Ok(pools)
+}
+
+/// Changes the pool into one that must not reject jobs. Its queue then has at least one place.
+fn forbid_rejections(pool: &mut Pool)
+    ensures { pool.new ≡ spec.refusing_pool pool.old }
+{
+    pool.queue = pool.queue.max(1);
+    pool.may_reject = false;
 }
 
 fn copies_of(alloc: Global, pools: &[Pool]) -> Result<Vec<Pool>, AllocError>

@@ -5,7 +5,7 @@ use Rattle.job_bodies.specs.WellFormed.{IsWellFormed}
 use Rattle.size_search.specs.Widened.{outline}
 use Rattle.size_search.proofs.Shapes.{length-changed}
 use Rattle.size_search.proofs.Numbered.{map-twice, changed_at}
-use Rattle.size_search.proofs.Changes.{nameplate, well_formed_changed, HasSizes, sizes_at, sized_from_places}
+use Rattle.size_search.proofs.Changes.{nameplate, least_queue_kept, well_formed_changed, HasSizes, sizes_at, sized_from_places}
 use Rattle.diagnostics.specs.AtCore.{with_max_at_core, at_core}
 
 outline-at_core : (plan : Plan) → outline (at_core plan) ≡ outline plan
@@ -29,6 +29,6 @@ at_core_is_well_formed plan well = well_formed_changed plan (at_core plan) well 
           core = omega (arith, declared.core);
           max = omega arith;
           most_max = omega (arith, declared.max, declared.most_max);
-          queue = omega (arith, declared.queue);
+          queue = least_queue_kept (pool_at plan p) (pool_at (at_core plan) p) (pool_at (at_core plan) p).queue (ap (λ (pool : Pool). pool.may_reject) is) (omega (arith, declared.queue));
           most_queue = omega (arith, declared.most_queue);
         }

@@ -6,7 +6,7 @@ use Rattle.std.specs.Str.{bytes_eq}
 -- the end of the message for a size of 0
 abbrev pub zero_hint : List ℕ → List ℕ
 zero_hint key =
-    if bytes_eq key (codes "queue") then codes "; a SynchronousQueue is not covered (docs/PATTERNS.md)"
+    if bytes_eq key (codes "queue") then codes "; 0, a SynchronousQueue, needs may_reject = true (docs/PATTERNS.md)"
     else (if bytes_eq key (codes "core") then codes "; write the number of threads that you want (docs/PATTERNS.md)"
     else codes "")
 

@@ -40,24 +40,29 @@ looks_like_a_size plan units = nat_le 50 units && is_a_size plan units
 
 -- ---- submits to pools that may reject jobs
 
--- the pool that runs the jobs of class k may reject them
-abbrev pub may_be_rejected : Plan → ℕ → Bool
-may_be_rejected plan k = (pool_at plan (class_at plan k).pool).may_reject
+-- the pool's queue holds all jobs that can be in it at once, and their number is known
+abbrev pub holds_all : Pool → Option ℕ → Bool
+holds_all pool None = false
+holds_all pool (Some most) = nat_le most pool.queue
+
+-- pool p may reject jobs by the plan, and it is not known that it never does
+abbrev pub may_reject_jobs : Plan → List (Option ℕ) → ℕ → Bool
+may_reject_jobs plan needed p = (pool_at plan p).may_reject && not (holds_all (pool_at plan p) (slice_index_or needed p None))
 
 -- the submit of a job of class k at position i of the body may be rejected while a future is open
-abbrev pub leaves_a_future : Plan → List Action → ℕ → ℕ → Bool
-leaves_a_future plan body i k = may_be_rejected plan k && has_open_future body i
+abbrev pub leaves_a_future : Plan → List (Option ℕ) → List Action → ℕ → ℕ → Bool
+leaves_a_future plan needed body i k = may_reject_jobs plan needed (class_at plan k).pool && has_open_future body i
 
 -- ---- bodies
 
 -- the lints of an action at a position of the body of a class or client kind
-abbrev pub lints_of_action : Plan → Part → ℕ → List Action → ℕ → Action → List Lint
-lints_of_action plan of number body place (Work units) = only_if (looks_like_a_size plan units) (WorkLikeASize of number place units)
-lints_of_action plan of number body place (Submit k) = only_if (leaves_a_future plan body place k) (OpenFuture of number place)
-lints_of_action plan of number body place _ = []
+abbrev pub lints_of_action : Plan → List (Option ℕ) → Part → ℕ → List Action → ℕ → Action → List Lint
+lints_of_action plan needed of number body place (Work units) = only_if (looks_like_a_size plan units) (WorkLikeASize of number place units)
+lints_of_action plan needed of number body place (Submit k) = only_if (leaves_a_future plan needed body place k) (OpenFuture of number place)
+lints_of_action plan needed of number body place _ = []
 
-abbrev pub lints_of_body : Plan → Part → ℕ → List Action → List Lint
-lints_of_body plan of number body = flat_map (λ (entry : ℕ × Action). lints_of_action plan of number body entry.0 entry.1) (enumerate_from 0 body)
+abbrev pub lints_of_body : Plan → List (Option ℕ) → Part → ℕ → List Action → List Lint
+lints_of_body plan needed of number body = flat_map (λ (entry : ℕ × Action). lints_of_action plan needed of number body entry.0 entry.1) (enumerate_from 0 body)
 
 -- ---- pools
 
@@ -112,15 +117,16 @@ is_work (Work u) = true
 is_work _ = false
 
 -- the pool of the class may reject its jobs, and their body has submits or gets
-abbrev pub may_run_in_caller : Plan → Class → Bool
-may_run_in_caller plan class = (pool_at plan class.pool).may_reject && not (list_all is_work class.body)
+abbrev pub may_run_in_caller : Plan → List (Option ℕ) → Class → Bool
+may_run_in_caller plan needed class = may_reject_jobs plan needed class.pool && not (list_all is_work class.body)
 
-abbrev pub lints_of_class : Plan → List Bool → ℕ → Class → List Lint
-lints_of_class plan marks k class =
-    only_if (not (slice_index_or marks k false)) (ClassWithoutJobs k) ++ (only_if (may_run_in_caller plan class) (RunInCaller k) ++ lints_of_body plan part.Class k class.body)
+abbrev pub lints_of_class : Plan → List (Option ℕ) → List Bool → ℕ → Class → List Lint
+lints_of_class plan needed marks k class =
+    only_if (not (slice_index_or marks k false)) (ClassWithoutJobs k)
+    ++ (only_if (may_run_in_caller plan needed class) (RunInCaller k) ++ lints_of_body plan needed part.Class k class.body)
 
-abbrev pub lints_of_classes : Plan → List Bool → List Lint
-lints_of_classes plan marks = flat_map (λ (entry : ℕ × Class). lints_of_class plan marks entry.0 entry.1) (enumerate_from 0 plan.classes)
+abbrev pub lints_of_classes : Plan → List (Option ℕ) → List Bool → List Lint
+lints_of_classes plan needed marks = flat_map (λ (entry : ℕ × Class). lints_of_class plan needed marks entry.0 entry.1) (enumerate_from 0 plan.classes)
 
 -- ---- client kinds
 
@@ -138,11 +144,11 @@ is_for_small plan count _ = true
 abbrev pub are_a_crowd : Plan → Client → Bool
 are_a_crowd plan client = list_any is_submit client.body && list_all (is_for_small plan client.count) client.body
 
-abbrev pub lints_of_client : Plan → ℕ → Client → List Lint
-lints_of_client plan c client = only_if (not client.repeat) (GoesOnce c) ++ only_if (are_a_crowd plan client) (Crowd c) ++ lints_of_body plan part.Client c client.body
+abbrev pub lints_of_client : Plan → List (Option ℕ) → ℕ → Client → List Lint
+lints_of_client plan needed c client = only_if (not client.repeat) (GoesOnce c) ++ only_if (are_a_crowd plan client) (Crowd c) ++ lints_of_body plan needed part.Client c client.body
 
-abbrev pub lints_of_clients : Plan → List Lint
-lints_of_clients plan = flat_map (λ (entry : ℕ × Client). lints_of_client plan entry.0 entry.1) (enumerate_from 0 plan.clients)
+abbrev pub lints_of_clients : Plan → List (Option ℕ) → List Lint
+lints_of_clients plan needed = flat_map (λ (entry : ℕ × Client). lints_of_client plan needed entry.0 entry.1) (enumerate_from 0 plan.clients)
 
 -- ---- the plan
 
@@ -151,7 +157,7 @@ abbrev pub without_clients : Plan → Lint
 without_clients plan = if length plan.pools == 0 then NothingToAsk else NoClients
 
 abbrev pub lints_of_parts : Plan → List (Option ℕ) → List Bool → List Lint
-lints_of_parts plan needed marks = lints_of_pools plan needed marks ++ lints_of_classes plan marks ++ lints_of_clients plan
+lints_of_parts plan needed marks = lints_of_pools plan needed marks ++ lints_of_classes plan needed marks ++ lints_of_clients plan needed
 
 -- the lints of a plan: one lint of the whole plan if such a lint applies, and otherwise the lints of its parts. For each pool, `needed` has
 -- the maximum number of jobs in its queue at once, if it is known. For each class, `marks` has whether it is submitted

@@ -54,6 +54,14 @@ impl<'a> PlacedEntry<'a> {
         }
     }
 
+    /// Returns whether the value of the key is `true`.
+    pub(crate) fn is_set(&self, key: &str) -> bool {
+        match self.table.get(key) {
+            Some(value) => value.as_bool() == Some(true),
+            None => false,
+        }
+    }
+
     /// Returns how messages name the entry, such as `pool db`, or `this pool` if the entry has no
     /// name.
     pub(crate) fn who(&self, alloc: Global) -> Result<String, AllocError> {

@@ -9,7 +9,7 @@ pub(crate) fn zero_hint(key: &str) -> &'static str
     ensures { result.now ≡ spec.zero_hint key.now }
 {
     match key {
-        "queue" => "; a SynchronousQueue is not covered (docs/PATTERNS.md)",
+        "queue" => "; 0, a SynchronousQueue, needs may_reject = true (docs/PATTERNS.md)",
         "core" => "; write the number of threads that you want (docs/PATTERNS.md)",
         _ => "",
     }

@@ -93,10 +93,10 @@ pub(crate) fn is_far_above(pool: &Pool, most: u64) -> bool
 }
 
 /// Returns whether the pool of the class may reject its jobs, and their body has submits or gets.
-pub(crate) fn may_run_in_caller(plan: &Plan, class: &Class) -> bool
-    ensures { result ≡ spec.may_run_in_caller plan.now class.now }
+pub(crate) fn may_run_in_caller(plan: &Plan, needed: &[Option<u64>], class: &Class) -> bool
+    ensures { result ≡ spec.may_run_in_caller plan.now needed.now class.now }
 {
-    may_reject(plan, class.pool) && !has_only_work(&class.body)
+    may_reject_jobs(plan, needed, class.pool) && !has_only_work(&class.body)
 }
 
 fn has_only_work(body: &[Action]) -> bool
@@ -112,20 +112,37 @@ fn is_work(action: Action) -> bool
 }
 
 /// Returns whether the submit of a job of the class at this position of the body may be rejected
-/// while a future is open.
-pub(crate) fn leaves_a_future(plan: &Plan, body: &[Action], position: usize, class: usize) -> bool
-    ensures { result ≡ spec.leaves_a_future plan.now body.now position class }
+/// while a future is open. `needed` is as in [`most_at`].
+pub(crate) fn leaves_a_future(
+    plan: &Plan,
+    needed: &[Option<u64>],
+    body: &[Action],
+    position: usize,
+    class: usize,
+) -> bool
+    ensures { result ≡ spec.leaves_a_future plan.now needed.now body.now position class }
 {
-    may_reject(plan, pool_of(plan, class)) && has_open_future(body, position)
+    may_reject_jobs(plan, needed, pool_of(plan, class)) && has_open_future(body, position)
 }
 
-/// Returns whether the pool with this number may reject jobs. Returns `false` if there is no such
-/// pool.
-fn may_reject(plan: &Plan, pool: usize) -> bool
-    ensures { result ≡ (pool_at plan.now pool).may_reject }
+/// Returns whether the pool with this number may reject jobs by the plan, and it is not known that
+/// it never does. `needed` is as in [`most_at`]. Returns `false` if there is no such pool.
+fn may_reject_jobs(plan: &Plan, needed: &[Option<u64>], number: usize) -> bool
+    ensures { result ≡ spec.may_reject_jobs plan.now needed.now number }
 {
-    match plan.pool_at(pool) {
-        Some(pool) => pool.may_reject,
+    match plan.pool_at(number) {
+        Some(pool) => pool.may_reject && !holds_all(pool, most_at(needed, number)),
+        None => false,
+    }
+}
+
+/// Returns whether the pool's queue holds all jobs that can be in it at once. `most` is their
+/// number. Returns `false` if it is `None`, because the number is not known.
+fn holds_all(pool: &Pool, most: Option<u64>) -> bool
+    ensures { result ≡ spec.holds_all pool.now most }
+{
+    match most {
+        Some(most) => most <= pool.queue,
         None => false,
     }
 }

@@ -129,8 +129,8 @@ fn push_parts(
         ≡ found.old.items ++ spec.lints_of_parts plan.now needed.now marks.now) }
 {
     push_pools(found, plan, needed, marks)?;
-    push_classes(found, plan, marks)?;
-    push_clients(found, plan)
+    push_classes(found, plan, needed, marks)?;
+    push_clients(found, plan, needed)
 }
 
 fn push_pools(
@@ -210,12 +210,18 @@ fn push_known_sizes(
     )
 }
 
-fn push_classes(found: &mut Vec<Lint>, plan: &Plan, marks: &[bool]) -> Result<(), AllocError>
+fn push_classes(
+    found: &mut Vec<Lint>,
+    plan: &Plan,
+    needed: &[Option<u64>],
+    marks: &[bool],
+) -> Result<(), AllocError>
     ensures { OnOk result
-        (found.new.items ≡ found.old.items ++ spec.lints_of_classes plan.now marks.now) }
+        (found.new.items
+        ≡ found.old.items ++ spec.lints_of_classes plan.now needed.now marks.now) }
 {
     for (number, class) in plan.classes().iter().enumerate() {
-        push_class(found, plan, marks, number, class)?;
+        push_class(found, plan, needed, marks, number, class)?;
     }
     Ok(())
 }
@@ -223,13 +229,14 @@ fn push_classes(found: &mut Vec<Lint>, plan: &Plan, marks: &[bool]) -> Result<()
 fn push_class(
     found: &mut Vec<Lint>,
     plan: &Plan,
+    needed: &[Option<u64>],
     marks: &[bool],
     number: usize,
     class: &Class,
 ) -> Result<(), AllocError>
     ensures { OnOk result
         (found.new.items
-        ≡ found.old.items ++ spec.lints_of_class plan.now marks.now number class.now) }
+        ≡ found.old.items ++ spec.lints_of_class plan.now needed.now marks.now number class.now) }
 {
     push_if(
         found,
@@ -238,17 +245,22 @@ fn push_class(
     )?;
     push_if(
         found,
-        may_run_in_caller(plan, class),
+        may_run_in_caller(plan, needed, class),
         Lint::RunInCaller(number),
     )?;
-    push_body(found, plan, Part::Class, number, &class.body)
+    push_body(found, plan, needed, Part::Class, number, &class.body)
 }
 
-fn push_clients(found: &mut Vec<Lint>, plan: &Plan) -> Result<(), AllocError>
-    ensures { OnOk result (found.new.items ≡ found.old.items ++ spec.lints_of_clients plan.now) }
+fn push_clients(
+    found: &mut Vec<Lint>,
+    plan: &Plan,
+    needed: &[Option<u64>],
+) -> Result<(), AllocError>
+    ensures { OnOk result
+        (found.new.items ≡ found.old.items ++ spec.lints_of_clients plan.now needed.now) }
 {
     for (number, client) in plan.clients().iter().enumerate() {
-        push_client(found, plan, number, client)?;
+        push_client(found, plan, needed, number, client)?;
     }
     Ok(())
 }
@@ -256,15 +268,17 @@ fn push_clients(found: &mut Vec<Lint>, plan: &Plan) -> Result<(), AllocError>
 fn push_client(
     found: &mut Vec<Lint>,
     plan: &Plan,
+    needed: &[Option<u64>],
     number: usize,
     client: &Client,
 ) -> Result<(), AllocError>
     ensures { OnOk result
-        (found.new.items ≡ found.old.items ++ spec.lints_of_client plan.now number client.now) }
+        (found.new.items
+        ≡ found.old.items ++ spec.lints_of_client plan.now needed.now number client.now) }
 {
     push_if(found, !client.repeat, Lint::GoesOnce(number))?;
     push_if(found, are_a_crowd(plan, client), Lint::Crowd(number))?;
-    push_body(found, plan, Part::Client, number, &client.body)
+    push_body(found, plan, needed, Part::Client, number, &client.body)
 }
 
 /// Appends a lint for each `work` of the body for which [`looks_like_a_size`] returns true, and for
@@ -272,15 +286,17 @@ fn push_client(
 fn push_body(
     found: &mut Vec<Lint>,
     plan: &Plan,
+    needed: &[Option<u64>],
     part: Part,
     number: usize,
     body: &[Action],
 ) -> Result<(), AllocError>
     ensures { OnOk result
-        (found.new.items ≡ found.old.items ++ spec.lints_of_body plan.now part number body.now) }
+        (found.new.items
+        ≡ found.old.items ++ spec.lints_of_body plan.now needed.now part number body.now) }
 {
     for (place, action) in body.iter().enumerate() {
-        push_action(found, plan, part, number, body, place, *action)?;
+        push_action(found, plan, needed, part, number, body, place, *action)?;
     }
     Ok(())
 }
@@ -288,6 +304,7 @@ fn push_body(
 fn push_action(
     found: &mut Vec<Lint>,
     plan: &Plan,
+    needed: &[Option<u64>],
     part: Part,
     number: usize,
     body: &[Action],
@@ -296,7 +313,8 @@ fn push_action(
 ) -> Result<(), AllocError>
     ensures { OnOk result
         (found.new.items
-        ≡ found.old.items ++ spec.lints_of_action plan.now part number body.now place action) }
+        ≡ found.old.items
+        ++ spec.lints_of_action plan.now needed.now part number body.now place action) }
 {
     match action {
         Action::Work(units) => push_if(
@@ -306,7 +324,7 @@ fn push_action(
         ),
         Action::Submit(class) => push_if(
             found,
-            leaves_a_future(plan, body, place, class),
+            leaves_a_future(plan, needed, body, place, class),
             Lint::OpenFuture(part, number, place),
         ),
         Action::Get(_) => Ok(()),

@@ -11,11 +11,21 @@ use support::number::BAD_NUMBER;
 /// The largest valid size and count.
 const MOST: i64 = MAX_SIZE as i64;
 
-fn is_in_range(number: i64) -> bool {
-    (1..=MOST).contains(&number)
+/// Returns the least valid number for the key: 1, or 0 for the queue of a pool that may reject jobs,
+/// which can be a `SynchronousQueue`.
+fn least(entry: &PlacedEntry<'_>, key: &str) -> u64 {
+    if key == "queue" && entry.is_set("may_reject") {
+        0
+    } else {
+        1
+    }
 }
 
-/// Reports the numbers at these keys that are not from 1 to `MOST`. Returns whether there are any.
+fn is_in_range(least: u64, number: i64) -> bool {
+    number >= 0 && number <= MOST && number.unsigned_abs() >= least
+}
+
+/// Reports the numbers at these keys that are out of range. Returns whether there are any.
 fn out_of_range(
     collector: &mut FaultCollector,
     entry: &PlacedEntry<'_>,
@@ -24,7 +34,7 @@ fn out_of_range(
     let mut any = false;
     for key in keys.iter().copied() {
         if let Some(number) = entry.number(key)
-            && !is_in_range(number)
+            && !is_in_range(least(entry, key), number)
         {
             any = true;
             report_number(collector, entry, key, number)?;
@@ -40,11 +50,12 @@ fn report_number(
     number: i64,
 ) -> Result<(), AllocError> {
     let hint = if number == 0 { zero_hint(key) } else { "" };
+    let low = least(entry, key);
     let words = format!(in collector.alloc;
-        "{key} is {number}, but must be from 1 to {MOST}{hint}"
+        "{key} is {number}, but must be from {low} to {MOST}{hint}"
     )?;
     let range = NumberRange {
-        low: 1,
+        low,
         high: MAX_SIZE,
     };
     let place = entry.value_place(key);

@@ -231,6 +231,11 @@ fn words_of_key(
         return Ok(String::new(alloc));
     };
     let name = pool.name.as_str();
+    if most == 1 {
+        return format!(in alloc;
+            "pool {name}: may_reject has no effect: at most 1 job waits in its queue at once"
+        );
+    }
     format!(in alloc;
         "pool {name}: may_reject has no effect: at most {most} jobs wait in its queue at once"
     )

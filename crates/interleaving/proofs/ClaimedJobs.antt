@@ -238,4 +238,4 @@ settled_step plan s s' o ordered kept settled (loops c client body i at is_clien
     settled_moved plan s (parent.Client c) body i 0 at.stands (λ g t e below above. absurd (none_behind body i g t at.is_there e above)) settled
 settled_step plan s s' o ordered kept settled (takes p j queue idle is_queue is_idle) =
     settled_put plan (with_stage j (At 0) s) s'.pools s'.refusals (settled_takes plan s p j queue (head_of_queue plan s p j queue kept is_queue) settled)
-settled_step plan s s' o ordered kept settled (retires p idle is_idle above) = settled_put plan s s'.pools s'.refusals settled
+settled_step plan s s' o ordered kept settled (retires p idle is_idle above not_handed) = settled_put plan s s'.pools s'.refusals settled

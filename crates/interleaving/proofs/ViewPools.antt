@@ -1,10 +1,10 @@
 -- The live view after an idle worker took the head of the queue, or ended.
-use Rattle.std.proofs.Common.{◌≡◌, ℕ, zero, suc, ◌+◌, ◌-◌, ◌<◌, ◌≤◌, Bool, true, false, nat_lt, if◌then◌else◌, List, [], ◌∷◌, length, set, Some, None, ⊎_elim, refl, sym, ap, ◌∙◌, arith}
+use Rattle.std.proofs.Common.{◌≡◌, ℕ, zero, suc, ◌+◌, ◌-◌, ◌<◌, ◌≤◌, Bool, true, false, if◌then◌else◌, List, [], ◌∷◌, length, set, Some, None, ⊎_elim, refl, sym, ap, ◌∙◌, arith}
 use Rattle.std.specs.Option.{option_map}
 use Rattle.std.proofs.lemmas.Bool.{cases_lt}
 use Rattle.std.proofs.lemmas.List.{get_or_past}
 use Rattle.job_bodies.specs.Plan.{Plan, pool_at}
-use Rattle.pool_machine.specs.PoolState.{PoolView, taken_from, taken, retired_of, retired}
+use Rattle.pool_machine.specs.PoolState.{PoolView, taken_from, taken, may_retire, retired_of, retired}
 use Rattle.written_machine.specs.declared.event.Outcome.TheVariants as outcome
 use Rattle.interleaving.specs.declared.job_view.Phase.TheVariants as phase
 use Rattle.written_machine.specs.State.{Stage, State, PoolPart, no_pool_part, job_at, pool_part, pool_view, pool_seen, is_at, is_unfinished, busy}
@@ -78,7 +78,7 @@ retired_commutes plan s p kept inside (suc idle) is_idle =
     let threads : idle + busy plan s p ≡ (pool_part s p).idle + busy plan s p - 1 = omega arith in
     let pool_now = ap (pool_view (pool_at plan p) (record { queue = pool.queue; idle = idle })) threads in
     let pools = pools-put plan s s p pool refl kept.as_many inside pool_now (λ q other. refl) in
-    retire_if plan s p pool (nat_lt seen_pool.core seen_pool.threads) (same_views (live_view plan (with_pool p pool s)) (with_pool_in p pool (live_view plan s)) refl pools refl refl)
+    retire_if plan s p pool (may_retire seen_pool idle) (same_views (live_view plan (with_pool p pool s)) (with_pool_in p pool (live_view plan s)) refl pools refl refl)
 
 pub retire_commutes : (plan : Plan) (s : State) (p : ℕ) → StateInvariant plan s → option_map (seen_after plan) (retire_worker s p (retired (pool_seen plan s p))) ≡ retire_worker_in (live_view plan s) p (retired (pool_in (live_view plan s) p))
 retire_commutes plan s p kept =

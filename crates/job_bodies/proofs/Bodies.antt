@@ -10,7 +10,7 @@ use Rattle.job_bodies.specs.declared.action.Action.TheVariants.{Work, Submit, Ge
 use Rattle.job_bodies.specs.declared.limits.TheConstants.{MAX_SIZE, MAX_WORK}
 use Rattle.job_bodies.specs.Plan.{Pool, Plan, no_pool, no_class, no_client, pool_at, class_at, client_at, submits, gets}
 use Rattle.job_bodies.specs.ValidBody.{IsValidBody}
-use Rattle.job_bodies.specs.WellFormed.{is_within, is_valid_action, is_valid_body, is_valid_pool, is_valid_class, is_valid_client, IsWellFormed}
+use Rattle.job_bodies.specs.WellFormed.{is_within, least_queue, is_valid_action, is_valid_body, is_valid_pool, is_valid_class, is_valid_client, IsWellFormed}
 
 -- every body is valid, every class has an existing pool, and every size and count is in range
 pub record HasValidBodies (plan : Plan) : Type 0 where
@@ -20,7 +20,7 @@ pub record HasValidBodies (plan : Plan) : Type 0 where
   pub core : (p : ℕ) → p < length plan.pools → 1 ≤ (pool_at plan p).core
   pub max : (p : ℕ) → p < length plan.pools → (pool_at plan p).core ≤ (pool_at plan p).max
   pub most_max : (p : ℕ) → p < length plan.pools → (pool_at plan p).max ≤ MAX_SIZE
-  pub queue : (p : ℕ) → p < length plan.pools → 1 ≤ (pool_at plan p).queue
+  pub queue : (p : ℕ) → p < length plan.pools → least_queue (pool_at plan p) ≤ (pool_at plan p).queue
   pub most_queue : (p : ℕ) → p < length plan.pools → (pool_at plan p).queue ≤ MAX_SIZE
   pub count : (c : ℕ) → c < length plan.clients → 1 ≤ (client_at plan c).count
   pub most_count : (c : ℕ) → c < length plan.clients → (client_at plan c).count ≤ MAX_SIZE
@@ -110,7 +110,7 @@ record AreValidSizes (pool : Pool) : Type 0 where
   core : 1 ≤ pool.core
   max : pool.core ≤ pool.max
   most_max : pool.max ≤ MAX_SIZE
-  queue : 1 ≤ pool.queue
+  queue : least_queue pool ≤ pool.queue
   most_queue : pool.queue ≤ MAX_SIZE
 
 pool_sizes : (plan : Plan) → IsWellFormed plan → (p : ℕ) → p < length plan.pools → AreValidSizes (pool_at plan p)
@@ -120,7 +120,7 @@ pool_sizes plan w p inside =
     let core_and_max = and_parts _ _ threads_and_queue.0 in
     let core = within_bounds 1 MAX_SIZE _ core_and_max.0 in
     let max = within_bounds (pool_at plan p).core MAX_SIZE _ core_and_max.1 in
-    let queue = within_bounds 1 MAX_SIZE _ threads_and_queue.1 in
+    let queue = within_bounds (least_queue (pool_at plan p)) MAX_SIZE _ threads_and_queue.1 in
     record { core = core.0; max = max.0; most_max = max.1; queue = queue.0; most_queue = queue.1 }
 
 class_pool : (plan : Plan) → IsWellFormed plan → (k : ℕ) → k < length plan.classes → (class_at plan k).pool < length plan.pools

@@ -1,6 +1,7 @@
--- Well-formed plans. Their sizes are those that ThreadPoolExecutor and ArrayBlockingQueue allow, within the limits of this project. Names
+-- Well-formed plans. Their sizes are those that ThreadPoolExecutor and ArrayBlockingQueue allow, within the limits of this project. The
+-- queue of a pool that may reject jobs may also be a SynchronousQueue, which has capacity 0. Names
 -- are valid and unique in their list. Submits name classes, and gets name submits.
-use Rattle.std.specs.Prelude.{◌≤◌, ℕ, Bool, true, not, ◌==◌, ◌&&◌, ◌||◌, nat_lt, nat_le, List, [], ◌∷◌, length, map, take, slice_index, slice_get, IsTrue}
+use Rattle.std.specs.Prelude.{◌≤◌, ℕ, Bool, true, not, ◌==◌, ◌&&◌, ◌||◌, nat_lt, nat_le, if◌then◌else◌, List, [], ◌∷◌, length, map, take, slice_index, slice_get, IsTrue}
 use Rattle.std.specs.List.{list_all, list_any, enumerate_from}
 use Rattle.std.specs.Str.{bytes_eq}
 use Rattle.job_bodies.specs.declared.action.Action.{Action}
@@ -27,9 +28,13 @@ abbrev pub are_distinct : List (List ℕ) → Bool
 are_distinct [] = true
 are_distinct (x ∷ xs) = not (list_any (bytes_eq x) xs) && are_distinct xs
 
--- whether core is at least 1, max at least core, and the queue at least 1, and none of them is above the limit
+-- the least capacity of the pool's queue: 1, or 0 if the pool may reject jobs
+abbrev pub least_queue : Pool → ℕ
+least_queue pool = if pool.may_reject then 0 else 1
+
+-- whether core is at least 1, max at least core, and the queue at least its least capacity, and none of them is above the limit
 abbrev pub has_valid_sizes : Pool → Bool
-has_valid_sizes pool = is_within 1 MAX_SIZE pool.core && is_within pool.core MAX_SIZE pool.max && is_within 1 MAX_SIZE pool.queue
+has_valid_sizes pool = is_within 1 MAX_SIZE pool.core && is_within pool.core MAX_SIZE pool.max && is_within (least_queue pool) MAX_SIZE pool.queue
 
 abbrev pub is_valid_pool : Pool → Bool
 is_valid_pool pool = is_valid_name pool.name && has_valid_sizes pool

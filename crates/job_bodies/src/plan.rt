@@ -2,7 +2,7 @@
 
 ghost use Rattle.std.specs.Prelude.{◌≡◌, ◌↔◌, ◌<◌, IsOk, IfOk, IsSome, IfSome, IfNone, length, string_bytes};
 ghost use Rattle.job_bodies.specs.Plan as spec;
-ghost use Rattle.job_bodies.specs.WellFormed.{IsWellFormed, has_valid_sizes};
+ghost use Rattle.job_bodies.specs.WellFormed.{IsWellFormed, least_queue, has_valid_sizes};
 ghost use Rattle.job_bodies.specs.Build.{plan_of_lists, build};
 
 use crate::build::{check_bodies, check_counts, check_entries, check_lengths};
@@ -17,7 +17,8 @@ use std::marker::Model;
 ///
 /// The ranges of the sizes are those of the constructor in the Javadoc (a maximum of at least 1 and
 /// of at least core, a capacity of at least 1), with two restrictions: core is at least 1, and no
-/// size is above [`MAX_SIZE`].
+/// size is above [`MAX_SIZE`]. If `may_reject` is true, the capacity can also be 0, that of a
+/// `SynchronousQueue`.
 #[derive(Debug, Drop)]
 pub struct Pool {
     /// The name of the pool, as plans and answers show it.
@@ -27,7 +28,8 @@ pub struct Pool {
     pub core: u64,
     /// The maximum pool size in threads: from `core` to 1,000,000.
     pub max: u64,
-    /// The capacity of the queue in jobs: from 1 to 1,000,000.
+    /// The capacity of the queue in jobs: from 1 to 1,000,000. If `may_reject` is true, it can also
+    /// be 0, which stands for a `SynchronousQueue`.
     pub queue: u64,
     /// Whether all core threads are started before the first job is submitted, as Java's
     /// `prestartAllCoreThreads` does. The first jobs then wait in the queue until idle threads take
@@ -48,13 +50,20 @@ impl Model for Pool {
 
 impl Pool {
     /// Returns whether the sizes are in range: core is at least 1, the maximum at least core, the
-    /// queue at least 1, and none of them above 1,000,000.
+    /// queue at least [`least_queue`](Pool::least_queue), and none of them above 1,000,000.
     pub fn has_valid_sizes(&self) -> bool
         ensures { result ≡ has_valid_sizes self.now }
     {
         is_within(1, MAX_SIZE, self.core)
             && is_within(self.core, MAX_SIZE, self.max)
-            && is_within(1, MAX_SIZE, self.queue)
+            && is_within(self.least_queue(), MAX_SIZE, self.queue)
+    }
+
+    /// Returns the least capacity of the queue: 1, or 0 if the pool may reject jobs.
+    pub fn least_queue(&self) -> u64
+        ensures { result ≡ least_queue self.now }
+    {
+        if self.may_reject { 0 } else { 1 }
     }
 
     /// Returns the number of threads that the pool has at first, all idle: core if the core threads

@@ -1,5 +1,5 @@
 -- The pools of a recording are valid pools of a plan, unless there are too many.
-use Rattle.std.proofs.Common.{◌≡◌, ◌≤◌, ℕ, Bool, true, false, ◌&&◌, List, [], ◌∷◌, length, map, Option, Some, None, refl, sym, subst, inl, inr, arith}
+use Rattle.std.proofs.Common.{◌≡◌, ◌≤◌, ℕ, Bool, true, false, cond, ◌&&◌, List, [], ◌∷◌, length, map, Option, Some, None, refl, sym, subst, inl, inr, arith}
 use Rattle.std.specs.List.{All, cons_option, filter, filter_map, list_all, list_any}
 use Rattle.std.specs.Str.{bytes_eq}
 use Rattle.std.proofs.lemmas.Bool.{and_parts}
@@ -15,7 +15,8 @@ use Rattle.recordings.specs.WholeLines.{whole_lines}
 use Rattle.recordings.proofs.WrittenLines.{canonical}
 use Rattle.learning.specs.InferenceResult.{lines_of}
 use Rattle.learning.specs.Names.{IsNamedClass, IsNamedClient}
-use Rattle.learning.specs.Pools.{into_range, recorded_pool, pool_of_line, has_other_name, firsts, recorded_pools}
+use Rattle.conformance.specs.Sizes.{is_synchronous}
+use Rattle.learning.specs.Pools.{into_range, least_capacity, recorded_pool, pool_of_line, has_other_name, firsts, recorded_pools}
 use Rattle.learning.specs.InferenceLimit.{HasActors}
 
 both : (a b : Bool) → a ≡ true → b ≡ true → (a && b) ≡ true
@@ -48,15 +49,20 @@ in_range low number below =
     let under : into_range low number ≤ MAX_SIZE = omega (arith, below) in
     grind (arith, above, under)
 
+low_is_small : (hands : Bool) → cond hands 0 1 ≤ MAX_SIZE
+low_is_small true = omega arith
+low_is_small false = omega arith
+
 pool_is_lawful : (name : List ℕ) (sizes : PoolSizes) → is_valid_name name ≡ true → is_valid_pool (recorded_pool name sizes) ≡ true
 pool_is_lawful name sizes valid_gets =
     let core = into_range 1 sizes.core in
     let max = into_range core sizes.max in
-    let queue = into_range 1 sizes.capacity in
+    let least = least_capacity sizes in
+    let queue = into_range least sizes.capacity in
     let below : core ≤ MAX_SIZE = omega arith in
     both (is_valid_name name) (has_valid_sizes (recorded_pool name sizes)) valid_gets
-    (both (is_within 1 MAX_SIZE core && is_within core MAX_SIZE max) (is_within 1 MAX_SIZE queue)
-    (both (is_within 1 MAX_SIZE core) (is_within core MAX_SIZE max) (in_range 1 sizes.core (omega arith)) (in_range core sizes.max below)) (in_range 1 sizes.capacity (omega arith)))
+    (both (is_within 1 MAX_SIZE core && is_within core MAX_SIZE max) (is_within least MAX_SIZE queue)
+    (both (is_within 1 MAX_SIZE core) (is_within core MAX_SIZE max) (in_range 1 sizes.core (omega arith)) (in_range core sizes.max below)) (in_range least sizes.capacity (low_is_small (is_synchronous sizes.queue))))
 
 -- ---- the pools of lines that were read
 still_all : {X : Type 0} (test kept : X → Bool) (items : List X) → list_all test items ≡ true → list_all test (filter kept items) ≡ true

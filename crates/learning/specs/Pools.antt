@@ -1,10 +1,11 @@
 -- The pools of a recording, as pools of a plan.
-use Rattle.std.specs.Prelude.{ℕ, Bool, not, ◌&&◌, ◌==◌, List, [], ◌∷◌, filter, Option, Some, None, if◌then◌else◌, ◌++◌, min, max, false}
+use Rattle.std.specs.Prelude.{ℕ, Bool, not, ◌&&◌, ◌==◌, List, [], ◌∷◌, filter, Option, Some, None, if◌then◌else◌, ◌++◌, min, max}
 use Rattle.std.specs.List.{filter_map, list_any}
 use Rattle.std.specs.Str.{bytes_eq}
 use Rattle.job_bodies.specs.Plan.{Pool}
 use Rattle.job_bodies.specs.declared.limits.TheConstants.{MAX_SIZE}
 use Rattle.recordings.specs.declared.pool_sizes.PoolSizes.{PoolSizes}
+use Rattle.conformance.specs.Sizes.{is_synchronous}
 use Rattle.recordings.specs.RecordingLine as line
 use Rattle.recordings.specs.RecordingLine.{RecordedLine}
 
@@ -17,10 +18,15 @@ into_range low number = max (min number MAX_SIZE) low
 abbrev pub has_core_threads : PoolSizes → Bool
 has_core_threads sizes = not (sizes.prestarted == 0) && (sizes.prestarted == sizes.core)
 
--- The pool of a `pool` line, with each size clamped to its range in a plan.
+-- The least capacity of the queue in a plan: 0 for a `SynchronousQueue`, and otherwise 1.
+abbrev pub least_capacity : PoolSizes → ℕ
+least_capacity sizes = if is_synchronous sizes.queue then 0 else 1
+
+-- The pool of a `pool` line, with each size clamped to its range in a plan. A pool with a `SynchronousQueue` may reject jobs, because no
+-- other pool of a plan has such a queue.
 abbrev pub recorded_pool : List ℕ → PoolSizes → Pool
 recorded_pool name sizes = let core = into_range 1 sizes.core in
-    record { name = name; core = core; max = into_range core sizes.max; queue = into_range 1 sizes.capacity; prestart = has_core_threads sizes; may_reject = false }
+    record { name = name; core = core; max = into_range core sizes.max; queue = into_range (least_capacity sizes) sizes.capacity; prestart = has_core_threads sizes; may_reject = is_synchronous sizes.queue }
 
 -- ---- all pools
 -- The pool of a `pool` line, or `None` for any other line.

@@ -5,16 +5,18 @@ ghost use Rattle.recordings.specs.RecordingLine.{RecordedLine, line_view};
 ghost use Rattle.std.specs.List.{position};
 ghost use Rattle.std.specs.Str.{bytes_eq};
 ghost use Rattle.learning.specs.LearningState.{IsLearnError};
+ghost use Rattle.conformance.specs.Sizes.{is_synchronous};
 ghost use Rattle.learning.specs.Pools as spec;
 
 use crate::inference_limit::InferenceLimit;
 use crate::learn_error::LearnError;
 use job_bodies::{MAX_POOLS, MAX_SIZE, Pool};
-use recordings::{Line, PoolSizes};
+use recordings::{Line, PoolSizes, QueueKind};
 use std::alloc::{AllocError, Global};
 
 /// Returns the pool of a `pool` line, with each size clamped to its range in a plan. `prestart` is
-/// true if all core threads were prestarted and there is at least one.
+/// true if all core threads were prestarted and there is at least one. `may_reject` is true if the
+/// queue is a `SynchronousQueue`, because no other pool of a plan has such a queue.
 ///
 /// # Errors
 ///
@@ -27,10 +29,23 @@ pub(crate) fn recorded_pool(alloc: Global, name: &str, sizes: PoolSizes) -> Resu
         name: String::from_str(alloc, name)?,
         core,
         max: into_range(core, sizes.max as u64),
-        queue: into_range(1, sizes.capacity as u64),
+        queue: into_range(least_capacity(sizes), sizes.capacity as u64),
         prestart: has_core_threads(sizes),
-        may_reject: false,
+        may_reject: is_synchronous(sizes.queue),
     })
+}
+
+// Returns the least capacity of such a queue in a plan.
+fn least_capacity(sizes: PoolSizes) -> u64
+    ensures { result ≡ spec.least_capacity sizes }
+{
+    if is_synchronous(sizes.queue) { 0 } else { 1 }
+}
+
+fn is_synchronous(kind: QueueKind) -> bool
+    ensures { result ≡ is_synchronous kind }
+{
+    matches!(kind, QueueKind::Synchronous)
 }
 
 // Clamps the number to the range from `low` to the maximum size of a plan.

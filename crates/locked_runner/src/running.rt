@@ -27,8 +27,9 @@ use weights::Ranks;
 ///
 /// # Errors
 ///
-/// Returns fault 40 if the run exceeds a limit: more than 64 clients, more than 64 threads of all
-/// pools together, or an event bound above 1,000,000. Nothing is started in this case. Returns 43
+/// Returns fault 40 if a pool of the plan may reject jobs, or if the run exceeds a limit: more than
+/// 64 clients, more than 64 threads of all pools together, or an event bound above 1,000,000.
+/// Nothing is started in this case. Returns 43
 /// if the gate failed, 20 if memory ran out or a thread could not be started, and 41 or 42 if the
 /// results of the threads are not a complete run.
 pub fn run<R: Threads + Wait + Sync, G: Gate>(

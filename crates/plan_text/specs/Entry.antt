@@ -1,12 +1,12 @@
 -- The table of one entry, with values of the expected types.
-use Rattle.std.specs.Prelude.{ℕ, ℤ, pos, negsuc, Bool, false, nat_le, List, length, Option, None, Some, Result, Ok}
+use Rattle.std.specs.Prelude.{ℕ, ◌+◌, ℤ, pos, negsuc, Bool, false, nat_le, List, length, Option, None, Some, Result, Ok}
 use Rattle.toml.specs.Data.{Data, Members, get_member, as_str, as_integer, as_bool, as_table}
 use Rattle.toml.specs.View.{table_view}
 use Rattle.support.specs.Reading.{◌>>=◌, ensure, ok_or, read_each}
 use Rattle.job_bodies.specs.declared.fault.PlanFault.{PlanFault}
 use Rattle.job_bodies.specs.declared.fault.Part.{Part}
 use Rattle.support.specs.declared.number.TheConstants.{TOO_MANY, UNKNOWN_KEY, MISSING_KEY, WRONG_TYPE}
-use Rattle.job_bodies.specs.declared.limits.TheConstants.{MAX_ACTIONS}
+use Rattle.job_bodies.specs.declared.limits.TheConstants.{MAX_ACTIONS, MAX_SIZE}
 use Rattle.job_bodies.specs.Checks.{at_entry, at_action}
 use Rattle.plan_text.specs.declared.entry.Entry as read
 use Rattle.plan_text.specs.Document.{has_only, as_list}
@@ -28,7 +28,7 @@ fault_at entry number = at_entry entry.part entry.index number
 -- an integer as a count; 0 if it is negative, and 0 is out of range for every number of a plan
 abbrev pub count_of : ℤ → ℕ
 count_of (pos n) = n
-count_of (negsuc n) = 0
+count_of (negsuc n) = MAX_SIZE + 1
 
 -- the value as an entry; a fault if it is not a table, or has a key that is not one of these
 unfoldable pub entry_of : Part → ℕ → List (List ℕ) → Data → Result Entry PlanFault

@@ -9,7 +9,7 @@ ghost use Rattle.plan_text.specs.Entry.{entry_view};
 
 use crate::document::{has_only, list_in, value_at};
 use crate::fault::TextError;
-use job_bodies::{MAX_ACTIONS, Part, PlanFault};
+use job_bodies::{MAX_ACTIONS, MAX_SIZE, Part, PlanFault};
 use std::alloc::Global;
 use support::number::{MISSING_KEY, TOO_MANY, UNKNOWN_KEY, WRONG_TYPE};
 use support::{ReadError, read_each};
@@ -24,12 +24,16 @@ pub struct Entry<'a> {
     index: usize,
 }
 
-/// Converts an integer of the text to a count. A negative integer becomes 0, which is out of range
-/// for every number of a plan.
+/// Converts an integer of the text to a count. A negative integer becomes a number that is out of
+/// range for every number of a plan.
 fn count_of(number: i64) -> u64
     ensures { result ≡ spec.count_of number }
 {
-    if number < 0 { 0 } else { number as u64 }
+    if number < 0 {
+        MAX_SIZE + 1
+    } else {
+        number as u64
+    }
 }
 
 impl<'a> Entry<'a> {
@@ -78,8 +82,8 @@ impl<'a> Entry<'a> {
         value.as_str().ok_or(self.refuses(WRONG_TYPE))
     }
 
-    /// Returns the integer at this key, or 0 if it is negative. Returns a fault if the key is
-    /// absent or the value has another type.
+    /// Returns the integer at this key, or a number that is out of range if it is negative. Returns
+    /// a fault if the key is absent or the value has another type.
     #[tactic(auto, unfolding(crate::specs::Entry::number_at))]
     pub fn number(&self, key: &str) -> Result<u64, TextError>
         ensures { Gives (λ number. number) result (spec.number_at (entry_view self.now) key.now) }

@@ -2,14 +2,14 @@
 use Rattle.std.proofs.Common.{◌≡◌, ℕ, suc, ◌<◌, ◌≤◌, ◌⊎◌, ◌∷◌, length, Some, arith}
 use Rattle.std.proofs.lemmas.Grind.{common_steps}
 use Rattle.pool_machine.specs.declared.offer.Offer.TheVariants.{Started, Queued, Refused}
-use Rattle.pool_machine.specs.PoolState.{PoolView, answer, taken, retired}
+use Rattle.pool_machine.specs.PoolState.{PoolView, queue_limit, answer, taken, retired}
 
 -- if a new thread starts the job, the pool had fewer than core threads or fewer than its maximum
 pub started_below : (pool : PoolView) → answer pool ≡ Started → (pool.threads < pool.core) ⊎ (pool.threads < pool.max)
 started_below pool e = grind (arith, common_steps)
 
 -- if the job is queued, the pool had at least core threads, and room in the queue
-pub queued_at_core : (pool : PoolView) → answer pool ≡ Queued → (pool.core ≤ pool.threads) × (length pool.queue < pool.capacity)
+pub queued_at_core : (pool : PoolView) → answer pool ≡ Queued → (pool.core ≤ pool.threads) × (length pool.queue < queue_limit pool.capacity pool.idle)
 queued_at_core pool e = grind (arith, common_steps)
 
 -- if the job is refused, the queue was full, and the pool had its maximum of threads
@@ -37,6 +37,7 @@ pub record Retires (pool after : PoolView) : Type 0 where
   pub max : after.max ≡ pool.max
   pub capacity : after.capacity ≡ pool.capacity
   pub queue : after.queue ≡ pool.queue
+  pub not_handed : pool.capacity ≡ 0 → length pool.queue ≤ after.idle
 
 pub retired_retires : (pool after : PoolView) → retired pool ≡ Some after → Retires pool after
 retired_retires pool after e = grind (arith, common_steps)

@@ -2,7 +2,7 @@
 use Rattle.std.specs.Prelude.{◌≡◌, ℕ, ◌+◌, ◌<◌, ◌≤◌, ◌↔◌, ◌⊎◌, [], length, Some, None}
 use Rattle.job_bodies.specs.Plan.{Pool, first_workers}
 use Rattle.pool_machine.specs.declared.offer.Offer.TheVariants.{Refused}
-use Rattle.pool_machine.specs.PoolState.{PoolView, new_pool, answer, offered, taken, finished, retired}
+use Rattle.pool_machine.specs.PoolState.{PoolView, new_pool, queue_limit, answer, offered, taken, finished, retired}
 
 -- the property is an invariant: if it holds before an offer, a take, the finish of a busy worker or a retirement, it holds afterwards
 pub record IsInvariant (holds : PoolView → Type 0) : Type 0 where
@@ -36,8 +36,9 @@ pub record LoadIsOffered : Type 0 where
   pub by_retire : (pool after : PoolView) → retired pool ≡ Some after → load after < load pool
 
 -- when operations fail: the pool refuses a job exactly when its queue is full and it has its maximum of threads; a take fails exactly when
--- no worker is idle or the queue is empty; a retirement fails exactly when no worker is idle or the pool has at most core threads
+-- no worker is idle or the queue is empty; a retirement fails exactly when no worker is idle, the pool has at most core threads, or its
+-- capacity is 0 and each idle worker has a job in the queue
 pub record FailureConditions (pool : PoolView) : Type 0 where
-  pub refuses : answer pool ≡ Refused ↔ (length pool.queue ≡ pool.capacity) × (pool.threads ≡ pool.max)
+  pub refuses : answer pool ≡ Refused ↔ (length pool.queue ≡ queue_limit pool.capacity pool.idle) × (pool.threads ≡ pool.max)
   pub takes_none : taken pool ≡ None ↔ (pool.idle ≡ 0) ⊎ (pool.queue ≡ [])
-  pub ends_none : retired pool ≡ None ↔ (pool.idle ≡ 0) ⊎ (pool.threads ≤ pool.core)
+  pub ends_none : retired pool ≡ None ↔ (pool.idle ≡ 0) ⊎ (pool.threads ≤ pool.core) ⊎ ((pool.capacity ≡ 0) × (pool.idle ≡ length pool.queue))

@@ -1,6 +1,6 @@
 -- The state of a single pool, and its four operations. The rules are those of the Javadoc of ThreadPoolExecutor under "Core and maximum
 -- pool sizes", "Queuing" and "Rejected tasks".
-use Rattle.std.specs.Prelude.{ℕ, zero, suc, ◌+◌, ◌-◌, ◌≤◌, nat_lt, if◌then◌else◌, List, [], ◌∷◌, ◌++◌, length, Option, None, Some}
+use Rattle.std.specs.Prelude.{ℕ, zero, suc, ◌+◌, ◌-◌, ◌≤◌, ◌==◌, ◌&&◌, ◌||◌, Bool, nat_lt, nat_le, if◌then◌else◌, List, [], ◌∷◌, ◌++◌, length, Option, None, Some}
 use Rattle.job_bodies.specs.declared.limits.TheConstants.{MAX_SIZE}
 use Rattle.job_bodies.specs.Plan.{Pool, first_workers}
 use Rattle.pool_machine.specs.declared.offer.Offer.{Offer}
@@ -19,12 +19,17 @@ pub record PoolView : Type 0 where
 abbrev pub new_pool : Pool → PoolView
 new_pool pool = record { core = pool.core; max = pool.max; capacity = pool.queue; threads = first_workers pool; idle = first_workers pool; queue = [] }
 
+-- the number of jobs that a queue of this capacity can hold at most in a pool with this number of idle workers: its capacity; a queue of
+-- capacity 0 is a SynchronousQueue, which holds a job for each idle worker until that worker takes it
+abbrev pub queue_limit : ℕ → ℕ → ℕ
+queue_limit capacity idle = if capacity == 0 then idle else capacity
+
 -- the answer of the pool to an offered job: with fewer than core threads, a new thread starts it; otherwise it is queued if the queue has
 -- room; otherwise, with fewer than the maximum of threads, a new thread starts it; otherwise it is refused
 abbrev pub answer : PoolView → Offer
 answer pool =
     if nat_lt pool.threads pool.core then Started
-    else (if nat_lt (length pool.queue) pool.capacity then Queued
+    else (if nat_lt (length pool.queue) (queue_limit pool.capacity pool.idle) then Queued
     else (if nat_lt pool.threads pool.max then Started
     else Refused))
 
@@ -50,11 +55,17 @@ taken pool = taken_from pool pool.idle pool.queue
 abbrev pub finished : PoolView → PoolView
 finished pool = record pool { idle = pool.idle + 1 }
 
+-- whether a worker may end that leaves this number of idle workers: the pool has more than core threads, and with a capacity of 0 each job
+-- in the queue still has an idle worker, because a worker that was handed a job does not end
+abbrev pub may_retire : PoolView → ℕ → Bool
+may_retire pool idle = nat_lt pool.core pool.threads && (nat_lt 0 pool.capacity || nat_le (length pool.queue) idle)
+
 abbrev pub retired_of : PoolView → ℕ → Option PoolView
 retired_of pool zero = None
-retired_of pool (suc idle) = if nat_lt pool.core pool.threads then Some (record pool { threads = pool.threads - 1; idle = idle }) else None
+retired_of pool (suc idle) = if may_retire pool idle then Some (record pool { threads = pool.threads - 1; idle = idle }) else None
 
--- the pool after an idle worker ended; None if no worker is idle or the pool has at most core threads
+-- the pool after an idle worker ended; None if no worker is idle, the pool has at most core threads, or its capacity is 0 and each idle
+-- worker has a job in the queue
 abbrev pub retired : PoolView → Option PoolView
 retired pool = retired_of pool pool.idle
 
@@ -63,8 +74,7 @@ pub record IsSound (pool : PoolView) : Type 0 where
   pub some_core : 1 ≤ pool.core
   pub core_within_max : pool.core ≤ pool.max
   pub max_within_limit : pool.max ≤ MAX_SIZE
-  pub some_capacity : 1 ≤ pool.capacity
   pub capacity_within_limit : pool.capacity ≤ MAX_SIZE
   pub idle_within_threads : pool.idle ≤ pool.threads
   pub threads_within_max : pool.threads ≤ pool.max
-  pub queue_within_capacity : length pool.queue ≤ pool.capacity
+  pub queue_within_limit : length pool.queue ≤ queue_limit pool.capacity pool.idle

@@ -12,7 +12,7 @@ pub fn sizes_stay()
 {}
 
 /// Proves that a pool with valid sizes never has more threads than its maximum, more idle workers
-/// than threads, or more queued jobs than its capacity.
+/// than threads, or more queued jobs than its capacity, or than idle workers if the capacity is 0.
 pub fn pools_stay_sound()
     ensures start { (pool : Pool) → IsTrue (has_valid_sizes pool) → IsSound (new_pool pool) }
     ensures kept { IsInvariant IsSound }
@@ -36,7 +36,8 @@ pub fn load_is_offered()
 /// Proves when an operation of a pool fails. The pool refuses a job exactly when its queue is full
 /// and it has its maximum of threads. [`PoolState::take`](crate::PoolState::take) fails exactly
 /// when no worker is idle or the queue is empty. [`PoolState::retire`](crate::PoolState::retire)
-/// fails exactly when no worker is idle or the pool has at most core threads.
+/// fails exactly when no worker is idle, the pool has at most core threads, or its capacity is 0 and
+/// each idle worker has a job in the queue.
 pub fn failure_conditions()
     ensures { (pool : PoolView) → IsSound pool → FailureConditions pool }
 {}

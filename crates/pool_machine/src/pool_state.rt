@@ -1,10 +1,10 @@
 //! The state of a pool: its threads, its idle workers and its queue.
 
-ghost use Rattle.std.specs.Prelude.{◌≡◌, ◌-◌, ◌<◌, ◌≤◌, ◌⊎◌, ◌↔◌, [], length, slice_get};
+ghost use Rattle.std.specs.Prelude.{◌≡◌, ◌-◌, ◌<◌, ◌≤◌, ◌⊎◌, ◌↔◌, ◌||◌, nat_lt, nat_le, [], length, slice_get};
 ghost use Rattle.std.specs.Prelude.{IsTrue, IsNone, IfSome, IfNone, IfOk, OnOk, OnErr};
 ghost use Rattle.std.specs.Bool.{OnTrue, OnFalse};
 ghost use Rattle.job_bodies.specs.WellFormed.{has_valid_sizes};
-ghost use Rattle.pool_machine.specs.PoolState.{IsSound, new_pool, answer, offered, taken, finished, retired};
+ghost use Rattle.pool_machine.specs.PoolState.{IsSound, queue_limit, new_pool, answer, offered, taken, finished, retired};
 
 use crate::Offer;
 use job_bodies::Pool;
@@ -17,7 +17,7 @@ use std::marker::Model;
 ///
 /// A worker that finished a job is idle until it takes the head of the queue. So the queue can be
 /// full while workers are idle. The rules are those of Java's `ThreadPoolExecutor` with an
-/// `ArrayBlockingQueue`.
+/// `ArrayBlockingQueue`, or with a `SynchronousQueue` if the capacity is 0.
 #[derive(Drop)]
 pub struct PoolState {
     core: u64,
@@ -57,7 +57,7 @@ impl PoolState {
     /// Any other pool has no threads at first.
     ///
     /// The sizes must be valid: core at least 1, the maximum at least core, and the queue capacity
-    /// at least 1, each at most `MAX_SIZE`. Allocates no memory.
+    /// at least 1, or 0 if the pool may reject jobs, each at most `MAX_SIZE`. Allocates no memory.
     pub fn new(alloc: Global, pool: &Pool) -> PoolState
         requires { IsTrue (has_valid_sizes pool.now) }
         ensures { result ≡ new_pool pool.now }
@@ -75,8 +75,9 @@ impl PoolState {
 
     /// Offers the job with this number to the pool, as Java's `execute` does. If the pool has fewer
     /// than core threads, a new thread starts the job, even if workers are idle. Otherwise the job
-    /// is appended to the queue if there is room. Otherwise a new thread starts it if the pool has
-    /// fewer than its maximum of threads. Otherwise the job is refused.
+    /// is appended to the queue if there is room. A queue of capacity 0, as Java's
+    /// `SynchronousQueue`, has room for each idle worker. Otherwise a new thread starts it if the
+    /// pool has fewer than its maximum of threads. Otherwise the job is refused.
     ///
     /// A new thread is busy with its job from the start. If the job is refused, the pool is
     /// unchanged.
@@ -100,13 +101,25 @@ impl PoolState {
         Ok(answer)
     }
 
+    // Returns the number of jobs that the queue can hold at most: its capacity, or the number of idle
+    // workers if the capacity is 0.
+    fn queue_limit(&self) -> u64
+        ensures { result ≡ queue_limit self.now.capacity self.now.idle }
+    {
+        if self.capacity == 0 {
+            self.idle
+        } else {
+            self.capacity
+        }
+    }
+
     // Returns the answer of the pool to the next offered job.
     fn answer(&self) -> Offer
         ensures { result ≡ answer self.now }
     {
         if self.threads < self.core {
             Offer::Started
-        } else if (self.queue.len() as u64) < self.capacity {
+        } else if (self.queue.len() as u64) < self.queue_limit() {
             Offer::Queued
         } else if self.threads < self.max {
             Offer::Started
@@ -142,19 +155,28 @@ impl PoolState {
     }
 
     /// Ends an idle worker if the pool has more than core threads, whether or not jobs are queued.
-    /// Returns whether a worker ended. If no worker is idle, or the pool has at most core threads,
-    /// the pool is unchanged. Allocates no memory.
+    /// With a capacity of 0, each queued job was handed to an idle worker, which does not end.
+    /// Returns whether a worker ended. If none can end, the pool is unchanged. Allocates no memory.
     pub fn retire(&mut self) -> bool
         ensures ended { OnTrue result (retired self.old ≡ Some self.new) }
         ensures nothing { OnFalse result (retired self.old ≡ None) }
         ensures nothing_unchanged { OnFalse result (self.new ≡ self.old) }
     {
-        let ends = self.idle > 0 && self.threads > self.core;
+        let ends = self.idle > 0 && self.threads > self.core && self.has_spare_worker();
         if ends {
             self.threads -= 1;
             self.idle -= 1;
         }
         ends
+    }
+
+    // Returns whether an idle worker has no job of its own in the queue. With a capacity of 0 each
+    // queued job was handed to an idle worker.
+    fn has_spare_worker(&self) -> bool
+        requires { 0 < self.now.idle }
+        ensures { result ≡ (nat_lt 0 self.now.capacity || nat_le (length self.now.queue) (self.now.idle - 1)) }
+    {
+        0 < self.capacity || (self.queue.len() as u64) < self.idle
     }
 
     /// Returns the core pool size: 1 to the maximum. While the pool has fewer threads, each offered
@@ -172,7 +194,7 @@ impl PoolState {
         self.max
     }
 
-    /// Returns the capacity of the queue: 1 to `MAX_SIZE`.
+    /// Returns the capacity of the queue: 0 to `MAX_SIZE`.
     pub fn capacity(&self) -> u64
         ensures { result ≡ self.now.capacity }
     {
@@ -203,7 +225,8 @@ impl PoolState {
         self.threads - self.idle
     }
 
-    /// Returns the number of jobs in the queue: 0 to the capacity.
+    /// Returns the number of jobs in the queue: 0 to the capacity, or to the number of idle workers
+    /// if the capacity is 0.
     pub fn queued(&self) -> usize
         ensures value { result ≡ length self.now.queue }
         ensures sound { IsSound self.now }

@@ -1,5 +1,5 @@
 //! The events of a recording that invalidate a SAFE answer, and their texts. SAFE means that no
-//! order of the plan's events rejects a job or deadlocks.
+//! order of the plan's events refuses a job of a pool that must not reject, or deadlocks.
 
 ghost use Rattle.std.specs.Prelude.{◌≡◌, Some};
 ghost use Rattle.recordings.specs.EventText as spec;

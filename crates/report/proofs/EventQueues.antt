@@ -8,6 +8,7 @@ use Rattle.job_bodies.specs.Plan.{Plan, Pool, no_pool, pool_at}
 use Rattle.job_bodies.specs.WellFormed.{IsWellFormed}
 use Rattle.written_machine.specs.declared.event.Event.{Event}
 use Rattle.written_machine.specs.declared.event.Outcome.{Outcome}
+use Rattle.pool_machine.specs.PoolState.{queue_limit}
 use Rattle.written_machine.specs.State.{Stage, State, CreatedJob, PoolPart, no_pool_part, no_job, job_at, pool_part, pool_of, threads}
 use Rattle.written_machine.specs.Step.{step, moved_jobs}
 use Rattle.written_machine.specs.Reach.{start, IsReached}
@@ -70,10 +71,14 @@ queue_where p q old changed test is_test =
 abbrev pub pool_at_event : Plan → State → Event → State → Outcome → Option PoolCounts
 pool_at_event plan s e s' o = option_and_then (counts_of plan s') (changed_pool plan s' (actor_of plan s e) o)
 
-room_exists : (plan : Plan) (q n : ℕ) → n < (pool_at plan q).queue → q < length plan.pools
-room_exists plan q n room = elim (cases_lt q (length plan.pools)) [
+-- a pool whose queue has room exists, because past the end of the list there is no queue and no idle worker
+room_exists : (plan : Plan) (s : State) (q n : ℕ) → length s.pools ≡ length plan.pools → n < queue_limit (pool_at plan q).queue (pool_part s q).idle → q < length plan.pools
+room_exists plan s q n as_many room = elim (cases_lt q (length plan.pools)) [
   | inl inside ↦ inside
-  | inr past ↦ let none = ap (λ (pool : Pool). pool.queue) (get_or_past plan.pools q no_pool past) in absurd (omega (arith, none))
+  | inr past ↦
+      let none : queue_limit (pool_at plan q).queue (pool_part s q).idle ≡ 0 =
+      ap (λ (pool : Pool). queue_limit pool.queue (pool_part s q).idle) (get_or_past plan.pools q no_pool past) ∙ ap (λ (part : PoolPart). part.idle) (get_or_past s.pools q no_pool_part (omega arith)) in
+      absurd (omega (arith, none))
 ]
 
 queue_happens : (plan : Plan) (s s' : State) (o : Outcome) (e : Event) (p : ℕ) → StateInvariant plan s → Happens plan s e s' o → queue_once p (pool_part s p).queue (pool_at_event plan s e s' o) o ≡ (pool_part s' p).queue
@@ -82,7 +87,7 @@ queue_happens plan s s' o e p kept (starts a body i k at room) = refl
 queue_happens plan s s' o e p kept (queues a body i k at core room) =
     let q = pool_of plan k in
     let j = length s.jobs in
-    let exists : q < length plan.pools = room_exists plan q (length (pool_part s q).queue) room in
+    let exists : q < length plan.pools = room_exists plan s q (length (pool_part s q).queue) kept.as_many room in
     let inside : q < length s.pools = omega (arith, kept.as_many) in
     let job : CreatedJob = record { class = k; parent = a; slot = i; stage = Stage.Queued } in
     let made : (get_or (moved_jobs a (i + 1) s ++ job ∷ []) j no_job).class ≡ k = ap (λ (x : CreatedJob). x.class) (made_last (moved_jobs a (i + 1) s) j job (length-moved a (i + 1) s)) in
@@ -105,7 +110,7 @@ queue_happens plan s s' o e p kept (takes q j queue idle is_queue is_idle) =
     let is_test : is_of_pool p (counts_of plan after q) ≡ eqb q p = counts_there plan after p q exists in
     queue_where p q (λ n. (pool_part s n).queue) (λ n. drop 1 (pool_part s n).queue) (is_of_pool p (counts_of plan after q)) is_test
     ∙ put_changes s.pools q p (record { queue = queue; idle = idle }) (is_of_pool p (counts_of plan after q)) (drop 1 (pool_part s q).queue) inside is_test (sym (ap (drop 1) is_queue))
-queue_happens plan s s' o e p kept (retires q idle is_idle above) =
+queue_happens plan s s' o e p kept (retires q idle is_idle above not_handed) =
     sym (put_same s.pools q p (record { queue = (pool_part s q).queue; idle = idle }) refl)
 
 -- ---- the queues along the rows

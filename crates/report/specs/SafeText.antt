@@ -118,14 +118,14 @@ waits_line plan p pool blocked = codes "  " ++ pool.name ++ codes " waits for " 
 
 -- ---- the whole text
 
--- the submits to pool p, if it may reject jobs by the plan
-abbrev pub pool_submits : Plan → ℕ → Pool → List ℕ
-pool_submits plan p pool = if pool.may_reject then submits_text plan p else []
+-- the submits to pool p, if it has no bound, so that it may reject jobs
+abbrev pub pool_submits : Plan → ℕ → Option Bound → List ℕ
+pool_submits plan p bound = if is_none bound then submits_text plan p else []
 
 -- the lines of pool p, if the certificate has a part for it
 abbrev pub part_lines : Plan → ℕ → Pool → Option ℕ → Option PoolCert → List ℕ
 part_lines plan p pool rejection None = []
-part_lines plan p pool rejection (Some part) = bound_line plan pool rejection part.bound ++ (waits_line plan p pool part.blocked ++ pool_submits plan p pool)
+part_lines plan p pool rejection (Some part) = bound_line plan pool rejection part.bound ++ (waits_line plan p pool part.blocked ++ pool_submits plan p part.bound)
 
 -- the number of events after which pool p rejects a job; None if it is not known
 abbrev pub rejection_at : List (Option ℕ) → ℕ → Option ℕ

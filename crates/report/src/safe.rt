@@ -122,10 +122,10 @@ fn push_lines(
     ensures { Pushes result text.old text.new
         (spec.bound_line plan.now pool.now rejection part.now.bound
         ++ (spec.waits_line plan.now number pool.now part.now.blocked
-        ++ spec.pool_submits plan.now number pool.now)) }
+        ++ spec.pool_submits plan.now number part.now.bound)) }
 {
     push_bound(alloc, text, plan, pool, rejection, &part.bound)?;
-    push_rest(alloc, text, plan, number, pool, &part.blocked)
+    push_rest(alloc, text, plan, number, pool, &part.bound, &part.blocked)
 }
 
 /// Appends the lines of a pool after that of its bound.
@@ -135,26 +135,27 @@ fn push_rest(
     plan: &Plan,
     number: usize,
     pool: &Pool,
+    bound: &Option<Bound>,
     blocked: &Vector,
 ) -> Result<(), AllocError>
     ensures { Pushes result text.old text.new
         (spec.waits_line plan.now number pool.now blocked.now
-        ++ spec.pool_submits plan.now number pool.now) }
+        ++ spec.pool_submits plan.now number bound.now) }
 {
     push_waits(alloc, text, plan, number, pool, blocked)?;
-    push_pool_submits(text, plan, number, pool)
+    push_pool_submits(text, plan, number, bound)
 }
 
-/// Appends the lines of the submits to the pool, if it may reject jobs by the plan.
+/// Appends the lines of the submits to the pool, if it has no bound, so that it may reject jobs.
 fn push_pool_submits(
     text: &mut String,
     plan: &Plan,
     number: usize,
-    pool: &Pool,
+    bound: &Option<Bound>,
 ) -> Result<(), AllocError>
-    ensures { Pushes result text.old text.new (spec.pool_submits plan.now number pool.now) }
+    ensures { Pushes result text.old text.new (spec.pool_submits plan.now number bound.now) }
 {
-    if pool.may_reject {
+    if bound.is_none() {
         push_submits(text, plan, number)
     } else {
         Ok(())

@@ -148,7 +148,7 @@ return `Pool ${witness.ending.pool} refuses a submit after ${events}, which are 
 const until = witness.ending.kind === "stuck now" ? "until another submit helps" : "forever";
 return `${jobs} wait only for each other, ${until}, after ${events}, which are possible from the plan's start.`;}function sizes(plan, answer) {const {cause, pools} = answer.sizes;if (cause) {
 const hint = {cycle: "No certificate accepts the plan with any sizes. Break the cycle of submits.","never got":
-"No certificate accepts the plan with any sizes. Get the result of that submit, or bound such jobs by permits.",
+"No certificate accepts the plan with any sizes. Get the result of that submit, bound such jobs by permits, or give the pool may_reject = true if it may drop them.",
 limit: "The search found no sizes within the limit. Fewer clients, or bodies with fewer open jobs, need less.",}[cause.kind];
 return section("sizes", "Sizes to change", h("p", {}, h("b", {}, cause.text)), plan.quoted(cause.line),h("p", {class: "muted"}, hint));}
 const changes = pools.flatMap(pool => pool.changes.map(change => ({...change, pool: pool.name})));const placed = changes.filter(change => change.line !== null);
@@ -178,8 +178,10 @@ const waiting = threads.filter(job => job !== null && state.waits(state.jobs.get
 {count: waiting, color: "var(--c3)", label: "wait"},{count: idle, color: "var(--c6)", label: "idle"},];const started = `${number(threads.length)} of ${number(pool.max)} started${listOf(uses)}.`;
 const queued = new Map();for (const job of queue) {const {name} = state.jobs.get(job), part = queued.get(name) || {count: 0, color: plan.color("class", name), label: name};
 queued.set(name, {...part, count: part.count + 1});}const refuses = h("b", {style: "color:var(--bad)"}, " The next submit is refused.");
-const places = `${number(queue.length)} of ${number(pool.queue)} places in use${listOf([...queued.values()])}.`;return [["threads", bar(pool.max, uses, more("max")), [started, enough("core", "max")]],
-["queue", bar(pool.queue, [...queued.values()], more("queue")),[places, answer.witness.ending.pool === pool.name ? refuses : null, enough("queue")]],];}function listOf(parts) {
+const inUse = pool.queue ? `${number(queue.length)} of ${number(pool.queue)} places in use` :
+`${plural(queue.length, "job")} handed to idle threads`;const places = `${inUse}${listOf([...queued.values()])}.`;return [
+["threads", bar(pool.max, uses, more("max")), [started, enough("core", "max")]],["queue", bar(pool.queue || queue.length, [...queued.values()], more("queue")),
+[places, answer.witness.ending.pool === pool.name ? refuses : null, enough("queue")]],];}function listOf(parts) {
 const named = parts.filter(each => each.count).map(each => `${number(each.count)} ${each.label}`);return named.length ? `: ${someOf(named, 4)}` : "";}function pools(plan, answer, state) {
 const isSafe = answer.answer === "SAFE";const shown = answer.pools.map(pool => {const changes = answer.sizes && answer.sizes.pools.some(each => each.name === pool.name && each.changes.length);
 const isInUse = state && (state.threads.get(pool.name).length || state.queues.get(pool.name).length);const rows = isSafe ? boundRows(plan, pool) : endRows(plan, answer, pool, state);
@@ -232,14 +234,14 @@ if (shown[at].ends === "refused" && shown[at].events[0].actor.job === runs)
 parts.push(rect(x(at) + wide / 2 - 9, y, 18, 19, "fill:var(--bad-back)"), sign(x(at) + wide / 2, y + 9.5, "refused"));}return parts;}function queueLane(plan, story, x, wide, y, pool, right) {
 const {shown} = story, queue = column => column.state.queues.get(pool.name);const most = Math.max(...shown.map(column => column ? queue(column).length : 0));
 const parts = [text(LEFT - 10, y + 12, `queue of ${number(pool.queue)}`, "small dim", "end")];if (most === 0) return [[...parts, text(x(0) + 2, y + 12, "stays empty", "small dim")], y + 20];
-if (most <= MOST_CELLS) {const places = Math.min(pool.queue, most + 1), tall = places * 17;if (places > 1) parts.push(text(LEFT - 10, y + tall - 5, "head", "small dim", "end"));
-shown.forEach((column, at) => {if (!column) return;for (let place = 0; place < places; place++) {const top = y + (places - 1 - place) * 17, job = queue(column)[place];if (job === undefined) {
-parts.push(rect(x(at) + 2, top + 1, wide - 4, 15, "fill:none;stroke:var(--line)"));continue;}const name = story.nameOf(job);
-const label = [`${name} ${job}`, `${job}`].find(words => width(words) + 8 < wide) || "";parts.push(rect(x(at) + 2, top + 1, wide - 4, 15,
+const limit = pool.queue || most;if (most <= MOST_CELLS) {const places = Math.min(limit, most + 1), tall = places * 17;
+if (places > 1) parts.push(text(LEFT - 10, y + tall - 5, "head", "small dim", "end"));shown.forEach((column, at) => {if (!column) return;for (let place = 0; place < places; place++) {
+const top = y + (places - 1 - place) * 17, job = queue(column)[place];if (job === undefined) {parts.push(rect(x(at) + 2, top + 1, wide - 4, 15, "fill:none;stroke:var(--line)"));continue;}
+const name = story.nameOf(job);const label = [`${name} ${job}`, `${job}`].find(words => width(words) + 8 < wide) || "";parts.push(rect(x(at) + 2, top + 1, wide - 4, 15,
 `fill:var(--card);stroke:${plan.color("class", name)};stroke-width:1.6`),text(x(at) + wide / 2, top + 12, label, "small", "middle"));}});return [parts, y + tall + 6];}const tall = 64;
 parts.push(line(LEFT, y, right, y, "stroke:var(--bad);stroke-dasharray:5 4"),line(LEFT, y + tall, right, y + tall, "stroke:var(--edge)"),text(LEFT - 10, y + tall, "empty", "small dim", "end"));
-shown.forEach((column, at) => {if (!column || !queue(column).length) return;const count = queue(column).length, high = tall * count / pool.queue;parts.push(rect(
-x(at) + 1.5, y + tall - high, wide - 3, high, `fill:var(--${count === pool.queue ? "bad" : "c1"})`, {rx: 1}));if (width(count) < wide)
+shown.forEach((column, at) => {if (!column || !queue(column).length) return;const count = queue(column).length, high = tall * count / limit;parts.push(rect(
+x(at) + 1.5, y + tall - high, wide - 3, high, `fill:var(--${count === limit ? "bad" : "c1"})`, {rx: 1}));if (width(count) < wide)
 parts.push(text(x(at) + wide / 2, high < 16 ? y + tall - high - 3 : y + tall - 4, count,high < 16 ? "small" : "small on", "middle"));});return [parts, y + tall + 8];}function sign(x, y, outcome) {
 const ink = "fill:var(--ink);stroke:var(--card);stroke-width:1";if (outcome === "refused")
 return s("path",{d: `M${x - 6} ${y - 6}l12 12m0 -12l-12 12`, style: "stroke:var(--bad);stroke-width:3;stroke-linecap:round"});

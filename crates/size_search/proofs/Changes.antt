@@ -1,5 +1,5 @@
 -- Well-formed plans with changed sizes.
-use Rattle.std.proofs.Common.{◌≡◌, ℕ, ◌<◌, ◌≤◌, suc, true, ◌&&◌, List, [], ◌∷◌, length, get_or, map, refl, ap, ap₂, sym, ◌∙◌, arith}
+use Rattle.std.proofs.Common.{◌≡◌, ℕ, ◌<◌, ◌≤◌, suc, Bool, true, false, cond, ◌&&◌, List, [], ◌∷◌, length, get_or, map, refl, ap, ap₂, sym, ◌∙◌, arith}
 use Rattle.std.specs.Prelude.{nat_lt}
 use Rattle.std.specs.List.{list_all}
 use Rattle.std.proofs.lemmas.Bool.{and_parts, and_from, le-leb}
@@ -7,7 +7,7 @@ use Rattle.support.proofs.Members.{list_all_at_In, In-get_or}
 use Rattle.job_bodies.specs.declared.limits.TheConstants.{MAX_SIZE}
 use Rattle.job_bodies.specs.Plan.{Pool, Class, Client, Plan, no_pool, pool_at}
 use Rattle.job_bodies.proofs.Bodies.{within_bounds}
-use Rattle.job_bodies.specs.WellFormed.{is_valid_name, is_within, has_valid_sizes, is_valid_pool, is_valid_class, is_valid_client, is_valid_body, are_distinct, IsWellFormed}
+use Rattle.job_bodies.specs.WellFormed.{is_valid_name, is_within, least_queue, has_valid_sizes, is_valid_pool, is_valid_class, is_valid_client, is_valid_body, are_distinct, IsWellFormed}
 use Rattle.size_search.specs.Fitted.{shape}
 use Rattle.size_search.specs.Widened.{outline}
 use Rattle.size_search.proofs.Shapes.{length-changed, list_all-agree, get_or-changed}
@@ -93,24 +93,38 @@ outline_of_shape plan other same = sym (outline-shape other) ∙ (ap outline sam
 
 -- ---- sizes
 
+-- a capacity of at least 1 is large enough for every pool
+pub at_least_queue : (pool : Pool) (queue : ℕ) → 1 ≤ queue → least_queue pool ≤ queue
+at_least_queue pool queue some = of_key pool.may_reject
+  where
+    of_key : (may : Bool) → cond may 0 1 ≤ queue
+    of_key true = omega arith
+    of_key false = some
+
+-- a capacity that is large enough for a pool is large enough for each pool with the same `may_reject`
+pub least_queue_kept : (pool other : Pool) (queue : ℕ) → other.may_reject ≡ pool.may_reject → least_queue pool ≤ queue → least_queue other ≤ queue
+least_queue_kept pool other queue same enough =
+    let least : least_queue other ≡ least_queue pool = ap (λ (may : Bool). cond may 0 1) same in
+    omega (arith, least, enough)
+
 -- the sizes of the pool are within their ranges
 pub record HasSizes (pool : Pool) : Type 0 where
   pub core : 1 ≤ pool.core
   pub max : pool.core ≤ pool.max
   pub most_max : pool.max ≤ MAX_SIZE
-  pub queue : 1 ≤ pool.queue
+  pub queue : least_queue pool ≤ pool.queue
   pub most_queue : pool.queue ≤ MAX_SIZE
 
 pub has_sizes : (pool : Pool) → has_valid_sizes pool ≡ true → HasSizes pool
 has_sizes pool valid =
-    let parts = and_parts (is_within 1 MAX_SIZE pool.core && is_within pool.core MAX_SIZE pool.max) (is_within 1 MAX_SIZE pool.queue) valid in
+    let parts = and_parts (is_within 1 MAX_SIZE pool.core && is_within pool.core MAX_SIZE pool.max) (is_within (least_queue pool) MAX_SIZE pool.queue) valid in
     let front = and_parts (is_within 1 MAX_SIZE pool.core) (is_within pool.core MAX_SIZE pool.max) parts.0 in
     record {
       core = (within_bounds 1 MAX_SIZE pool.core front.0).0;
       max = (within_bounds pool.core MAX_SIZE pool.max front.1).0;
       most_max = (within_bounds pool.core MAX_SIZE pool.max front.1).1;
-      queue = (within_bounds 1 MAX_SIZE pool.queue parts.1).0;
-      most_queue = (within_bounds 1 MAX_SIZE pool.queue parts.1).1;
+      queue = (within_bounds (least_queue pool) MAX_SIZE pool.queue parts.1).0;
+      most_queue = (within_bounds (least_queue pool) MAX_SIZE pool.queue parts.1).1;
     }
 
 is_within_from : (low high n : ℕ) → low ≤ n → n ≤ high → is_within low high n ≡ true
@@ -118,9 +132,9 @@ is_within_from low high n above below = and_from _ _ (le-leb low n above) (le-le
 
 pub valid_from_sizes : (pool : Pool) → HasSizes pool → has_valid_sizes pool ≡ true
 valid_from_sizes pool sizes =
-    and_from (is_within 1 MAX_SIZE pool.core && is_within pool.core MAX_SIZE pool.max) (is_within 1 MAX_SIZE pool.queue)
+    and_from (is_within 1 MAX_SIZE pool.core && is_within pool.core MAX_SIZE pool.max) (is_within (least_queue pool) MAX_SIZE pool.queue)
     (and_from (is_within 1 MAX_SIZE pool.core) (is_within pool.core MAX_SIZE pool.max) (is_within_from 1 MAX_SIZE pool.core sizes.core (omega (arith, sizes.max, sizes.most_max))) (is_within_from pool.core MAX_SIZE pool.max sizes.max sizes.most_max))
-    (is_within_from 1 MAX_SIZE pool.queue sizes.queue sizes.most_queue)
+    (is_within_from (least_queue pool) MAX_SIZE pool.queue sizes.queue sizes.most_queue)
 
 -- the sizes of a pool of a well-formed plan are within their ranges
 pub sizes_at : (plan : Plan) (p : ℕ) → IsWellFormed plan → p < length plan.pools → HasSizes (pool_at plan p)

@@ -7,7 +7,7 @@ use Rattle.std.proofs.lemmas.Option.{same_Some, slice_get-get_or, get_or_from_sl
 use Rattle.support.specs.In.{In}
 use Rattle.support.proofs.Members.{In-enumerate_from, list_all_at_In, list_all_from_In}
 use Rattle.job_bodies.specs.Plan.{Pool, Plan, no_pool, pool_at, first_workers}
-use Rattle.job_bodies.specs.WellFormed.{has_valid_sizes, IsWellFormed}
+use Rattle.job_bodies.specs.WellFormed.{least_queue, has_valid_sizes, IsWellFormed}
 use Rattle.weights.specs.declared.bound.Bound.{Bound}
 use Rattle.weights.specs.declared.bound.Bound.TheVariants.{Standing, Lifetime}
 use Rattle.weights.specs.Vector.{Vector, total}
@@ -21,7 +21,7 @@ use Rattle.size_search.proofs.Shapes.{bare, length-changed, pool_at-shape, lengt
 use Rattle.size_search.proofs.Holding.{at_number}
 use Rattle.size_search.proofs.Numbered.{numbered_at, numbered_past, map-numbered, numbered_same, map-twice, changed_at}
 use Rattle.size_search.proofs.TotalRows.{TotalsHold, hold_but_totals, fails_only_at_totals_from, at_totals_where_accepted, totals_where_accepted, accepted_from_totals, same_in_shape, hold_in_shape}
-use Rattle.size_search.proofs.Changes.{well_formed_changed, outline_of_shape, HasSizes, sizes_at, sized_from_places}
+use Rattle.size_search.proofs.Changes.{least_queue_kept, well_formed_changed, outline_of_shape, HasSizes, sizes_at, sized_from_places}
 
 -- ---- plans of the same shape
 
@@ -280,7 +280,7 @@ raised_sized plan other cert well fits = sized_from_places (raised plan cert).po
           core = omega (arith, declared.core, smaller.core p);
           max = omega (arith, least.core p, room.sizes.max, room.max, alike.max p);
           most_max = omega (arith, declared.most_max, alike.max p);
-          queue = omega (arith, declared.queue, smaller.queue p);
+          queue = least_queue_kept (pool_at plan p) (pool_at (raised plan cert) p) (pool_at (raised plan cert) p).queue (alike.may_reject p) (omega (arith, declared.queue, smaller.queue p));
           most_queue = omega (arith, least.queue p, room.sizes.most_queue);
         }
 
@@ -386,11 +386,11 @@ larger_sizes_are_accepted plan other cert same is_accepted cores limits =
 -- ---- the smallest plan
 
 -- a queue that stays unchanged or is 1 is a valid queue, and no larger than any other queue
-kept_or_one : (b : Bool) (q : ℕ) → 1 ≤ q → (1 ≤ cond b q 1) × (cond b q 1 ≤ q)
+kept_or_one : (b : Bool) (q : ℕ) → cond b 0 1 ≤ q → (cond b 0 1 ≤ cond b q 1) × (cond b q 1 ≤ q)
 kept_or_one true q valid = (valid, omega arith)
 kept_or_one false q valid = (omega arith, valid)
 
-kept_or_one-le : (b : Bool) (q q' : ℕ) → (b ≡ true → q ≤ q') → 1 ≤ q' → cond b q 1 ≤ q'
+kept_or_one-le : (b : Bool) (q q' : ℕ) → (b ≡ true → q ≤ q') → cond b 0 1 ≤ q' → cond b q 1 ≤ q'
 kept_or_one-le true q q' if_kept valid = if_kept refl
 kept_or_one-le false q q' if_kept valid = valid
 
@@ -411,12 +411,14 @@ smallest_is_well_formed plan well = well_formed_changed plan (smallest plan) wel
         let core = ap (λ (pool : Pool). pool.core) is in
         let max = ap (λ (pool : Pool). pool.max) is in
         let queue = ap (λ (pool : Pool). pool.queue) is in
+        let kept : (least_queue (pool_at plan p) ≤ cond (pool_at plan p).may_reject (pool_at plan p).queue 1) × (cond (pool_at plan p).may_reject (pool_at plan p).queue 1 ≤ (pool_at plan p).queue) =
+        kept_or_one (pool_at plan p).may_reject (pool_at plan p).queue declared.queue in
         record {
           core = omega arith;
           max = omega (arith, declared.core, declared.max);
           most_max = omega (arith, declared.most_max);
-          queue = omega (arith, (kept_or_one (pool_at plan p).may_reject (pool_at plan p).queue declared.queue).0);
-          most_queue = omega (arith, (kept_or_one (pool_at plan p).may_reject (pool_at plan p).queue declared.queue).1, declared.most_queue);
+          queue = least_queue_kept (pool_at plan p) (pool_at (smallest plan) p) (pool_at (smallest plan) p).queue (ap (λ (pool : Pool). pool.may_reject) is) (omega (arith, kept.0));
+          most_queue = omega (arith, kept.1, declared.most_queue);
         }
 
 -- the smallest plan has the queues of pools that may reject jobs
@@ -453,7 +455,8 @@ fits_smallest plan other cert resized is_accepted = record {
           let core = ap (λ (pool : Pool). pool.core) is in
           let queue = ap (λ (pool : Pool). pool.queue) is in
           let sizes = sizes_at other p resized.well_formed (omega (arith, (has_shape plan other resized.same_shape).as_many)) in
-          let least = kept_or_one-le (pool_at plan p).may_reject (pool_at plan p).queue (pool_at other p).queue (λ may. let same = resized.keeps_queues.same_queue p may in omega (arith, same)) sizes.queue in
+          let least = kept_or_one-le (pool_at plan p).may_reject (pool_at plan p).queue (pool_at other p).queue (λ may. let same = resized.keeps_queues.same_queue p may in omega (arith, same))
+          (least_queue_kept (pool_at other p) (pool_at plan p) (pool_at other p).queue (sym ((has_shape plan other resized.same_shape).may_reject p)) sizes.queue) in
           (omega (arith, sizes.core), omega (arith, least))
       | inr past ↦ let is = get_or_past (smallest plan).pools p no_pool (omega (arith, length-changed smallest_pool plan.pools)) in
           let core = ap (λ (pool : Pool). pool.core) is in

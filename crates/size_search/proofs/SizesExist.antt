@@ -8,11 +8,11 @@ use Rattle.job_bodies.specs.declared.action.Action.{Action}
 use Rattle.job_bodies.specs.declared.action.Action.TheVariants.{Work, Submit, Get}
 use Rattle.job_bodies.specs.declared.limits.TheConstants.{MAX_SIZE}
 use Rattle.job_bodies.specs.Plan.{Pool, Class, Client, Plan, no_pool, pool_at, class_at, client_at, submitted_class}
-use Rattle.job_bodies.specs.WellFormed.{has_valid_sizes, IsWellFormed}
+use Rattle.job_bodies.specs.WellFormed.{least_queue, has_valid_sizes, IsWellFormed}
 use Rattle.weights.specs.Vector.{Vector, queued_weight, done_weight, workers_weight, has_small_numbers, is_small}
 use Rattle.size_search.specs.Widened.{outline}
 use Rattle.size_search.proofs.Numbered.{map-twice}
-use Rattle.size_search.proofs.Changes.{nameplate, well_formed_changed}
+use Rattle.size_search.proofs.Changes.{nameplate, at_least_queue, well_formed_changed}
 use Rattle.size_search.specs.Submitted.{IsAllGot, IsWithoutCause, LosesRejected, by_client, by_job, may_be_rejected, repeated_bodies}
 use Rattle.size_search.specs.Steady.{weight_at, weights_from, job_end, class_row, client_end, client_row, jobs_within, jobs, steady_vector, steady_total, steady_cert}
 use Rattle.size_search.proofs.Accepting.{accepting}
@@ -122,7 +122,7 @@ all_valid : (n : ℕ) (pools : List Pool) → 1 ≤ n → n ≤ MAX_SIZE → lis
 all_valid n [] low high = refl
 all_valid n (pool ∷ pools) low high =
     let same : n ≤ n = omega arith in
-    and_from _ _ (and_from _ _ (and_from _ _ (and_from _ _ (le-leb 1 n low) (le-leb n MAX_SIZE high)) (and_from _ _ (le-leb n n same) (le-leb n MAX_SIZE high))) (and_from _ _ (le-leb 1 n low) (le-leb n MAX_SIZE high))) (all_valid n pools low high)
+    and_from _ _ (and_from _ _ (and_from _ _ (and_from _ _ (le-leb 1 n low) (le-leb n MAX_SIZE high)) (and_from _ _ (le-leb n n same) (le-leb n MAX_SIZE high))) (and_from _ _ (le-leb (least_queue pool) n (at_least_queue pool n low)) (le-leb n MAX_SIZE high))) (all_valid n pools low high)
 
 sizes_where_free : (plan : Plan) → IsWellFormed plan → IsTrue (has_small_numbers (steady_vector plan)) → steady_total plan < MAX_SIZE → IsAllGot plan → HasSizes plan
 sizes_where_free plan well small low free =

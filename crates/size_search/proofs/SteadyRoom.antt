@@ -11,7 +11,7 @@ use Rattle.soundness.specs.Accepted.{accepted}
 use Rattle.size_search.specs.Fitted.{shape, NoneFits}
 use Rattle.size_search.specs.Widened.{outline, with_max, widened, NoneFitsWide}
 use Rattle.size_search.proofs.Numbered.{map-twice}
-use Rattle.size_search.proofs.Changes.{nameplate, HasSizes, sizes_at, sized_from_places, well_formed_changed}
+use Rattle.size_search.proofs.Changes.{nameplate, at_least_queue, least_queue_kept, HasSizes, sizes_at, sized_from_places, well_formed_changed}
 use Rattle.size_search.proofs.LeastMaxes.{length-widened, widened-outline, widened_at}
 use Rattle.size_search.specs.Submitted.{IsAllGot}
 use Rattle.size_search.specs.Steady.{level_above, levels_within, bound_of, pool_of, steady_vector, steady_total, steady_pool, steady_cert}
@@ -112,7 +112,7 @@ some_fit_wide plan well free small low none = none other (record { well_formed =
           core = omega (arith, low);
           max = omega (arith, sizes.most_max);
           most_max = omega (arith, low, sizes.most_max);
-          queue = omega (arith, low);
+          queue = at_least_queue (roomy n (pool_at plan p)) n (omega arith);
           most_queue = omega (arith, low);
         })
 
@@ -179,7 +179,7 @@ room_is_left plan pools well free small as_many alike room none =
           core = omega (arith, sizes.core);
           max = omega (arith, sizes.max, of_room);
           most_max = sizes.most_max;
-          queue = omega (arith, sizes.queue, (filled_queue p there.1).0);
+          queue = least_queue_kept (get_or pools p no_pool) (filled n (get_or pools p no_pool)) (filled n (get_or pools p no_pool)).queue refl (omega (arith, sizes.queue, (filled_queue p there.1).0));
           most_queue = omega (arith, (filled_queue p there.1).1);
         })
 

@@ -15,7 +15,7 @@ use Rattle.size_search.specs.declared.unfit.Unfit.TheVariants.{Shape, Condition,
 use Rattle.size_search.specs.Fitted.{is_total, raised, has_queue, have_queues, fails_only_at_totals, fitted, IsLeastFit, NoneFits}
 use Rattle.size_search.specs.Widened.{widened, NoneFitsWide}
 use Rattle.size_search.specs.Unfit.{failing_elsewhere, first_unfit, first_tight, unfit_sizes, unfit_pool, why_unfit, why_not_widened, ReportedCoresNeedLargerMaxes}
-use Rattle.size_search.proofs.Changes.{HasSizes, has_sizes, valid_from_sizes, sized_from_places, sizes_at, well_formed_changed}
+use Rattle.size_search.proofs.Changes.{least_queue_kept, HasSizes, has_sizes, valid_from_sizes, sized_from_places, sizes_at, well_formed_changed}
 use Rattle.size_search.proofs.LeastSizes.{has_shape, raised-shape, raised_at, raised_no_smaller, raised_is_well_formed, fitted_from, least_fit, none_fits}
 use Rattle.size_search.proofs.LeastMaxes.{length-widened, widened-outline, widened_at, wide_fit_fits, wide_fit_has_room, widened_maxes_are_least}
 
@@ -155,7 +155,7 @@ sized plan cert well found = sized_from_places (raised plan cert).pools each
           core = omega (arith, declared.core, larger.core p);
           max = limits.core;
           most_max = omega (arith, declared.most_max, alike.max p);
-          queue = omega (arith, declared.queue, larger.queue p);
+          queue = least_queue_kept (pool_at plan p) (pool_at (raised plan cert) p) (pool_at (raised plan cert) p).queue (alike.may_reject p) (omega (arith, declared.queue, larger.queue p));
           most_queue = limits.queue;
         }
 
@@ -215,7 +215,7 @@ widened_sizes plan cert p well there small =
       core = omega (arith, declared.core);
       max = omega (arith, declared.max);
       most_max = small;
-      queue = omega (arith, declared.queue);
+      queue = least_queue_kept (pool_at plan p) (pool_at (widened plan cert) p) (pool_at (widened plan cert) p).queue (ap (λ (pool : Pool). pool.may_reject) is) (omega (arith, declared.queue));
       most_queue = omega (arith, declared.most_queue);
     }
 

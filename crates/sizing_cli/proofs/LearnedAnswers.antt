@@ -9,7 +9,7 @@ use Rattle.sizing_cli.specs.Learn.{AnswersLines, IsConformingText, IsLearnAnswer
 
 -- an answer with a learned plan and status 0 is the text of that plan, and there is no finding
 conforming : (strict : Bool) (recording text : List ℕ) (answer : Answer) (learned : IsLearnedText recording text) (findings : List Finding)
-    → learned.findings ≡ findings → answer ≡ learned_answer strict text learned.seen.plan findings → answer.status ≡ Done
+    → learned.findings ≡ findings → answer ≡ learned_answer strict text learned.plan findings → answer.status ≡ Done
     → IsConformingText recording answer.text
 conforming strict recording text answer learned [] none is done =
     subst (λ (a : Answer). IsConformingText recording a.text) (sym is) (record { learned = learned; conforms = none })

@@ -1,7 +1,7 @@
 -- The possible answers of `ask` to an input, and the certificate that it leaves. `file` is the name of the plan's file in
 -- messages. This is a relation: it does not fix which certificate, witness or sizes are found, or that some are, nor the wording
 -- of faults, nor the places of a plan's entries.
-use Rattle.std.specs.Prelude.{◌≡◌, ◌≤◌, ◌<◌, ℕ, nat_lt, Bool, true, false, not, ◌&&◌, ◌==◌, if◌then◌else◌, List, [], ◌∷◌, ◌++◌, length, codes, decimal, Option, Some, None, IfSome, Result, Ok, Err, option_map, IsTrue, MatchBool}
+use Rattle.std.specs.Prelude.{◌≡◌, ◌≤◌, ◌<◌, ℕ, nat_lt, Bool, true, false, not, ◌&&◌, if◌then◌else◌, List, [], ◌∷◌, ◌++◌, length, codes, decimal, Option, Some, None, IfSome, Result, Ok, Err, option_map, IsTrue, MatchBool}
 use Rattle.std.specs.List.{All}
 use Rattle.clap.specs.Words.{Text}
 use Rattle.job_bodies.specs.Plan.{Plan}
@@ -15,7 +15,7 @@ use Rattle.diagnostics.specs.declared.diagnostic.Faults.{Faults}
 use Rattle.diagnostics.specs.declared.lint.Lint.{Lint}
 use Rattle.diagnostics.specs.declared.lint.Lint.TheVariants.{StaleCertificate}
 use Rattle.diagnostics.specs.declared.warnings.Warning.{Warning}
-use Rattle.diagnostics.specs.Lints.{AreLints, lints_in}
+use Rattle.diagnostics.specs.Lints.{AreLints, lints_in, has_warning}
 use Rattle.diagnostics.specs.AtCore.{at_core, has_max_above_core}
 use Rattle.diagnostics.specs.Diagnostic.{HaveSingleLines, WarnInSingleLines, faults_text, warnings_text}
 use Rattle.diagnostics.specs.Lines.{HasNoNewline}
@@ -103,9 +103,9 @@ pub record AnswersCertFault (form : Form) (source : PlanSource) (fault : CertFau
 
 -- ---- answers
 
--- the status of a finding; a safe plan with warnings has the status of a no if `strict` is set
+-- the status of a finding; a safe plan with a warning that is no note has the status of a no if `strict` is set
 abbrev pub status_of : Bool → List Warning → PlanFinding → Status
-status_of strict warnings (Safe cert rejections) = if strict && not (length warnings == 0) then Refused else Done
+status_of strict warnings (Safe cert rejections) = if strict && has_warning warnings then Refused else Done
 status_of strict warnings (NotSafe witness sizes) = Refused
 status_of strict warnings (NotDecided sizes) = Undecided
 

@@ -1,7 +1,7 @@
 -- The possible answers of `learn` to a recording: a relation, since it does not fix which bodies are found.
-use Rattle.std.specs.Prelude.{◌≡◌, ◌⊎◌, ◌&&◌, ℕ, Bool, true, false, if◌then◌else◌, nat_lt, nat_eq, List, [], ◌∷◌, ◌++◌, length, flat_map, codes, decimal, None, Some, Ok, MatchBool}
+use Rattle.std.specs.Prelude.{◌≡◌, ◌==◌, ◌⊎◌, ◌&&◌, ℕ, Bool, true, false, if◌then◌else◌, nat_lt, nat_eq, List, [], ◌∷◌, ◌++◌, length, flat_map, codes, decimal, None, Some, Ok, MatchBool}
 use Rattle.std.specs.List.{All, list_any}
-use Rattle.job_bodies.specs.Plan.{Plan}
+use Rattle.job_bodies.specs.Plan.{Plan, pool_at}
 use Rattle.plan_text.specs.PlanOf.{plan_of}
 use Rattle.plan_text.specs.PlanDocument.{IsPlanText}
 use Rattle.recordings.specs.RecordingLine.{RecordedLine, lines_read}
@@ -9,11 +9,14 @@ use Rattle.recordings.specs.Before.{begins, submits}
 use Rattle.recordings.specs.Faults.{IsFirstFault}
 use Rattle.recordings.specs.declared.fault.RecordingFault.{RecordingFault}
 use Rattle.conformance.specs.declared.finding.Finding.{Finding}
+use Rattle.conformance.specs.declared.rejections.PoolRejections.{PoolRejections}
 use Rattle.conformance.specs.Conforms.{DoAsPlanned}
 use Rattle.conformance.specs.Findings.{AreFindingsOf, is_of_actors}
 use Rattle.conformance.specs.FindingText.{finding_line, findings_text}
 use Rattle.conformance.specs.Lines.{lines_of}
 use Rattle.conformance.specs.Outcome.{AreInOrder}
+use Rattle.conformance.specs.RejectingPools.{with_rejecting_pools}
+use Rattle.conformance.specs.Rejections.{rejections_of}
 use Rattle.learning.specs.Counts.{AreCounted}
 use Rattle.learning.specs.Pools.{recorded_pools}
 use Rattle.learning.specs.Names.{IsNamedClass, IsNamedClient}
@@ -48,6 +51,20 @@ failed_gets_comment gets =
     if nat_eq gets 0 then [] else
     (codes "# Gets that timed out or were interrupted: " ++ (decimal gets ++ (codes ". A body has only those that returned later." ++ 10 ∷ [])))
 
+-- the comment for a pool that may reject jobs: the number of jobs that it rejected, or that its queue is a SynchronousQueue if it rejected
+-- none
+abbrev pub rejection_comment : Plan → PoolRejections → List ℕ
+rejection_comment plan of_pool =
+    if of_pool.count == 0
+    then codes "# Pool " ++ ((pool_at plan of_pool.pool).name ++ (codes " has a SynchronousQueue, so it has may_reject: a submit to it may be skipped with its get." ++ 10 ∷ []))
+    else
+    (if of_pool.count == 1
+    then codes "# Pool " ++ ((pool_at plan of_pool.pool).name ++ (codes " rejected 1 job, so it has may_reject: a submit to it may be skipped with its get." ++ 10 ∷ []))
+    else codes "# Pool " ++ ((pool_at plan of_pool.pool).name ++ (codes " rejected " ++ (decimal of_pool.count ++ (codes " jobs, so it has may_reject: a submit to it may be skipped with its get." ++ 10 ∷ [])))))
+
+abbrev pub rejection_comments : Plan → List PoolRejections → List ℕ
+rejection_comments plan rejections = flat_map (rejection_comment plan) rejections
+
 abbrev pub head_comment : InferredPlan → List ℕ
 head_comment seen =
     extent_comment seen.rounds seen.jobs
@@ -74,26 +91,28 @@ pub record IsSeen (lines : List RecordedLine) (seen : InferredPlan) : Type 0 whe
   pub unfinished_jobs : seen.unfinished_jobs ≡ unfinished_jobs lines
   pub failed_gets : seen.failed_gets ≡ failed_gets lines
 
--- The text is this plan's. Comments at its head give the extent of the recording and each finding.
-pub record IsTextOf (seen : InferredPlan) (findings : List Finding) (text : List ℕ) : Type 0 where
-  pub is_plan : plan_of text ≡ Ok seen.plan
+-- The text is this plan's. Comments at its head give the extent of the recording, the pools that rejected jobs, and each finding.
+pub record IsTextOf (seen : InferredPlan) (plan : Plan) (rejections : List PoolRejections) (findings : List Finding) (text : List ℕ) : Type 0 where
+  pub is_plan : plan_of text ≡ Ok plan
   pub written : List ℕ
-  pub is_written : IsPlanText seen.plan written
-  pub text_is : text ≡ head_comment seen ++ (comments seen.plan findings ++ 10 ∷ written)
+  pub is_written : IsPlanText plan written
+  pub text_is : text ≡ head_comment seen ++ (rejection_comments plan rejections ++ (comments plan findings ++ 10 ∷ written))
 
--- The text is a plan's. Its pools are those of the recording, and the count of each kind of client is the largest number
--- seen at once. The jobs and the rounds follow its bodies, and it has enough clients. Every other finding is in a comment at
+-- The text is a plan's. Its pools are those of the recording, and exactly those that reject jobs there may reject jobs. The count of each
+-- kind of client is the largest number seen at once. The jobs and the rounds follow its bodies, and it has enough clients. Every other finding is in a comment at
 -- its head, in the order of the recording's lines. If there is none, the recording conforms to the plan.
 pub record IsLearnedText (recording text : List ℕ) : Type 0 where
   pub seen : InferredPlan
   pub is_seen : IsSeen (lines_of recording) seen
+  pub plan : Plan
+  pub marked : plan ≡ with_rejecting_pools seen.plan (lines_of recording)
   pub findings : List Finding
-  pub found : AreFindingsOf seen.plan (lines_of recording) findings
+  pub found : AreFindingsOf plan (lines_of recording) findings
   pub in_order : AreInOrder findings
   pub beside_actors : list_any is_of_actors findings ≡ false
-  pub actors : DoAsPlanned seen.plan (lines_of recording)
-  pub conforms : AreAllFindings seen.plan recording findings
-  pub is_text : IsTextOf seen findings text
+  pub actors : DoAsPlanned plan (lines_of recording)
+  pub conforms : AreAllFindings plan recording findings
+  pub is_text : IsTextOf seen plan (rejections_of plan (lines_of recording)) findings text
 
 -- The text is a plan's, as above, and the recording conforms to the plan: no comment at its head is about a finding.
 pub record IsConformingText (recording text : List ℕ) : Type 0 where
@@ -115,7 +134,7 @@ pub record IsLearned (strict : Bool) (recording : List ℕ) (answer : Answer) : 
   pub no_fault : IsFirstFault (lines_read recording) None
   pub text : List ℕ
   pub learned : IsLearnedText recording text
-  pub answer_is : answer ≡ learned_answer strict text learned.seen.plan learned.findings
+  pub answer_is : answer ≡ learned_answer strict text learned.plan learned.findings
 
 abbrev pub not_learned : InferenceLimit → Answer
 not_learned reason = record { text = codes "no plan was learned: " ++ inference_limit_text reason ++ 10 ∷ []; status = Refused }

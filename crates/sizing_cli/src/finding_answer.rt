@@ -20,7 +20,7 @@ use crate::lowered_plan::LoweredPlan;
 use crate::output::Output;
 use cert_text::{Cert, write_cert};
 use command_line::{AskOptions, Form};
-use diagnostics::{Lint, Warning, one_line, plan_places, push_warnings, warnings_of};
+use diagnostics::{Lint, Warning, has_warning, one_line, plan_places, push_warnings, warnings_of};
 use job_bodies::{MAX_CERT_BYTES, Plan};
 use plan_text::TextPlace;
 use report::{
@@ -315,7 +315,7 @@ fn status_of(strict: bool, warnings: &[Warning], finding: &PlanFinding) -> Statu
 {
     match finding {
         PlanFinding::Safe(_, _) => {
-            if strict && !warnings.is_empty() {
+            if strict && has_warning(warnings) {
                 Status::Refused
             } else {
                 Status::Done

@@ -14,7 +14,10 @@ ghost use Rattle.sizing_cli.specs.Learn as spec;
 use crate::Status;
 use crate::answer::{Answer, bad_recording, input_too_long};
 use crate::texts::plan_in;
-use conformance::{Conformance, Finding, conform, push_finding, push_findings};
+use conformance::{
+    Conformance, Finding, PoolRejections, conform, mark_rejecting_pools, push_finding,
+    push_findings,
+};
 use job_bodies::{MAX_PLAN_BYTES, MAX_RECORDED_BYTES, Plan};
 use learning::{Extent, InferenceLimit, InferenceResult, InferredPlan, START_BYTES, learn};
 use plan_text::write_plan;
@@ -73,11 +76,11 @@ fn learn_from_all(alloc: Global, strict: bool, recording: &[u8]) -> Result<Answe
     }
 }
 
-/// Writes the inferred plan, after comments that list what the recording shows beyond the plan.
-/// Returns `None` if the plan does not explain the recording: a job or a round follows no body of
-/// the plan, it is undecided whether it follows one, or there are more rounds of a kind than the
-/// plan allows. If the text would be too long, the answer says so. A round is one pass of a client
-/// through its body.
+/// Writes the inferred plan, in which the pools that reject jobs in the recording may reject jobs,
+/// after comments that list what the recording shows beyond the plan. Returns `None` if the plan
+/// does not explain the recording: a job or a round follows no body of the plan, it is undecided
+/// whether it follows one, or there are more rounds of a kind than the plan allows. If the text
+/// would be too long, the answer says so. A round is one pass of a client through its body.
 fn plan_answer(
     alloc: Global,
     strict: bool,
@@ -88,15 +91,20 @@ fn plan_answer(
     requires seen { spec.IsSeen (lines_of recording.now) seen.now }
     ensures { IfOk result (λ found. IfSome found (spec.AnswersLines strict recording.now)) }
 {
-    let Conformance::Compared { findings, .. } = conform(alloc, &seen.plan, recording)? else {
+    let plan = mark_rejecting_pools(alloc, &seen.plan, recording)?;
+    let Conformance::Compared {
+        findings,
+        rejections,
+    } = conform(alloc, &plan, recording)?
+    else {
         return Ok(None);
     };
     if are_of_actors(&findings) {
         return Ok(None);
     }
-    match commented_plan(alloc, seen, &findings)? {
+    match commented_plan(alloc, seen, &plan, &rejections, &findings)? {
         Some(text) => {
-            let answer = learned_answer(alloc, strict, text, &seen.plan, &findings)?;
+            let answer = learned_answer(alloc, strict, text, &plan, &findings)?;
             Ok(Some(answer))
         }
         None => Ok(Some(not_learned(alloc, InferenceLimit::Text)?)),
@@ -108,16 +116,19 @@ fn plan_answer(
 fn commented_plan(
     alloc: Global,
     seen: &InferredPlan,
+    plan: &Plan,
+    rejections: &[PoolRejections],
     findings: &[Finding],
 ) -> Result<Option<String>, AllocError>
-    ensures { IfOk result
-        (λ found. IfSome found (λ text. spec.IsTextOf seen.now findings.now (string_bytes text))) }
+    ensures { IfOk result (λ found.
+        IfSome found (λ text.
+        spec.IsTextOf seen.now plan.now rejections.now findings.now (string_bytes text))) }
 {
-    let plan = write_plan(alloc, &seen.plan)?;
-    let mut text = head_of(alloc, seen, findings)?;
+    let written = write_plan(alloc, plan)?;
+    let mut text = head_of(alloc, seen, plan, rejections, findings)?;
     text.push('\n')?;
-    text.push_str(&plan)?;
-    if reads_as(alloc, text.as_bytes(), plan.as_bytes())? {
+    text.push_str(&written)?;
+    if reads_as(alloc, text.as_bytes(), written.as_bytes())? {
         Ok(Some(text))
     } else {
         Ok(None)
@@ -140,14 +151,22 @@ fn reads_as(alloc: Global, text: &[u8], written: &[u8]) -> Result<bool, AllocErr
 }
 
 /// Returns the comments at the head of a plan.
-fn head_of(alloc: Global, seen: &InferredPlan, findings: &[Finding]) -> Result<String, AllocError>
+fn head_of(
+    alloc: Global,
+    seen: &InferredPlan,
+    plan: &Plan,
+    rejections: &[PoolRejections],
+    findings: &[Finding],
+) -> Result<String, AllocError>
     ensures { IfOk result (λ text.
         string_bytes text
-        ≡ spec.head_comment seen.now ++ spec.comments seen.now.plan findings.now) }
+        ≡ spec.head_comment seen.now
+        ++ (spec.rejection_comments plan.now rejections.now ++ spec.comments plan.now findings.now)) }
 {
     let mut text = String::new(alloc);
     push_head(&mut text, seen)?;
-    push_comments(&mut text, &seen.plan, findings)?;
+    push_rejection_comments(&mut text, plan, rejections)?;
+    push_comments(&mut text, plan, findings)?;
     Ok(text)
 }
 
@@ -198,6 +217,48 @@ fn push_failed_gets(text: &mut String, gets: usize) -> Result<(), AllocError>
     write!(
         text,
         "# Gets that timed out or were interrupted: {gets}. A body has only those that returned later.\n"
+    )
+}
+
+/// Appends a comment for each pool that may reject jobs: the number of jobs that it rejected, or
+/// that its queue is a `SynchronousQueue` if it rejected none.
+fn push_rejection_comments(
+    text: &mut String,
+    plan: &Plan,
+    rejections: &[PoolRejections],
+) -> Result<(), AllocError>
+    ensures { Pushes result text.old text.new (spec.rejection_comments plan.now rejections.now) }
+{
+    for of_pool in rejections {
+        push_rejection_comment(text, plan, *of_pool)?;
+    }
+    Ok(())
+}
+
+fn push_rejection_comment(
+    text: &mut String,
+    plan: &Plan,
+    of_pool: PoolRejections,
+) -> Result<(), AllocError>
+    ensures { Pushes result text.old text.new (spec.rejection_comment plan.now of_pool) }
+{
+    let name = plan.pool_name(of_pool.pool);
+    let count = of_pool.count;
+    if count == 0 {
+        return writeln!(
+            text,
+            "# Pool {name} has a SynchronousQueue, so it has may_reject: a submit to it may be skipped with its get."
+        );
+    }
+    if count == 1 {
+        return writeln!(
+            text,
+            "# Pool {name} rejected 1 job, so it has may_reject: a submit to it may be skipped with its get."
+        );
+    }
+    writeln!(
+        text,
+        "# Pool {name} rejected {count} jobs, so it has may_reject: a submit to it may be skipped with its get."
     )
 }
 

@@ -93,7 +93,7 @@ refuses_nothing plan bounds s s' o ordered laws bounded (gets a body i t j at is
 refuses_nothing plan bounds s s' o ordered laws bounded (finishes j body i at) = bounded.none_refused
 refuses_nothing plan bounds s s' o ordered laws bounded (loops c client body i at is_client repeats) = bounded.none_refused
 refuses_nothing plan bounds s s' o ordered laws bounded (takes p j queue idle is_queue is_idle) = bounded.none_refused
-refuses_nothing plan bounds s s' o ordered laws bounded (retires p idle is_idle above_core) = bounded.none_refused
+refuses_nothing plan bounds s s' o ordered laws bounded (retires p idle is_idle above_core not_handed) = bounded.none_refused
 
 -- each event preserves the invariants
 pub bounded_step : (plan : Plan) (bounds : ℕ → Option Bound) (s s' : State) (o : Outcome) {e : Event} → HasValidBodies plan → BoundsHold plan bounds → Bounded plan bounds s → Happens plan s e s' o → Bounded plan bounds s'

@@ -41,7 +41,7 @@ no_fewer_jobs plan s s' o (gets a body i t j at is_child done) = omega (arith, l
 no_fewer_jobs plan s s' o (finishes j body i at) = omega (arith, length-staged s.jobs j Stage.Done)
 no_fewer_jobs plan s s' o (loops c client body i at is_client repeats) = omega arith
 no_fewer_jobs plan s s' o (takes p j queue idle is_queue is_idle) = omega (arith, length-staged s.jobs j (Stage.At 0))
-no_fewer_jobs plan s s' o (retires p idle is_idle above_core) = omega arith
+no_fewer_jobs plan s s' o (retires p idle is_idle above_core not_handed) = omega arith
 
 -- ---- the completed steps of the calls in progress
 

@@ -176,7 +176,7 @@ lowers plan ranks s s' o e laws kept none none' of_job_or_pool (gets (parent.Job
 lowers plan ranks s s' o e laws kept none none' of_job_or_pool (finishes j body i at) = lowers_finishes plan ranks s j body i kept at
 lowers plan ranks s s' o e laws kept none none' of_job_or_pool (loops c client body i at is_client repeats) = absurd cc
 lowers plan ranks s s' o e laws kept none none' of_job_or_pool (takes p j queue idle is_queue is_idle) = lowers_takes plan ranks s p j queue idle laws kept is_queue
-lowers plan ranks s s' o e laws kept none none' of_job_or_pool (retires p idle is_idle above_core) = absurd cc
+lowers plan ranks s s' o e laws kept none none' of_job_or_pool (retires p idle is_idle above_core not_handed) = absurd cc
 
 -- ---- the end of a thread
 
@@ -214,7 +214,7 @@ same_jobs plan s s' o is_end (gets a body i t j at is_child done) = absurd (no_a
 same_jobs plan s s' o is_end (finishes j body i at) = absurd cc
 same_jobs plan s s' o is_end (loops c client body i at is_client repeats) = absurd cc
 same_jobs plan s s' o is_end (takes p j queue idle is_queue is_idle) = absurd cc
-same_jobs plan s s' o is_end (retires p idle is_idle above_core) = refl
+same_jobs plan s s' o is_end (retires p idle is_idle above_core not_handed) = refl
 
 -- the end of a thread leaves the remaining work unchanged
 pub same_todo : (plan : Plan) (ranks : Ranks) (s s' : State) (o : Outcome) {e : Event} → ends_thread e ≡ true → Happens plan s e s' o → todo plan ranks s' ≡ todo plan ranks s

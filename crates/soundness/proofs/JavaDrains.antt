@@ -16,13 +16,13 @@ use Rattle.soundness.specs.Drain.{todo, is_of_no_client}
 use Rattle.soundness.proofs.Draining.{ends_thread, no_client_cases, not_counted}
 use Rattle.soundness.specs.Execute.{JavaState, java_step, java_replay, without_calls}
 use Rattle.soundness.specs.JavaSafe.{IsJavaReached}
-use Rattle.soundness.proofs.JavaEvents.{java_happens}
+use Rattle.soundness.proofs.JavaEvents.{JavaHappens, java_happens}
 use Rattle.soundness.proofs.JavaReplays.{java_replay_none, java_replay_keeps}
 use Rattle.soundness.proofs.JobCalls.{JobCalls, job_calls_start, job_calls_step}
 use Rattle.soundness.proofs.Costs.{calls_done, calls_done-le, costs, costs_nothing}
 use Rattle.soundness.specs.Headline.{AcceptedPlansJavaDrain}
 use Rattle.soundness.proofs.CertLaws.{CertLaws, cert_laws}
-use Rattle.soundness.proofs.JavaTheorem.{JavaSound, java_sound_start, java_sound_step, java_makes_progress}
+use Rattle.soundness.proofs.JavaTheorem.{JavaSound, java_sound_start, java_sound_after, java_makes_progress}
 
 -- ---- the invariants of the reachable states of an accepted plan, with the calls of its jobs
 
@@ -30,14 +30,17 @@ pub record JavaHeld (plan : Plan) (cert : Cert) (s : JavaState) : Type 0 where
   pub java : JavaSound plan cert s
   pub jobs : JobCalls plan s
 
--- each event in Java's steps preserves the invariants of an accepted plan and of the calls of its jobs
-pub held_step : (plan : Plan) (cert : Cert) → HasValidBodies plan → CertLaws plan cert → (s : JavaState) (e : Event) (s' : JavaState) → JavaHeld plan cert s → java_step plan s e ≡ Some s' → JavaHeld plan cert s'
-held_step plan cert ordered laws s e s' held is_step =
-    let java' = java_sound_step plan cert ordered laws s e s' held.java is_step in
+-- each possible event in Java's steps preserves the invariants of an accepted plan and of the calls of its jobs
+pub held_happened : (plan : Plan) (cert : Cert) (s s' : JavaState) {e : Event} → HasValidBodies plan → CertLaws plan cert → JavaHeld plan cert s → JavaHappens plan s e s' → JavaHeld plan cert s'
+held_happened plan cert s s' ordered laws held happened =
+    let java' = java_sound_after plan cert s s' ordered laws held.java happened in
     record {
       java = java';
-      jobs = job_calls_step plan s s' held.java.sound.bounded.kept (java'.sound.bounded.none_refused ∙ sym held.java.sound.bounded.none_refused) held.jobs (java_happens plan s e s' ordered held.java.calls.offering is_step);
+      jobs = job_calls_step plan s s' held.java.sound.bounded.kept (java'.sound.bounded.none_refused ∙ sym held.java.sound.bounded.none_refused) held.jobs happened;
     }
+
+pub held_step : (plan : Plan) (cert : Cert) → HasValidBodies plan → CertLaws plan cert → (s : JavaState) (e : Event) (s' : JavaState) → JavaHeld plan cert s → java_step plan s e ≡ Some s' → JavaHeld plan cert s'
+held_step plan cert ordered laws s e s' held is_step = held_happened plan cert s s' ordered laws held (java_happens plan s e s' ordered held.java.calls.offering is_step)
 
 -- every state that is reachable in Java's steps satisfies the invariants of an accepted plan and of the calls of its jobs
 java_held : (plan : Plan) (cert : Cert) → HasValidBodies plan → CertLaws plan cert → (s : JavaState) → IsJavaReached plan s → JavaHeld plan cert s
@@ -51,16 +54,18 @@ java_held plan cert ordered laws s reached =
 abbrev pub Pays : Plan → Cert → ℕ → JavaState → JavaState → Type 0
 Pays plan cert n s s' = n + 3 * todo plan cert.ranks s'.machine + calls_done s ≤ 3 * todo plan cert.ranks s.machine + calls_done s'
 
--- each event of a job or a pool pays: 1 if it is a job event or a take, and 0 if it is the end of a thread
-pub event_pays : (plan : Plan) (cert : Cert) (s : JavaState) (e : Event) (s' : JavaState) → HasValidBodies plan → CertLaws plan cert → JavaHeld plan cert s → JavaHeld plan cert s' → is_of_no_client e ≡ true → java_step plan s e ≡ Some s' → Pays plan cert (one_if (is_of_job_or_pool e)) s s'
-event_pays plan cert s e s' ordered laws held held' of_no_client is_step =
-    let happened = java_happens plan s e s' ordered held.java.calls.offering is_step in
+-- each possible event of a job or a pool pays: 1 if it is a job event or a take, and 0 if it is the end of a thread
+pub happened_pays : (plan : Plan) (cert : Cert) (s : JavaState) (e : Event) (s' : JavaState) → CertLaws plan cert → JavaHeld plan cert s → JavaHeld plan cert s' → is_of_no_client e ≡ true → JavaHappens plan s e s' → Pays plan cert (one_if (is_of_job_or_pool e)) s s'
+happened_pays plan cert s e s' laws held held' of_no_client happened =
     ⊎_elim
     (λ (counted : is_of_job_or_pool e ≡ true).
     let bounded = held.java.sound.bounded in
     omega (arith, ap one_if counted, costs plan cert.ranks s s' e laws.ranks bounded.kept bounded.none_refused held'.java.sound.bounded.none_refused held.jobs counted happened))
     (λ (is_end : ends_thread e ≡ true). omega (arith, ap one_if (not_counted e is_end), costs_nothing plan cert.ranks s s' e is_end happened))
     (no_client_cases e of_no_client)
+
+pub event_pays : (plan : Plan) (cert : Cert) (s : JavaState) (e : Event) (s' : JavaState) → HasValidBodies plan → CertLaws plan cert → JavaHeld plan cert s → JavaHeld plan cert s' → is_of_no_client e ≡ true → java_step plan s e ≡ Some s' → Pays plan cert (one_if (is_of_job_or_pool e)) s s'
+event_pays plan cert s e s' ordered laws held held' of_no_client is_step = happened_pays plan cert s e s' laws held held' of_no_client (java_happens plan s e s' ordered held.java.calls.offering is_step)
 
 -- a list of events pays for its job events and takes if the events after the first one do
 after_first : (plan : Plan) (cert : Cert) (s : JavaState) (e : Event) (events : List Event) (s' : JavaState) → HasValidBodies plan → CertLaws plan cert → JavaHeld plan cert s → is_of_no_client e ≡ true

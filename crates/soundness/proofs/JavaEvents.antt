@@ -1,5 +1,5 @@
 -- The possible events if each submit is the separate steps of Java's `execute`.
-use Rattle.std.proofs.Common.{◌≡◌, ℕ, ◌+◌, ◌<◌, ◌≤◌, ◌⊎◌, inl, inr, ⊎_elim, Bool, true, false, cond, not, ◌&&◌, eqb, ltb, List, ◌∷◌, length, slice_get, Option, Some, None, refl, ap, subst, ◌∙◌}
+use Rattle.std.proofs.Common.{◌≡◌, ℕ, ◌+◌, ◌<◌, ◌≤◌, ◌⊎◌, inl, inr, ⊎_elim, Bool, true, false, cond, not, ◌&&◌, eqb, ltb, List, ◌∷◌, length, slice_get, Option, Some, None, refl, ap, subst, ◌∙◌, arith}
 use Rattle.std.proofs.lemmas.Bool.{and_parts, or_cases, not-true, ltb-true, ltb-false, eqb-true}
 use Rattle.std.proofs.lemmas.Option.{none-some, same_Some}
 use Rattle.support.proofs.Members.{In-filter_from, In-from_list_any, list_any_at_In}
@@ -7,6 +7,8 @@ use Rattle.job_bodies.specs.declared.action.Action.{Action}
 use Rattle.job_bodies.specs.declared.action.Action.TheVariants as action
 use Rattle.job_bodies.specs.Plan.{Plan, pool_at}
 use Rattle.job_bodies.proofs.Bodies.{HasValidBodies}
+use Rattle.pool_machine.specs.PoolState.{queue_limit}
+use Rattle.pool_machine.proofs.QueueLimits.{capacity-le}
 use Rattle.pool_machine.specs.declared.offer.Offer.TheVariants as offer
 use Rattle.written_machine.specs.declared.parent.Parent.{Parent}
 use Rattle.written_machine.specs.declared.parent.Parent.TheVariants as parent
@@ -58,7 +60,7 @@ pub data JavaHappens (plan : Plan) (s : JavaState) : Event → JavaState → Typ
   finds_core : (a : Parent) (body : List Action) (i k : ℕ) → IsAtAction plan s.machine a body i (Some (action.Submit k)) → is_calling s.requesting a (pool_of plan k) ≡ false → is_calling s.offering a (pool_of plan k) ≡ false
       → (pool_at plan (pool_of plan k)).core ≤ threads plan s.machine (pool_of plan k)
       → JavaHappens plan s (event_of a) (record s { offering = record { actor = a; pool = pool_of plan k } ∷ s.offering })
-  -- the second step of a submit, if the queue is full: the call requests a thread next
+  -- the second step of a submit, if the queue has no room: the call requests a thread next; the queue is then full, or has capacity 0
   finds_full : (a : Parent) (body : List Action) (i k : ℕ) → IsAtAction plan s.machine a body i (Some (action.Submit k)) → is_calling s.requesting a (pool_of plan k) ≡ false
       → (pool_at plan (pool_of plan k)).queue ≤ length (pool_part s.machine (pool_of plan k)).queue
       → JavaHappens plan s (event_of a) (record s { offering = without_calls_of a s.offering; requesting = record { actor = a; pool = pool_of plan k } ∷ s.requesting })
@@ -84,12 +86,14 @@ checks_core_happens plan s a body i k at not_requesting not_offering false is_be
 
 -- the effect of the second step of a submit is one of the possible events
 offers_job_happens : (plan : Plan) (s : JavaState) (a : Parent) (body : List Action) (i k : ℕ) → IsAtAction plan s.machine a body i (Some (action.Submit k)) → is_calling s.requesting a (pool_of plan k) ≡ false → (pool_at plan (pool_of plan k)).core ≤ threads plan s.machine (pool_of plan k)
-    → (room : Bool) → ltb (length (pool_part s.machine (pool_of plan k)).queue) (pool_at plan (pool_of plan k)).queue ≡ room
+    → (room : Bool) → ltb (length (pool_part s.machine (pool_of plan k)).queue) (queue_limit (pool_at plan (pool_of plan k)).queue (pool_part s.machine (pool_of plan k)).idle) ≡ room
     → JavaHappens plan s (event_of a) (cond room (answers plan s a i k offer.Queued) (record s { offering = without_calls_of a s.offering; requesting = record { actor = a; pool = pool_of plan k } ∷ s.requesting }))
 offers_job_happens plan s a body i k at not_requesting at_core true has_room =
-    ends a body i k _ _ at (queues a body i k at at_core (ltb-true (length (pool_part s.machine (pool_of plan k)).queue) (pool_at plan (pool_of plan k)).queue has_room))
+    ends a body i k _ _ at (queues a body i k at at_core (ltb-true (length (pool_part s.machine (pool_of plan k)).queue) (queue_limit (pool_at plan (pool_of plan k)).queue (pool_part s.machine (pool_of plan k)).idle) has_room))
 offers_job_happens plan s a body i k at not_requesting at_core false has_room =
-    finds_full a body i k at not_requesting (ltb-false (length (pool_part s.machine (pool_of plan k)).queue) (pool_at plan (pool_of plan k)).queue has_room)
+    let queue = (pool_at plan (pool_of plan k)).queue in
+    let part = pool_part s.machine (pool_of plan k) in
+    finds_full a body i k at not_requesting (omega (arith, capacity-le queue part.idle, ltb-false (length part.queue) (queue_limit queue part.idle) has_room))
 
 -- a third step that finds max threads is one of the possible events, whether or not the pool may reject jobs
 declines_happens : (plan : Plan) (s : JavaState) (a : Parent) (body : List Action) (i k : ℕ) → IsAtAction plan s.machine a body i (Some (action.Submit k)) → is_calling s.requesting a (pool_of plan k) ≡ true
@@ -116,7 +120,7 @@ executes_happens plan s a body i k ordered at_core at true offering is_requestin
     requests_thread_happens plan s a body i k at is_requesting (ltb (threads plan s.machine (pool_of plan k)) (pool_at plan (pool_of plan k)).max) refl
 executes_happens plan s a body i k ordered at_core at false true is_requesting is_offering =
     offers_job_happens plan s a body i k at is_requesting (at_core a (pool_of plan k) (ordered.pools k (class_exists plan s.machine a body i k ordered at)) is_offering)
-    (ltb (length (pool_part s.machine (pool_of plan k)).queue) (pool_at plan (pool_of plan k)).queue) refl
+    (ltb (length (pool_part s.machine (pool_of plan k)).queue) (queue_limit (pool_at plan (pool_of plan k)).queue (pool_part s.machine (pool_of plan k)).idle)) refl
 executes_happens plan s a body i k ordered at_core at false false is_requesting is_offering =
     checks_core_happens plan s a body i k at is_requesting is_offering (ltb (threads plan s.machine (pool_of plan k)) (pool_at plan (pool_of plan k)).core) refl
 

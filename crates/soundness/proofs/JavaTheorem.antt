@@ -8,7 +8,7 @@ use Rattle.written_machine.specs.Reach.{start}
 use Rattle.written_machine.proofs.Progress.{makes_progress}
 use Rattle.soundness.specs.Execute.{JavaState, submission, java_step, without_calls}
 use Rattle.soundness.specs.JavaSafe.{JavaReaches, JavaCanProgress}
-use Rattle.soundness.proofs.JavaEvents.{java_happens}
+use Rattle.soundness.proofs.JavaEvents.{JavaHappens, java_happens}
 use Rattle.soundness.proofs.JavaReplays.{java_replay_keeps, java_possible}
 use Rattle.cert_text.specs.Cert.{Cert}
 use Rattle.soundness.specs.Headline.{AcceptedPlansAreJavaSafe, AcceptedPlansMakeJavaProgress, bound_of}
@@ -26,15 +26,17 @@ pub record JavaSound (plan : Plan) (cert : Cert) (s : JavaState) : Type 0 where
 pub java_sound_start : (plan : Plan) (cert : Cert) → HasValidBodies plan → JavaSound plan cert (without_calls (start plan))
 java_sound_start plan cert ordered = record { sound = sound_start plan cert ordered; calls = calls_none plan (bound_of cert) (start plan) }
 
--- each event in Java's steps preserves the invariants
-pub java_sound_step : (plan : Plan) (cert : Cert) → HasValidBodies plan → CertLaws plan cert → (s : JavaState) (e : Event) (s' : JavaState) → JavaSound plan cert s → java_step plan s e ≡ Some s' → JavaSound plan cert s'
-java_sound_step plan cert ordered laws s e s' held is_step =
+-- each possible event in Java's steps preserves the invariants
+pub java_sound_after : (plan : Plan) (cert : Cert) (s s' : JavaState) {e : Event} → HasValidBodies plan → CertLaws plan cert → JavaSound plan cert s → JavaHappens plan s e s' → JavaSound plan cert s'
+java_sound_after plan cert s s' ordered laws held happened =
     let bounds = bound_of cert in
-    let happened = java_happens plan s e s' ordered held.calls.offering is_step in
     record {
       sound = machine_keeps plan bounds (Sound plan cert) s s' ordered (bounds_hold plan cert ordered laws) held.sound.bounded held.calls (λ e' after o. sound_step plan cert s.machine after o ordered laws held.sound) held.sound happened;
       calls = calls_step plan bounds s s' ordered (bounds_hold plan cert ordered laws) held.sound.bounded held.calls happened;
     }
+
+pub java_sound_step : (plan : Plan) (cert : Cert) → HasValidBodies plan → CertLaws plan cert → (s : JavaState) (e : Event) (s' : JavaState) → JavaSound plan cert s → java_step plan s e ≡ Some s' → JavaSound plan cert s'
+java_sound_step plan cert ordered laws s e s' held is_step = java_sound_after plan cert s s' ordered laws held (java_happens plan s e s' ordered held.calls.offering is_step)
 
 -- every state that is reachable in Java's steps satisfies the invariants
 pub java_sound : (plan : Plan) (cert : Cert) → HasValidBodies plan → CertLaws plan cert → (events : List Event) (s : JavaState) → JavaReaches plan events s → JavaSound plan cert s

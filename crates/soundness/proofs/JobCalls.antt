@@ -72,7 +72,7 @@ leaves plan s s' o n i kept at other (loops c client body i' standing is_client 
 leaves plan s s' o n i kept at other (takes p j queue idle is_queue is_idle) =
     get_or-staged_other s.jobs j (Stage.At 0) n no_job
     (λ (same : n ≡ j). let queued : (job_at s n).stage ≡ Stage.Queued = ap (λ (m : ℕ). (job_at s m).stage) same ∙ (head_of_queue plan s p j queue kept is_queue).queued in cc)
-leaves plan s s' o n i kept at other (retires p idle is_idle above_core) = refl
+leaves plan s s' o n i kept at other (retires p idle is_idle above_core not_handed) = refl
 
 -- a job at a submit is still at it after every event except its own
 still_before : (plan : Plan) (s s' : State) (o : Outcome) (n p : ℕ) {e : Event} → StateInvariant plan s → e ≢ event.Job n → Happens plan s e s' o → StandsBefore plan (job_at s n) p → StandsBefore plan (job_at s' n) p

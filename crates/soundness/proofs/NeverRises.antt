@@ -277,7 +277,7 @@ never_rises get_return plan v s s' o ordered laws light kept (gets a body i t j 
 never_rises get_return plan v s s' o ordered laws light kept (finishes j body i at) = never_rises_finishes get_return plan v s j body i laws kept at
 never_rises get_return plan v s s' o ordered laws light kept (loops c client body i at is_client repeats) = never_rises_loops get_return plan v s c client body i laws kept at is_client repeats
 never_rises get_return plan v s s' o ordered laws light kept (takes p j queue idle is_queue is_idle) = never_rises_takes get_return plan v s p j queue idle laws kept is_queue
-never_rises get_return plan v s s' o ordered laws light kept (retires p idle is_idle above_core) = omega arith
+never_rises get_return plan v s s' o ordered laws light kept (retires p idle is_idle above_core not_handed) = omega arith
 
 -- a state is balanced if the state before it is balanced and the weight does not rise between them
 pub balanced_step : (get_return : GetReturn) (plan : Plan) (v : Vector) (s s' : State) → DoesNotIncrease get_return plan v s s' → IsBalanced get_return plan v s → IsBalanced get_return plan v s'

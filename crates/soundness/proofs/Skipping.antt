@@ -29,16 +29,16 @@ use Rattle.soundness.proofs.RankLaws.{RankLaws}
 use Rattle.soundness.specs.Execute.{JavaState, without_calls}
 use Rattle.soundness.specs.Exchange.{after_exchange}
 use Rattle.soundness.specs.Skipping.{Choice, choice_step, ChoicesReach}
-use Rattle.soundness.specs.Skipping.Choice.{Acts, Skips, Exchanges}
+use Rattle.soundness.specs.Skipping.Choice.{Acts, Skips, Misses, Exchanges}
 use Rattle.soundness.proofs.Walks.{done-le-queued}
 use Rattle.soundness.proofs.ThreadChanges.{change_skipped}
 use Rattle.soundness.proofs.ExchangedJobs.{AreAlike, IsExchange, is_exchange, kept_exchanged, threads-exchanged, jobs_made-exchanged, have_jobs_exchanged, no_heavier_exchanged}
-use Rattle.soundness.proofs.Choices.{IsSkipped, leaves, is_skipped, choices_keep}
+use Rattle.soundness.proofs.Choices.{IsSkipped, leaves, is_skipped, is_missed, choices_keep}
 use Rattle.soundness.specs.Headline.{AcceptedPlansMaySkip, AcceptedPlansMakeProgressWithSkips, bound_of}
 use Rattle.soundness.proofs.CertLaws.{CertLaws, cert_laws}
 use Rattle.soundness.proofs.Theorem.{Sound, sound_safe}
 use Rattle.soundness.proofs.Calls.{QueueWasFull, CallsKept}
-use Rattle.soundness.proofs.JavaTheorem.{JavaSound, java_sound_start, java_sound_step, java_makes_progress}
+use Rattle.soundness.proofs.JavaTheorem.{JavaSound, java_sound_start, java_sound_after, java_sound_step, java_makes_progress}
 
 -- ---- a skipped submit
 
@@ -133,6 +133,7 @@ exchange_keeps plan cert s a t u s' held done =
 pub choice_keeps : (plan : Plan) (cert : Cert) → HasValidBodies plan → CertLaws plan cert → (s : JavaState) (x : Choice) (s' : JavaState) → JavaSound plan cert s → choice_step plan s x ≡ Some s' → JavaSound plan cert s'
 choice_keeps plan cert ordered laws s (Acts e) s' held is_step = java_sound_step plan cert ordered laws s e s' held is_step
 choice_keeps plan cert ordered laws s (Skips e) s' held is_step = left_keeps plan cert s e s' ordered laws held (is_skipped plan s e s' is_step)
+choice_keeps plan cert ordered laws s (Misses e) s' held is_step = java_sound_after plan cert s s' ordered laws held (is_missed plan s e s' is_step)
 choice_keeps plan cert ordered laws s (Exchanges a t u) s' held is_step = exchange_keeps plan cert s a t u s' held (is_exchange plan s a t u s' is_step)
 
 -- every state that choices reach is sound

@@ -16,15 +16,15 @@ use Rattle.soundness.specs.Execute.{JavaState, java_step, without_calls}
 use Rattle.soundness.proofs.JobCalls.{JobCalls, job_calls_start}
 use Rattle.soundness.proofs.Costs.{calls_done-le}
 use Rattle.soundness.specs.Skipping.{Choice, choice_step, choices_replay, ChoicesReach, is_of_jobs, no_client_acts}
-use Rattle.soundness.specs.Skipping.Choice.{Acts, Skips, Exchanges}
-use Rattle.soundness.proofs.Choices.{is_skipped, choices_none, choices_keep}
+use Rattle.soundness.specs.Skipping.Choice.{Acts, Skips, Misses, Exchanges}
+use Rattle.soundness.proofs.Choices.{is_skipped, is_missed, choices_none, choices_keep}
 use Rattle.soundness.proofs.SkipCosts.{skip_costs}
 use Rattle.soundness.proofs.ExchangedJobs.{is_exchange}
 use Rattle.soundness.proofs.ExchangeCosts.{job_calls_exchanged, todo-exchanged, calls_done-exchanged}
 use Rattle.soundness.specs.Headline.{AcceptedPlansDrainWithSkips}
 use Rattle.soundness.proofs.CertLaws.{CertLaws, cert_laws}
 use Rattle.soundness.proofs.JavaTheorem.{java_sound_start, java_makes_progress}
-use Rattle.soundness.proofs.JavaDrains.{JavaHeld, held_step, Pays, event_pays}
+use Rattle.soundness.proofs.JavaDrains.{JavaHeld, held_happened, held_step, Pays, happened_pays, event_pays}
 use Rattle.soundness.proofs.Skipping.{choice_keeps}
 
 -- ---- every choice
@@ -36,6 +36,7 @@ choice_held plan cert ordered laws s (Skips e) s' held is_step = record {
   java = choice_keeps plan cert ordered laws s (Skips e) s' held.java is_step;
   jobs = (skip_costs plan cert.ranks s e s' (is_skipped plan s e s' is_step)).calls held.jobs;
 }
+choice_held plan cert ordered laws s (Misses e) s' held is_step = held_happened plan cert s s' ordered laws held (is_missed plan s e s' is_step)
 choice_held plan cert ordered laws s (Exchanges a t u) s' held is_step = record {
   java = choice_keeps plan cert ordered laws s (Exchanges a t u) s' held.java is_step;
   jobs = subst (JobCalls plan) (is_exchange plan s a t u s' is_step).after (job_calls_exchanged plan s a t u held.jobs);
@@ -56,6 +57,7 @@ choice_pays plan cert s (Skips e) s' ordered laws held held' of_no_client is_ste
     (λ (counted : is_of_job_or_pool e ≡ true). omega (arith, ap one_if counted, cost.costs counted))
     (λ (is_end : ends_thread e ≡ true). absurd (false≢true (sym cost.by_actor ∙ is_end)))
     (no_client_cases e of_no_client)
+choice_pays plan cert s (Misses e) s' ordered laws held held' of_no_client is_step = happened_pays plan cert s e s' laws held held' of_no_client (is_missed plan s e s' is_step)
 choice_pays plan cert s (Exchanges a t u) s' ordered laws held held' of_no_client is_step =
     subst (Pays plan cert 0 s) (is_exchange plan s a t u s' is_step).after (omega (arith, todo-exchanged plan cert.ranks s.machine a t u, calls_done-exchanged s a t u))
 

@@ -109,6 +109,6 @@ threads_change plan s s' o kept (takes q j queue idle is_queue is_idle) p inside
     let head = head_of_queue plan s q j queue kept is_queue in
     change_worker plan s j (Stage.At 0) q queue idle kept.as_many head.of_pool
     (omega (arith, busy-staged_here plan s.jobs j (Stage.At 0) q head.of_pool head.inside, ap (λ (stage : Stage). one_if (is_at stage)) head.queued)) p inside
-threads_change plan s s' o kept (retires q idle is_idle above_core) p inside =
+threads_change plan s s' o kept (retires q idle is_idle above_core not_handed) p inside =
     pools_with_part plan s q (pool_part s q).queue idle (ThreadsChange plan s s.jobs) kept.as_many (λ exists. record { by_jobs = omega arith; at_core = λ enough. omega arith })
     (λ r within other. change_same plan s s.jobs r (pool_part s r) refl (omega arith)) p inside

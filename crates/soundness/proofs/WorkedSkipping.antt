@@ -1,16 +1,16 @@
--- Replays of a small plan with skipped submits, computed from the definitions alone.
-use Rattle.std.proofs.Common.{◌≡◌, ℕ, List, [], ◌∷◌, Option, Some, None, true, false, refl}
+-- Replays of small plans with skipped submits and missed offers, computed from the definitions alone.
+use Rattle.std.proofs.Common.{◌≡◌, ℕ, List, [], ◌∷◌, ◌++◌, Option, Some, None, true, false, refl}
 use Rattle.std.specs.List.{count_by}
 use Rattle.std.specs.Option.{option_map}
 use Rattle.job_bodies.specs.declared.action.Action.TheVariants.{Work, Submit, Get}
 use Rattle.job_bodies.specs.Plan.{Plan, Pool}
 use Rattle.written_machine.specs.declared.event.Event.TheVariants as event
-use Rattle.written_machine.specs.State.{is_unfinished}
+use Rattle.written_machine.specs.State.{PoolPart, is_at, is_unfinished}
 use Rattle.written_machine.specs.Reach.{start}
 use Rattle.written_machine.specs.Waiting.{is_waiting_set}
 use Rattle.soundness.specs.Execute.{JavaState, without_calls}
 use Rattle.soundness.specs.Skipping.{Choice, choices_replay}
-use Rattle.soundness.specs.Skipping.Choice.{Acts, Skips}
+use Rattle.soundness.specs.Skipping.Choice.{Acts, Skips, Misses}
 
 -- ---- the plan
 
@@ -67,3 +67,33 @@ no_begun_is_skipped = refl
 -- a take cannot be skipped
 pub no_taking_is_skipped : choices_replay nested (Some (without_calls (start nested))) (Skips (event.Take 0) ∷ []) ≡ None
 no_taking_is_skipped = refl
+
+-- ---- missed offers
+
+-- two clients that submit jobs to a pool of two threads with a queue of capacity 0
+abbrev handing : Plan
+handing = record {
+  pools = record one_thread { max = 2; queue = 0; may_reject = true } ∷ [];
+  classes = record { name = 97 ∷ []; pool = 0; body = Work 1 ∷ [] } ∷ [];
+  clients = record { name = 99 ∷ []; count = 2; repeat = true; body = Submit 0 ∷ Get 0 ∷ [] } ∷ [];
+}
+
+-- the first job ends, and the second client's call finds the core thread
+abbrev one_idle : List Choice
+one_idle = Acts (event.Client 0) ∷ Acts (event.Job 0) ∷ Acts (event.Job 0) ∷ Acts (event.Client 1) ∷ []
+
+-- the idle threads, the queue, and the number of jobs that run
+abbrev threads_of : List Choice → Option (List PoolPart × ℕ)
+threads_of choices = option_map (λ (s : JavaState). (s.machine.pools, count_by (λ job. is_at job.stage) s.machine.jobs)) (choices_replay handing (Some (without_calls (start handing))) choices)
+
+-- the offer hands the second job to the idle thread
+pub offer_is_met : threads_of (one_idle ++ Acts (event.Client 1) ∷ []) ≡ Some (record { queue = 1 ∷ []; idle = 1 } ∷ [], 0)
+offer_is_met = refl
+
+-- the offer misses the idle thread, and another thread starts the second job
+pub offer_is_missed : threads_of (one_idle ++ Misses (event.Client 1) ∷ Acts (event.Client 1) ∷ []) ≡ Some (record { queue = []; idle = 1 } ∷ [], 1)
+offer_is_missed = refl
+
+-- no offer to a queue of a greater capacity is missed
+pub no_offer_is_missed : choices_replay nested (Some (without_calls (start nested))) (Acts (event.Client 0) ∷ Acts (event.Job 0) ∷ Misses (event.Job 0) ∷ []) ≡ None
+no_offer_is_missed = refl

@@ -1,6 +1,6 @@
 -- A submit as the separate steps of Java's `execute`. Each step reads or changes the pool at one moment, and other events can
 -- occur between two steps. The first step starts a thread if the pool has fewer than core threads. Otherwise the second step
--- offers the job to the queue. If the queue is full, the third step requests a thread.
+-- offers the job to the queue. If the queue has no room, the third step requests a thread.
 use Rattle.std.specs.Prelude.{ℕ, ◌==◌, ◌&&◌, not, nat_lt, Bool, List, [], ◌∷◌, length, filter, Option, Some, None, slice_get, if◌then◌else◌}
 use Rattle.std.specs.List.{list_any}
 use Rattle.job_bodies.specs.declared.action.Action.{Action}
@@ -8,6 +8,7 @@ use Rattle.job_bodies.specs.declared.action.Action.TheVariants.{Submit}
 use Rattle.job_bodies.specs.Plan.{Plan, pool_at}
 use Rattle.pool_machine.specs.declared.offer.Offer.{Offer}
 use Rattle.pool_machine.specs.declared.offer.Offer.TheVariants.{Started, Queued, Refused}
+use Rattle.pool_machine.specs.PoolState.{queue_limit}
 use Rattle.written_machine.specs.declared.parent.Parent.{Parent}
 use Rattle.written_machine.specs.declared.parent.Parent.TheVariants as parent
 use Rattle.written_machine.specs.declared.event.Event.{Event}
@@ -53,11 +54,15 @@ checks_core plan s a i k =
     if nat_lt (threads plan s.machine (pool_of plan k)) (pool_at plan (pool_of plan k)).core then answers plan s a i k Started
     else record s { offering = record { actor = a; pool = pool_of plan k } ∷ s.offering }
 
+-- the state after the second step if the queue has no room: the call requests a thread next
+abbrev pub offer_fails : Plan → JavaState → Parent → ℕ → JavaState
+offer_fails plan s a k = record s { offering = without_calls_of a s.offering; requesting = record { actor = a; pool = pool_of plan k } ∷ s.requesting }
+
 -- the state after the second step: if the queue has room, the job is queued, and otherwise the call requests a thread next
 abbrev pub offers_job : Plan → JavaState → Parent → ℕ → ℕ → JavaState
 offers_job plan s a i k =
-    if nat_lt (length (pool_part s.machine (pool_of plan k)).queue) (pool_at plan (pool_of plan k)).queue then answers plan s a i k Queued
-    else record s { offering = without_calls_of a s.offering; requesting = record { actor = a; pool = pool_of plan k } ∷ s.requesting }
+    if nat_lt (length (pool_part s.machine (pool_of plan k)).queue) (queue_limit (pool_at plan (pool_of plan k)).queue (pool_part s.machine (pool_of plan k)).idle) then answers plan s a i k Queued
+    else offer_fails plan s a k
 
 -- the state after the third step: if the pool has fewer than max threads, a new thread runs the job, and otherwise the job is
 -- refused, or the submit is skipped if the pool may reject jobs; this step does not check the queue, which may have room again

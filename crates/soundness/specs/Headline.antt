@@ -2,6 +2,7 @@
 use Rattle.std.specs.Prelude.{◌≡◌, ◌≤◌, ◌<◌, ℕ, List, length, IsTrue, IsFalse, Option, Some, None}
 use Rattle.job_bodies.specs.Plan.{Plan, pool_at}
 use Rattle.job_bodies.specs.WellFormed.{IsWellFormed}
+use Rattle.pool_machine.specs.PoolState.{queue_limit}
 use Rattle.written_machine.specs.declared.event.Event.{Event}
 use Rattle.written_machine.specs.declared.event.Outcome.TheVariants.{Rejected}
 use Rattle.written_machine.specs.declared.parent.Parent.{Parent}
@@ -75,11 +76,12 @@ abbrev pub HasBound : Plan → ℕ → Option Bound → Type 0
 HasBound plan p None = IsTrue (pool_at plan p).may_reject
 HasBound plan p (Some bound) = IsTrue (vector_fits plan (bound_vector bound)) × AllHold (bound_rows plan p bound) × RejectedAreLight plan (bound_vector bound)
 
--- in the state, no submit was refused, no pool has more threads than its maximum, and no queue is longer than its capacity
+-- in the state, no submit was refused, no pool has more threads than its maximum, and no queue is longer than its capacity, or than the
+-- number of idle workers if its capacity is 0
 pub record KeepsSizes (plan : Plan) (s : State) : Type 0 where
   pub none_refused : s.refusals ≡ 0
   pub within_max : (p : ℕ) → p < length plan.pools → threads plan s p ≤ (pool_at plan p).max
-  pub within_queue : (p : ℕ) → p < length plan.pools → length (pool_part s p).queue ≤ (pool_at plan p).queue
+  pub within_queue : (p : ℕ) → p < length plan.pools → length (pool_part s p).queue ≤ queue_limit (pool_at plan p).queue (pool_part s p).idle
 
 -- in every reachable state of the plan no submit was refused, and each pool is within its maximum and its queue's capacity
 abbrev pub RefusesNothing : Plan → Type 0

@@ -1,11 +1,11 @@
 -- Actors that skip submits of their bodies together with the gets of these submits, as with an `if` around both, and that get
 -- jobs of one class in another order than their bodies. An actor decides anew each time which submits to skip and in which order
 -- to get its jobs.
-use Rattle.std.specs.Prelude.{◌≡◌, ◌≤◌, ◌<◌, ◌+◌, ◌*◌, ◌||◌, if◌then◌else◌, ℕ, Bool, true, false, IsTrue, IsFalse, List, [], ◌∷◌, length, Option, Some, None, slice_get, count_by}
+use Rattle.std.specs.Prelude.{◌≡◌, ◌≤◌, ◌<◌, ◌+◌, ◌*◌, ◌||◌, ◌&&◌, ◌==◌, if◌then◌else◌, ℕ, Bool, true, false, IsTrue, IsFalse, List, [], ◌∷◌, length, Option, Some, None, slice_get, count_by}
 use Rattle.std.specs.List.{list_all}
 use Rattle.job_bodies.specs.declared.action.Action.{Action}
 use Rattle.job_bodies.specs.declared.action.Action.TheVariants.{Get}
-use Rattle.job_bodies.specs.Plan.{Plan}
+use Rattle.job_bodies.specs.Plan.{Plan, pool_at}
 use Rattle.job_bodies.specs.WellFormed.{IsWellFormed}
 use Rattle.weights.specs.declared.get_return.GetReturn.{GetReturn}
 use Rattle.weights.specs.Row.{AllHold}
@@ -21,15 +21,17 @@ use Rattle.written_machine.specs.Step.{point, with_stage, with_position, skipped
 use Rattle.written_machine.specs.Reach.{start}
 use Rattle.written_machine.specs.Safe.{IsSafe, is_of_job_or_pool}
 use Rattle.soundness.specs.Drain.{todo, is_of_no_client}
-use Rattle.soundness.specs.Execute.{JavaState, Submission, is_calling, submission, java_step, without_calls}
+use Rattle.soundness.specs.Execute.{JavaState, Submission, is_calling, offer_fails, submission, java_step, without_calls}
 use Rattle.soundness.specs.JavaSafe.{JavaCanProgress, IsJavaQuiescent}
 use Rattle.soundness.specs.Exchange.{after_exchange, can_exchange}
 
--- a choice: `Acts` performs an event; `Skips` makes the actor of the event skip the submit at which it is; `Exchanges` exchanges
--- the jobs that an actor submitted at two positions
+-- a choice: `Acts` performs an event; `Skips` makes the actor of the event skip the submit at which it is; `Misses` makes the offer
+-- of the event's actor fail although a thread may be idle, which can happen at a queue of capacity 0; `Exchanges` exchanges the jobs
+-- that an actor submitted at two positions
 pub data Choice : Type 0 where
   Acts : Event → Choice
   Skips : Event → Choice
+  Misses : Event → Choice
   Exchanges : Parent → ℕ → ℕ → Choice
 
 -- the state after an actor skips a submit: the actor is after the submit, a get of the submit finds a new job that is done, and
@@ -46,6 +48,15 @@ abbrev pub skip_submit : Plan → JavaState → Option Submission → Option Jav
 skip_submit plan s None = None
 skip_submit plan s (Some x) = if has_begun plan s x then None else Some (record s { machine = after_skip s.machine x })
 
+-- the state after the offer of the submit finds no thread at a queue of capacity 0, because an idle thread is not back at the queue
+-- yet; None if there is no submit, its next step is no offer, or the queue has a greater capacity
+abbrev pub miss_thread : Plan → JavaState → Option Submission → Option JavaState
+miss_thread plan s None = None
+miss_thread plan s (Some x) =
+    if is_calling s.requesting x.actor (pool_of plan x.class) then None
+    else (if is_calling s.offering x.actor (pool_of plan x.class) && (pool_at plan (pool_of plan x.class)).queue == 0 then Some (offer_fails plan s x.actor x.class)
+    else None)
+
 -- the state after an exchange of the actor's jobs at positions t and u, or None if these jobs are not alike
 abbrev pub exchange_jobs : JavaState → Parent → ℕ → ℕ → Option JavaState
 exchange_jobs s a t u = if can_exchange s.machine a t u then Some (record s { machine = after_exchange a t u s.machine }) else None
@@ -54,6 +65,7 @@ exchange_jobs s a t u = if can_exchange s.machine a t u then Some (record s { ma
 abbrev pub choice_step : Plan → JavaState → Choice → Option JavaState
 choice_step plan s (Acts e) = java_step plan s e
 choice_step plan s (Skips e) = skip_submit plan s (submission plan s.machine e)
+choice_step plan s (Misses e) = miss_thread plan s (submission plan s.machine e)
 choice_step plan s (Exchanges a t u) = exchange_jobs s a t u
 
 -- the state after all choices in order, or None if one of them is not possible
@@ -75,17 +87,19 @@ SkippingMakesProgress plan = (choices : List Choice) (s : JavaState) → Choices
 
 -- ---- draining
 
--- the choice is a job event, a take, or a skip by a job; an exchange is not counted
+-- the choice is a job event, a take, or a skip or a missed offer by a job; an exchange is not counted
 abbrev pub is_of_jobs : Choice → Bool
 is_of_jobs (Acts e) = is_of_job_or_pool e
 is_of_jobs (Skips e) = is_of_job_or_pool e
+is_of_jobs (Misses e) = is_of_job_or_pool e
 is_of_jobs (Exchanges a t u) = false
 
--- the choice is neither an event of a client nor a skip by a client; an exchange of a client's jobs does not count as an action
--- of the client
+-- the choice is neither an event of a client nor a skip or a missed offer by a client; an exchange of a client's jobs does not count as an
+-- action of the client
 abbrev pub no_client_acts : Choice → Bool
 no_client_acts (Acts e) = is_of_no_client e
 no_client_acts (Skips e) = is_of_no_client e
+no_client_acts (Misses e) = is_of_no_client e
 no_client_acts (Exchanges a t u) = true
 
 -- the choices lead from the state s, which the choices `before` reach, to the state s', and no client acts in them
@@ -95,8 +109,8 @@ pub record ChoicesLeadTo (plan : Plan) (s : JavaState) (choices : List Choice) (
   pub of_no_client : IsTrue (list_all no_client_acts choices)
   pub replayed : choices_replay plan (Some s) choices ≡ Some s'
 
--- If no client acts after a state that choices reach, the number of job events, takes and skips by jobs that follow is at most
--- three times the remaining work of that state. When no job event and no take is possible any longer, no job is unfinished. In
+-- If no client acts after a state that choices reach, the number of job events, takes, and skips and missed offers by jobs that follow is
+-- at most three times the remaining work of that state. When no job event and no take is possible any longer, no job is unfinished. In
 -- between, threads above core may end and jobs may be exchanged.
 pub record SkippingDrains (plan : Plan) (ranks : Ranks) : Type 0 where
   pub bounded : (s s' : JavaState) (choices : List Choice) → ChoicesLeadTo plan s choices s' → count_by is_of_jobs choices ≤ 3 * todo plan ranks s.machine

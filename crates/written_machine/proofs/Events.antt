@@ -7,7 +7,7 @@ use Rattle.job_bodies.specs.declared.action.Action.TheVariants as action
 use Rattle.job_bodies.specs.Plan.{Plan, pool_at, client_at}
 use Rattle.pool_machine.specs.declared.offer.Offer.{Offer}
 use Rattle.pool_machine.specs.declared.offer.Offer.TheVariants as offer
-use Rattle.pool_machine.specs.PoolState.{PoolView, answer, taken, retired}
+use Rattle.pool_machine.specs.PoolState.{PoolView, queue_limit, answer, taken, retired}
 use Rattle.pool_machine.proofs.Events.{started_below, queued_at_core, refused_when_full, taken_takes, retired_retires}
 use Rattle.written_machine.specs.declared.client_state.ClientState.{ClientState}
 use Rattle.written_machine.specs.declared.parent.Parent.{Parent}
@@ -48,7 +48,7 @@ pub data Happens (plan : Plan) (s : State) : Event → State → Outcome → Typ
       → Happens plan s (event_of a) (with_job (new_job k a i (Stage.At 0)) (with_position a (i + 1) s)) (outcome.Started (length s.jobs))
   queues : (a : Parent) (body : List Action) (i k : ℕ) → IsAtAction plan s a body i (Some (action.Submit k))
       → (pool_at plan (pool_of plan k)).core ≤ threads plan s (pool_of plan k)
-      → length (pool_part s (pool_of plan k)).queue < (pool_at plan (pool_of plan k)).queue
+      → length (pool_part s (pool_of plan k)).queue < queue_limit (pool_at plan (pool_of plan k)).queue (pool_part s (pool_of plan k)).idle
       → Happens plan s (event_of a) (queued_state plan s a i k) (outcome.Queued (length s.jobs))
   is_refused : (a : Parent) (body : List Action) (i k : ℕ) → IsAtAction plan s a body i (Some (action.Submit k))
       → (pool_at plan (pool_of plan k)).may_reject ≡ false
@@ -68,6 +68,7 @@ pub data Happens (plan : Plan) (s : State) : Event → State → Outcome → Typ
   takes : (p j : ℕ) (queue : List ℕ) (idle : ℕ) → (pool_part s p).queue ≡ j ∷ queue → (pool_part s p).idle ≡ suc idle
       → Happens plan s (event.Take p) (with_part p queue idle (with_stage j (Stage.At 0) s)) (outcome.Took j)
   retires : (p idle : ℕ) → (pool_part s p).idle ≡ suc idle → (pool_at plan p).core < threads plan s p
+      → ((pool_at plan p).queue ≡ 0 → length (pool_part s p).queue ≤ idle)
       → Happens plan s (event.Retire p) (with_part p (pool_part s p).queue idle s) outcome.Retired
 
 -- ---- every step satisfies the relation
@@ -137,7 +138,7 @@ retire_worker_happens plan s p None is_retired s' o e = absurd (none-some (s', o
 retire_worker_happens plan s p (Some after) is_retired s' o e =
     let ending = retired_retires (pool_seen plan s p) after is_retired in
     same_outcome plan s (event.Retire p) _ s' o e
-    (subst (λ (queue : List ℕ). Happens plan s (event.Retire p) (with_part p queue after.idle s) outcome.Retired) (sym ending.queue) (retires p after.idle ending.idle ending.above_core))
+    (subst (λ (queue : List ℕ). Happens plan s (event.Retire p) (with_part p queue after.idle s) outcome.Retired) (sym ending.queue) (retires p after.idle ending.idle ending.above_core ending.not_handed))
 
 pub happens : (plan : Plan) (s : State) (e : Event) (s' : State) (o : Outcome) → step plan s e ≡ Some (s', o) → Happens plan s e s' o
 happens plan s (event.Client c) s' o e = step_at_point_happens plan s (parent.Client c) (point plan s (parent.Client c)) refl s' o e

@@ -184,7 +184,7 @@ module _ (plan : Plan) (s : State) (members : List ℕ) (ordered : HasValidBodie
   leaves s' o (finishes j body i at) = leaves_finishes j body i at
   leaves s' o (loops c client body i at is_client repeats) = leaves_acts (parent.Client c) body i 0 None at (λ t same. cc)
   leaves s' o (takes p j queue idle is_queue is_idle) = leaves_takes p j queue idle is_queue is_idle
-  leaves s' o (retires p idle is_idle above_core) =
+  leaves s' o (retires p idle is_idle above_core not_handed) =
       leaves-part plan members among s p (pool_part s p).queue idle (λ q is_among. idle_elsewhere s p (pool_part s p).queue idle q (idle_not_among q p idle is_idle is_among))
 
 -- ---- the set is permanent

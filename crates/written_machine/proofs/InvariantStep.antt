@@ -1,5 +1,5 @@
 -- Proofs that each event preserves the invariant.
-use Rattle.std.proofs.Common.{◌≡◌, ◌≢◌, ℕ, suc, ◌+◌, ◌<◌, inl, inr, List, ◌∷◌, length, Some, None, refl, sym, ap, subst, ◌∙◌, arith}
+use Rattle.std.proofs.Common.{◌≡◌, ◌≢◌, ℕ, suc, ◌+◌, ◌<◌, ◌≤◌, inl, inr, List, ◌∷◌, length, Some, None, refl, sym, ap, subst, ◌∙◌, arith}
 use Rattle.std.proofs.lemmas.List.{length-set}
 use Rattle.job_bodies.specs.declared.action.Action.{Action}
 use Rattle.job_bodies.specs.declared.action.Action.TheVariants as action
@@ -128,12 +128,12 @@ kept_takes plan s p j queue idle kept is_queue is_idle =
       ];
     }
 
-kept_retires : (plan : Plan) (s : State) (p idle : ℕ) → StateInvariant plan s → (pool_part s p).idle ≡ suc idle → (pool_at plan p).core < threads plan s p → StateInvariant plan (with_part p (pool_part s p).queue idle s)
-kept_retires plan s p idle kept is_idle above_core = record {
+kept_retires : (plan : Plan) (s : State) (p idle : ℕ) → StateInvariant plan s → (pool_part s p).idle ≡ suc idle → (pool_at plan p).core < threads plan s p → ((pool_at plan p).queue ≡ 0 → length (pool_part s p).queue ≤ idle) → StateInvariant plan (with_part p (pool_part s p).queue idle s)
+kept_retires plan s p idle kept is_idle above_core not_handed = record {
   classes = kept.classes;
   parents = kept.parents;
   as_many = length-set s.pools p (record { queue = (pool_part s p).queue; idle = idle }) ∙ kept.as_many;
-  pools = pools_with_part plan s p (pool_part s p).queue idle (HasPoolInvariant plan s.jobs) kept.as_many (λ exists. retired_pool (pool_at plan p) (pool_part s p) (places plan s.jobs p) (busy_jobs plan s.jobs p) idle (kept.pools p exists) is_idle above_core) (λ q inside other. kept.pools q inside);
+  pools = pools_with_part plan s p (pool_part s p).queue idle (HasPoolInvariant plan s.jobs) kept.as_many (λ exists. retired_pool (pool_at plan p) (pool_part s p) (places plan s.jobs p) (busy_jobs plan s.jobs p) idle (kept.pools p exists) is_idle above_core not_handed) (λ q inside other. kept.pools q inside);
   actors = λ a body i now. kept.actors a body i (sym (point_same plan s (with_part p (pool_part s p).queue idle s) a refl refl) ∙ now);
 }
 
@@ -149,4 +149,4 @@ kept_step plan s s' o ordered kept (gets a body i t j at is_child done) = kept_g
 kept_step plan s s' o ordered kept (finishes j body i at) = kept_finishes plan s j body i kept at
 kept_step plan s s' o ordered kept (loops c client body i at is_client repeats) = kept_moved plan s (parent.Client c) body i 0 kept at.stands (actor_begins s.jobs (parent.Client c) body)
 kept_step plan s s' o ordered kept (takes p j queue idle is_queue is_idle) = kept_takes plan s p j queue idle kept is_queue is_idle
-kept_step plan s s' o ordered kept (retires p idle is_idle above_core) = kept_retires plan s p idle kept is_idle above_core
+kept_step plan s s' o ordered kept (retires p idle is_idle above_core not_handed) = kept_retires plan s p idle kept is_idle above_core not_handed

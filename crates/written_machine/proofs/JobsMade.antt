@@ -155,7 +155,7 @@ have_jobs_step plan s s' o kept have (gets a body i t j at is_child done) = have
 have_jobs_step plan s s' o kept have (finishes j body i at) = have_jobs_finishes plan s j body i kept have at
 have_jobs_step plan s s' o kept have (loops c client body i at is_client repeats) = have_jobs_moved plan s (parent.Client c) body i 0 have at.stands
 have_jobs_step plan s s' o kept have (takes p j queue idle is_queue is_idle) = have_jobs_takes plan s p j queue idle kept have is_queue is_idle
-have_jobs_step plan s s' o kept have (retires p idle is_idle above_core) =
+have_jobs_step plan s s' o kept have (retires p idle is_idle above_core not_handed) =
     pools_with_part plan s p (pool_part s p).queue idle (PartHasJobs plan s.jobs) kept.as_many (λ exists. let had = have p exists in omega arith) (λ q inside other. have q inside)
 
 -- ---- refusals

@@ -126,6 +126,22 @@ two_clients_rejected = refl
 pub two_clients_rejected-ends : after (rejecting (one_pool 1 1 1 2)) two_clients_refused-events ends ≡ Some (0, 1)
 two_clients_rejected-ends = refl
 
+-- with a queue of capacity 0, the sixth event hands the second job to the idle thread, and the seventh is rejected, because that thread does
+-- not take another job
+pub handed_over : outcomes_from_start (rejecting (one_pool 1 1 0 2)) (two_clients_refused-events ++ event.Take 0 ∷ [])
+    ≡ Some (Started 0) ∷ Some (Worked 1) ∷ Some (Finished 0) ∷ Some (Got 0) ∷ Some Looped ∷ Some (Queued 1) ∷ Some (Rejected 0 2) ∷ Some (Took 1) ∷ []
+handed_over = refl
+
+-- a thread that was handed a job does not end, although the pool has more than core threads
+pub handed_does_not_end : outcomes_from_start (rejecting (one_pool 1 2 0 3)) (event.Client 0 ∷ event.Client 1 ∷ event.Job 1 ∷ event.Job 1 ∷ event.Client 2 ∷ event.Retire 0 ∷ [])
+    ≡ Some (Started 0) ∷ Some (Started 1) ∷ Some (Worked 1) ∷ Some (Finished 1) ∷ Some (Queued 2) ∷ None ∷ []
+handed_does_not_end = refl
+
+-- without a job in the queue it may end
+pub idle_may_end : outcomes_from_start (rejecting (one_pool 1 2 0 3)) (event.Client 0 ∷ event.Client 1 ∷ event.Job 1 ∷ event.Job 1 ∷ event.Retire 0 ∷ [])
+    ≡ Some (Started 0) ∷ Some (Started 1) ∷ Some (Worked 1) ∷ Some (Finished 1) ∷ Some Retired ∷ []
+idle_may_end = refl
+
 -- the only worker runs a job that waits for a queued job
 pub nested_one_worker : outcomes_from_start (nested 1 1 5) (nested_one_worker-events ++ event.Take 0 ∷ []) ≡ Some (Started 0) ∷ Some (Queued 1) ∷ None ∷ []
 nested_one_worker = refl

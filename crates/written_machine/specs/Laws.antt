@@ -4,6 +4,7 @@ use Rattle.job_bodies.specs.declared.action.Action.{Action}
 use Rattle.job_bodies.specs.declared.action.Action.TheVariants.{Get}
 use Rattle.job_bodies.specs.Plan.{Plan, pool_at, submitted_class}
 use Rattle.job_bodies.specs.WellFormed.{IsWellFormed}
+use Rattle.pool_machine.specs.PoolState.{queue_limit}
 use Rattle.written_machine.specs.declared.parent.Parent.{Parent}
 use Rattle.written_machine.specs.declared.parent.Parent.TheVariants.{Client, Job}
 use Rattle.written_machine.specs.State.{State, Stage, job_at, pool_part, threads, child}
@@ -16,10 +17,10 @@ use Rattle.written_machine.specs.LooseWaiting.{IsLooseWaitingSet}
 abbrev pub HoldsWhereReached : (Plan → State → Type 0) → Type 0
 HoldsWhereReached holds = (plan : Plan) (s : State) → IsWellFormed plan → IsReached plan s → holds plan s
 
--- pool p has at most its maximum of threads, and at most as many queued jobs as its capacity
+-- pool p has at most its maximum of threads, and at most as many queued jobs as its capacity, or as idle workers if its capacity is 0
 pub record KeepsSizes (plan : Plan) (s : State) (p : ℕ) : Type 0 where
   pub within_max : threads plan s p ≤ (pool_at plan p).max
-  pub within_queue : length (pool_part s p).queue ≤ (pool_at plan p).queue
+  pub within_queue : length (pool_part s p).queue ≤ queue_limit (pool_at plan p).queue (pool_part s p).idle
 
 abbrev pub PoolsKeepTheirSizes : Type 0
 PoolsKeepTheirSizes = HoldsWhereReached (λ plan s. (p : ℕ) → p < length plan.pools → KeepsSizes plan s p)

@@ -8,5 +8,5 @@ use Rattle.counterexample.proofs.rejections.refusing_plan.Goals as goal
 pub with_pools-requires : goal.with_pools-requires
 with_pools-requires c =
     let plan = c.args.plan.now in
-    let well = subst (λ (pools : List Pool). IsWellFormed (plan_of_lists pools plan.classes plan.clients)) (sym c.in_ok-pools.ensures.pools) (refusing_is_well_formed plan c.args.pool c.in_ok-pools.ensures.well_formed) in
+    let well = subst (λ (pools : List Pool). IsWellFormed (plan_of_lists pools plan.classes plan.clients)) (sym c.in_ok-pools.ensures.pools) (refusing_is_well_formed plan c.args.pool c.in_ok-pools.ensures.well_formed c.requires) in
     subst (λ (copy : Plan). IsWellFormed (plan_of_lists c.in_ok-pools.pools.items copy.classes copy.clients)) (sym c.in_ok-try_clone.ensures) well

@@ -7,4 +7,4 @@ use Rattle.diagnostics.proofs.lints.push_body.Given as goal
 
 abbrev pub invariant-loop-place : goal.invariant-loop-place
 invariant-loop-place l =
-    l.found.items ++ rest_of (λ (entry : ℕ × Action). lints_of_action l.plan l.part l.number l.body entry.0 entry.1) l.body l.place ≡ l.fn.found.items ++ lints_of_body l.plan l.part l.number l.body
+    l.found.items ++ rest_of (λ (entry : ℕ × Action). lints_of_action l.plan l.needed l.part l.number l.body entry.0 entry.1) l.body l.place ≡ l.fn.found.items ++ lints_of_body l.plan l.needed l.part l.number l.body

@@ -10,4 +10,4 @@ loop-number-preserved c =
     let x = c.class-item.result in
     let early : c.loop-number.number < length plan.classes = rw (← c.classes-class-items.ensures.value) c.loop-number-test.true in
     let there : x ≡ get_or plan.classes c.loop-number.number x = rw (← c.classes-class-items.ensures.value) c.class-item.is in
-    rw c.in_ok-push_class.ensures (one_more_read (λ (entry : ℕ × Class). lints_of_class plan c.args.marks.now entry.0 entry.1) plan.classes c.loop-number.number x _ _ early there c.loop-number.invariant)
+    rw c.in_ok-push_class.ensures (one_more_read (λ (entry : ℕ × Class). lints_of_class plan c.args.needed.now c.args.marks.now entry.0 entry.1) plan.classes c.loop-number.number x _ _ early there c.loop-number.invariant)

@@ -6,4 +6,4 @@ use Rattle.diagnostics.proofs.InOrder.{rest_of}
 use Rattle.diagnostics.proofs.lints.push_classes.Given as goal
 
 abbrev pub invariant-loop-number : goal.invariant-loop-number
-invariant-loop-number l = l.found.items ++ rest_of (λ (entry : ℕ × Class). lints_of_class l.plan l.marks entry.0 entry.1) l.plan.classes l.number ≡ l.fn.found.items ++ lints_of_classes l.plan l.marks
+invariant-loop-number l = l.found.items ++ rest_of (λ (entry : ℕ × Class). lints_of_class l.plan l.needed l.marks entry.0 entry.1) l.plan.classes l.number ≡ l.fn.found.items ++ lints_of_classes l.plan l.needed l.marks

@@ -10,4 +10,4 @@ loop-number-preserved c =
     let x = c.client-item.result in
     let early : c.loop-number.number < length plan.clients = rw (← c.clients-client-items.ensures.value) c.loop-number-test.true in
     let there : x ≡ get_or plan.clients c.loop-number.number x = rw (← c.clients-client-items.ensures.value) c.client-item.is in
-    rw c.in_ok-push_client.ensures (one_more_read (λ (entry : ℕ × Client). lints_of_client plan entry.0 entry.1) plan.clients c.loop-number.number x _ _ early there c.loop-number.invariant)
+    rw c.in_ok-push_client.ensures (one_more_read (λ (entry : ℕ × Client). lints_of_client plan c.args.needed.now entry.0 entry.1) plan.clients c.loop-number.number x _ _ early there c.loop-number.invariant)

@@ -6,4 +6,4 @@ use Rattle.diagnostics.proofs.InOrder.{rest_of}
 use Rattle.diagnostics.proofs.lints.push_clients.Given as goal
 
 abbrev pub invariant-loop-number : goal.invariant-loop-number
-invariant-loop-number l = l.found.items ++ rest_of (λ (entry : ℕ × Client). lints_of_client l.plan entry.0 entry.1) l.plan.clients l.number ≡ l.fn.found.items ++ lints_of_clients l.plan
+invariant-loop-number l = l.found.items ++ rest_of (λ (entry : ℕ × Client). lints_of_client l.plan l.needed entry.0 entry.1) l.plan.clients l.number ≡ l.fn.found.items ++ lints_of_clients l.plan l.needed

@@ -27,7 +27,7 @@ returns-in-ShutDown c = λ lines before facts refused number so.
     let new : Rejections = record c.args.self.now { shut = c.insert.new.self } in
     on_ok_weaker c.insert.result
     (λ inserted. subst (λ (line : RecordedLine). AreRejectionsSoFar plan lines (before ++ line ∷ []) new) is
-    (other_after plan lines before (ShutDown c.in-ShutDown.pool.now) c.args.self.now new refl so (record { pools = refl; first = refl; shut = inserted })))
+    (other_after plan lines before (ShutDown c.in-ShutDown.pool.now) c.args.self.now new refl so (record { pools = refl; refusing = refl; first = refl; shut = inserted })))
     c.insert.ensures
 
 pub returns-in_default : goal.returns-in_default
@@ -36,6 +36,7 @@ returns-in_default c = λ lines before facts refused number so.
     other_after c.args.plan.now lines before (line_view c.args.line.now) c.args.self.now c.args.self.now other.0 so
     (record {
       pools = refl;
+      refusing = refl;
       first = refl;
       shut = λ name. sym (ap (λ (b : Bool). has_name c.args.self.now.shut name || b) (other.1 name) ∙ or_false (has_name c.args.self.now.shut name));
     })
