@@ -105,7 +105,8 @@ class Plan:
 
 
 def plan_by_chance(chance, rejecting=False):
-    """Returns a random plan. If it is rejecting, each of its pools may reject jobs with a chance of one half."""
+    """Returns a random plan. If it is rejecting, each of its pools may reject jobs with a chance of one half, and may then have a queue
+    of 0."""
     pools = [pool_by_chance(chance, rejecting) for _ in range(chance.randint(1, 4))]
     count = chance.randint(1, 5)
     # In most plans, a class submits only classes before it. A few plans have cycles of submits.
@@ -125,8 +126,9 @@ def plan_by_chance(chance, rejecting=False):
 
 def pool_by_chance(chance, rejecting):
     core = chance.randint(1, 4)
-    sizes = core, core + chance.choice([0, 0, 1, 3]), chance.choice([1, 2, 3, 5, 10, 30])
-    return Pool(*sizes, chance.random() < 0.2, rejecting and chance.random() < 0.5)
+    most, queue, prestart = core + chance.choice([0, 0, 1, 3]), chance.choice([1, 2, 3, 5, 10, 30]), chance.random() < 0.2
+    may_reject = rejecting and chance.random() < 0.5
+    return Pool(core, most, 0 if may_reject and chance.random() < 0.3 else queue, prestart, may_reject)
 
 
 def body_by_chance(chance, classes):

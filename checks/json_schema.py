@@ -8,7 +8,8 @@ import re
 # The keywords that describe a value and do not restrict it.
 ANNOTATIONS = {"$schema", "title", "description", "default", "examples", "definitions"}
 KEYWORDS = {
-    "$ref", "type", "properties", "additionalProperties", "required", "items", "maxItems", "minimum", "maximum", "pattern",
+    "$ref", "type", "const", "properties", "additionalProperties", "required", "items", "maxItems", "minimum", "maximum", "pattern",
+    "if", "then",
 }
 
 
@@ -23,6 +24,10 @@ def errors(schema, value, root=None, path=()):
     if not is_of_type(value, schema.get("type")):
         yield path, f"{value!r} is not of type {schema['type']}"
         return
+    if "const" in schema and not is_same(value, schema["const"]):
+        yield path, f"{value!r} is not {schema['const']!r}"
+    if "if" in schema and not any(errors(schema["if"], value, root, path)):
+        yield from errors(schema["then"], value, root, path)
     if isinstance(value, dict):
         yield from object_errors(schema, value, root, path)
     elif isinstance(value, list):
@@ -48,6 +53,11 @@ def is_of_type(value, name):
     return isinstance(value, {"object": dict, "array": list, "string": str, "boolean": bool}[name])
 
 
+def is_same(value, wanted):
+    """Returns whether two values are equal. As in draft-07, a boolean is not a number."""
+    return value == wanted and isinstance(value, bool) == isinstance(wanted, bool)
+
+
 def object_errors(schema, value, root, path):
     """Yields the errors of an object and of its values."""
     properties = schema.get("properties", {})
@@ -70,12 +80,13 @@ def array_errors(schema, value, root, path):
 
 
 def scalar_errors(schema, value, path):
-    """Yields the errors of a number or a text."""
-    if "minimum" in schema and value < schema["minimum"]:
+    """Yields the errors of a number or a text. As in draft-07, a limit restricts only numbers, and a pattern only texts."""
+    is_number = isinstance(value, (int, float)) and not isinstance(value, bool)
+    if is_number and value < schema.get("minimum", value):
         yield path, f"{value} is below {schema['minimum']}"
-    if "maximum" in schema and value > schema["maximum"]:
+    if is_number and value > schema.get("maximum", value):
         yield path, f"{value} is above {schema['maximum']}"
-    if "pattern" in schema and not re.fullmatch(whole(schema["pattern"]), value, re.ASCII):
+    if "pattern" in schema and isinstance(value, str) and not re.fullmatch(whole(schema["pattern"]), value, re.ASCII):
         yield path, f"{value!r} does not match {schema['pattern']}"
 
 

@@ -1,5 +1,5 @@
-"""The reasons why no sizes help a plan, derived from its bodies alone: a cycle of submits, or a submit that is repeated forever and
-never got."""
+"""The reasons why no sizes help a plan, derived from its bodies and from the pools that may reject jobs: a cycle of submits, or a
+submit to another pool that is repeated forever and never got."""
 
 # The line of `fit` before the line with the reason.
 NOTHING_FOUND = "no fitting sizes found"
@@ -19,17 +19,33 @@ def circles(plan):
 
 
 def never_got(plan):
-    """Returns the lines for the submits without a get that are repeated: those in the bodies of clients that repeat, and in the bodies
-    of the jobs that these clients cause."""
+    """Returns the lines for the repeated submits without a get, except those to pools that may reject jobs."""
+    return {
+        f"{name} action {place}: submits for ever, never got"
+        for name, place, number in repeated_without_get(plan)
+        if not may_be_rejected(plan, number)
+    }
+
+
+def loses_rejected(plan):
+    """Returns whether a repeated submit without a get goes to a pool that may reject jobs."""
+    return any(may_be_rejected(plan, number) for _, _, number in repeated_without_get(plan))
+
+
+def may_be_rejected(plan, number):
+    return plan.pools[plan.classes[number].pool].may_reject
+
+
+def repeated_without_get(plan):
+    """Yields the submits without a get that are repeated: those in the bodies of clients that repeat, and in the bodies of the jobs that
+    these clients cause. Each is the name of the client or class, the position of the submit, and the submitted class."""
     bodies = [(f"client {client.name}", client.body) for client in plan.clients if client.repeat]
     for number in submitted(plan, [body for _, body in bodies]):
         bodies.append((f"class {plan.classes[number].name}", plan.classes[number].body))
-    return {
-        f"{name} action {place}: submits for ever, never got"
-        for name, body in bodies
-        for place, (word, _) in enumerate(body)
-        if word == "submit" and ("get", place) not in body
-    }
+    for name, body in bodies:
+        for place, (word, what) in enumerate(body):
+            if word == "submit" and ("get", place) not in body:
+                yield name, place, what
 
 
 def submitted(plan, bodies):

@@ -112,10 +112,14 @@ BODIES = [
     f"[{', '.join([WORK] * 257)}]",
 ]
 
+# The two kinds of changes that concern a queue of 0: may_reject beside a queue of 0, and the queue beside may_reject = true.
+SYNCHRONOUS, REJECTING = "may_reject beside queue 0", "queue beside may_reject"
+
 # The boundaries at which the schema accepts a plan that has a fault for `sizing ask`, each with the reason.
 DIFFERENT = {
     ("pool", "core", "1.0"): "1.0 is an integer in JSON Schema, and not in TOML",
     ("pool", "queue", "1.0"): "1.0 is an integer in JSON Schema, and not in TOML",
+    ("pool", REJECTING, "1.0"): "1.0 is an integer in JSON Schema, and not in TOML",
     ("client", "count", "1.0"): "1.0 is an integer in JSON Schema, and not in TOML",
 }
 
@@ -159,10 +163,15 @@ def boundaries():
     changes += [("client", "body", value) for value in BODIES]
     changes += [("pool", "prestart", "true"), ("pool", "prestart", "1"), ("pool", "note", '"x"'), ("client", "repeat", '"yes"')]
     changes += [("pool", "may_reject", "true"), ("pool", "may_reject", "1"), ("pool", "may_reject", '"true"'), ("class", "may_reject", "true")]
+    changes += [("pool", SYNCHRONOUS, value) for value in ("true", "false", None, "0", '"true"')] + [("pool", REJECTING, value) for value in NUMBERS]
     changes += [(table, key, None) for table, keys in BASE.items() for key in keys]
     for table, key, value in changes:
         plan = {name: dict(keys) for name, keys in BASE.items()}
-        if value is None:
+        if key == SYNCHRONOUS:
+            plan[table] |= {"queue": "0"} | ({} if value is None else {"may_reject": value})
+        elif key == REJECTING:
+            plan[table] |= {"queue": value, "may_reject": "true"}
+        elif value is None:
             del plan[table][key]
         else:
             plan[table][key] = value

@@ -73,7 +73,10 @@ class Machine:
             jobs = changed(state.jobs, taken, phase=0)
             return State(less_at(state.idle, number), put(state.queues, number, state.queues[number][1:]), state.clients, jobs), f"took job {taken}"
         if word == "retire":
-            if not state.idle[number] or self.threads(state, number) <= self.plan.pools[number].core:
+            pool = self.plan.pools[number]
+            if not state.idle[number] or self.threads(state, number) <= pool.core:
+                return None
+            if len(state.queues[number]) > queue_limit(pool.queue, state.idle[number] - 1):
                 return None
             return state._replace(idle=less_at(state.idle, number)), "retired"
         return self.act(state, event, new_number)
@@ -110,7 +113,7 @@ class Machine:
         of = self.plan.classes[kind].pool
         pool = self.plan.pools[of]
         threads = self.threads(state, of)
-        room = len(state.queues[of]) < pool.queue
+        room = len(state.queues[of]) < queue_limit(pool.queue, state.idle[of])
         if threads < pool.core or (not room and threads < pool.max):
             phase, queues, outcome = 0, state.queues, f"started job {number}"
         elif room:
@@ -166,6 +169,12 @@ class Machine:
         if job.phase == len(body) or body[job.phase][0] != "get":
             return False
         return latest(state, ("job", number), body[job.phase][1]) in members
+
+
+def queue_limit(capacity, idle):
+    """Returns the maximum number of queued jobs. A queue of 0 is a `SynchronousQueue`: each idle worker can have one job, which it has
+    not taken yet."""
+    return capacity or idle
 
 
 def at_work(job):
@@ -252,6 +261,7 @@ def plans():
     """Yields the plans of the family: plans of one pool with one or two classes, and plans of two pools that call each other."""
     sizes = [(1, 1), (1, 2), (2, 2)]
     pools = [Pool("p", core, top, queue, first) for core, top in sizes for queue in (1, 2, 3) for first in (False, True)]
+    pools += [Pool("p", core, top, 0, first, True) for core, top in sizes for first in (False, True)]
     asks = ["a+ -", "a", "a+ a+ - -", "a a+ -"]
     for pool, body, ask, count, repeat in itertools.product(pools, ["1", ""], asks, (1, 2), (False, True)):
         yield Plan([pool], [Class("a", 0, bodies(body))], [Client("c", count, repeat, bodies(ask))])
@@ -260,8 +270,10 @@ def plans():
         classes = [Class("a", 0, bodies(outer)), Class("b", 0, bodies("1"))]
         yield Plan([pool], classes, [Client("c", count, repeat, bodies(ask))])
     pairs = [(Pool("p", *one, two, False), Pool("q", *other, three, False)) for one in sizes for other in sizes for two in (1, 2) for three in (1, 2)]
-    for pair, rejecting, repeat in itertools.product(pairs, (None, 0, 1), (False, True)):
-        both = [pool._replace(may_reject=number == rejecting) for number, pool in enumerate(pair)]
+    # None of the two pools may reject jobs, or one of them, with the queue above or with a queue of 0.
+    rejections = [(None, False), *itertools.product((0, 1), (False, True))]
+    for pair, (rejecting, is_synchronous), repeat in itertools.product(pairs, rejections, (False, True)):
+        both = [with_rejections(pool, is_synchronous) if number == rejecting else pool for number, pool in enumerate(pair)]
         there_and_back = [Class("a", 0, bodies("b+ -")), Class("b", 1, bodies("1")), Class("c", 1, bodies("d+ -")), Class("d", 0, bodies("1"))]
         yield Plan(both, there_and_back, [Client("u", 1, repeat, bodies("a+ -")), Client("w", 1, repeat, bodies("c+ -"))])
         chain = [Class("a", 0, bodies("b+ -")), Class("b", 1, bodies("c+ -")), Class("c", 0, bodies("1"))]
@@ -269,6 +281,10 @@ def plans():
         yield Plan(both, chain[:2] + [Class("c", 1, bodies("1"))], [Client("u", 2, repeat, bodies("a+ -"))])
         if rejecting is not None:
             yield Plan(both, chain, [Client("u", 2, repeat, bodies("a")), Client("w", 1, repeat, bodies("b+ -"))])
+
+
+def with_rejections(pool, is_synchronous):
+    return pool._replace(may_reject=True, queue=0 if is_synchronous else pool.queue)
 
 
 def text_of(plan):

@@ -4,7 +4,7 @@ import java.util.concurrent.ThreadPoolExecutor;
 import java.util.concurrent.TimeUnit;
 
 /** A gate at which the idle threads of a pool wait until the driver decides what they get. Submitters can wait at an offer. */
-final class Gate implements Moments {
+class Gate implements Moments {
     private static final class Waiting {
         final boolean timed;
         Taking given;
@@ -15,8 +15,8 @@ final class Gate implements Moments {
     }
 
     private final Deque<Waiting> idle = new ArrayDeque<>();
-    private long arrivals;
-    private boolean open;
+    long arrivals;
+    boolean open;
     private long keepAlive = 1_000_000;
 
     @Override
@@ -51,6 +51,15 @@ final class Gate implements Moments {
         return idle.size();
     }
 
+    /** Returns the number of jobs that idle threads hold at the gate. */
+    int held() {
+        return 0;
+    }
+
+    boolean holds(Object job) {
+        return false;
+    }
+
     /** Opens the gate: all threads take jobs as Java's own queue does. */
     synchronized void open() {
         open = true;
@@ -74,11 +83,9 @@ final class Gate implements Moments {
         int threads = pool.getPoolSize();
         long seen = lookAgain(pool);
         synchronized (this) {
-            Waiting timed = idle.stream().filter(one -> one.timed).findFirst().orElse(null);
-            if (timed == null) {
+            if (!timesOut()) {
                 return false;
             }
-            give(timed, Taking.NOTHING);
         }
         for (long turns = 0; pool.getPoolSize() == threads; turns++) {
             synchronized (this) {
@@ -92,11 +99,25 @@ final class Gate implements Moments {
         return true;
     }
 
+    /** Ends the keep-alive time of a thread that waits with a timeout. Returns whether there is one. */
+    boolean timesOut() {
+        Waiting timed = idle.stream().filter(one -> one.timed).findFirst().orElse(null);
+        if (timed != null) {
+            give(timed, Taking.NOTHING);
+        }
+        return timed != null;
+    }
+
+    /** Returns the number of threads that look again if the keep-alive becomes shorter. */
+    int lookedAgain() {
+        return idle.size();
+    }
+
     /** Sets a shorter keep-alive, which wakes threads that wait without a timeout, since at most core were live when they came. */
     private long lookAgain(ThreadPoolExecutor pool) throws InterruptedException {
         long wanted;
         synchronized (this) {
-            wanted = arrivals + idle.size();
+            wanted = arrivals + lookedAgain();
         }
         pool.setKeepAliveTime(--keepAlive, TimeUnit.SECONDS);
         synchronized (this) {

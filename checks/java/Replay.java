@@ -125,7 +125,7 @@ final class Replay {
     private String submitted(Job job) throws InterruptedException {
         job.number = jobs.size();
         jobs.add(job);
-        if (poolOf(job.of).queue.contains(job.future)) {
+        if (poolOf(job.of).isQueued(job)) {
             return "queued job " + job.number;
         }
         return began(job) ? "started job " + job.number : "lost job " + job.number;
@@ -152,10 +152,10 @@ final class Replay {
     }
 
     private String take(GatedPool pool) throws InterruptedException {
-        if (pool.gate.idle() == 0 || pool.queue.isEmpty()) {
+        if (pool.gate.idle() == 0 || pool.queued() == 0) {
             return NOT_POSSIBLE;
         }
-        List<Job> waiting = jobs.stream().filter(job -> pool.queue.contains(job.future)).toList();
+        List<Job> waiting = jobs.stream().filter(pool::isQueued).toList();
         pool.gate.giveHead();
         for (long turns = 0;; turns++) {
             for (Job job : waiting) {
@@ -184,7 +184,7 @@ final class Replay {
 
     private boolean waits(Job job, Set<Integer> members) {
         GatedPool pool = poolOf(job.of);
-        if (pool.queue.contains(job.future)) {
+        if (pool.isQueued(job)) {
             return pool.gate.idle() == 0
                     && jobs.stream().filter(other -> poolOf(other.of) == pool && runs(other)).allMatch(other -> members.contains(other.number));
         }

@@ -4,7 +4,8 @@ a plan").
     python3 checks/java/conform.py PLAN RECORDING
 
 Prints `conforms`, or the findings, in the words of `crates/conformance` and in the order of the lines. Findings without a line come
-last. The exit status is 0 if the recording conforms, and 1 otherwise.
+last. Then comes a line for each pool that rejected jobs as the plan allows. The exit status is 0 if the recording conforms, and 1
+otherwise.
 """
 
 import math
@@ -267,9 +268,34 @@ class Comparison:
         for actor in self.paths:
             found += [(act.line, "any", f"{actor} of {sort_of(actor)} {actor.name} called invokeAny in pool {act.pool}")
                       for act in actor.acts if act.word == "any"]
-            found += [(act.line, act.word, void_text(act.word, act.job)) for act in actor.acts if act.word in ("refused", "cancel", "threw")]
+            found += [(act.line, act.word, void_text(act.word, act.job)) for act in actor.acts
+                      if act.word in ("cancel", "threw") or act.word == "refused" and not self.is_allowed(act)]
         for line, word, text in sorted(found):
             self.finds(VOIDS, ("void", word), line, f"a yes is void from here on: {text}")
+
+    # ---- rejections that the plan allows
+
+    def is_allowed(self, act):
+        """Returns whether the plan allows the rejection in a `refused` line."""
+        job, handlers = act.job, {sizes.handler for sizes in self.recording.pools[act.job.pool]}
+        if not any(pool.name == job.pool and pool.may_reject for pool in self.plan.pools):
+            return False
+        if handlers == {"caller_runs"}:
+            shutdowns = [line for line, word, what in self.recording.notes if (word, what) == ("shutdown", job.pool)]
+            was_run = not shutdowns or job.started is not None and act.line < min(shutdowns)
+            return was_run and all(own.word == "threw" for own in job.acts)
+        return handlers == {"abort"} or handlers == {"discard"} and not self.is_got(job.pool)
+
+    def is_got(self, pool):
+        """Returns whether a body of the plan gets a job of the pool."""
+        return any(what == "get" and self.plan.pools[self.plan.classes[body.actions[operand][1]].pool].name == pool
+                   for body in self.class_bodies + self.kind_bodies for what, operand in body.actions)
+
+    def rejections(self):
+        """Returns a line for each pool that rejected jobs as the plan allows, in the order of the plan."""
+        pools = Counter(act.job.pool for actor in self.paths for act in actor.acts if act.word == "refused" and self.is_allowed(act))
+        return [f"pool {pool.name} rejected {'1 job' if pools[pool.name] == 1 else f'{pools[pool.name]} jobs'}, as the plan allows"
+                for pool in self.plan.pools if pools[pool.name]]
 
 
 def void_text(word, what, jobs=None):
@@ -294,7 +320,7 @@ def differences(sizes, pool, is_first):
         yield f"core {sizes.core}, plan {pool.core}"
     if sizes.max != pool.max:
         yield f"max {sizes.max}, plan {pool.max}"
-    if sizes.kind not in ("array", "linked"):
+    if sizes.kind not in (("array", "linked") if pool.queue else ("synchronous",)):
         yield f"queue of another kind ({sizes.kind})"
     if sizes.queue != pool.queue:
         yield f"queue {sizes.queue}, plan {pool.queue}"
@@ -309,11 +335,17 @@ def compared(plan_text, recording_text):
     return Comparison(read_plan(plan_text), read(recording_text)).all()
 
 
+def answered(plan_text, recording_text):
+    """Returns the lines of the answer, and whether the recording conforms."""
+    comparison = Comparison(read_plan(plan_text), read(recording_text))
+    found = comparison.all()
+    return [*(found or ["conforms"]), *comparison.rejections()], not found
+
+
 def main():
-    plan, recording = (Path(word).read_text() for word in sys.argv[1:3])
-    found = compared(plan, recording)
-    print("\n".join(found or ["conforms"]))
-    return 1 if found else 0
+    lines, conforms = answered(*(Path(word).read_text() for word in sys.argv[1:3]))
+    print("\n".join(lines))
+    return 0 if conforms else 1
 
 
 if __name__ == "__main__":

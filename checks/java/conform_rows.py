@@ -5,7 +5,7 @@ from pathlib import Path
 
 sys.path.insert(0, str(Path(__file__).resolve().parent.parent))
 
-from conform import compared
+from conform import answered, compared
 from row_files import rows_of
 
 POOL = "pool p core 1 max 1 queue array 2 timeout no prestarted 0 handler abort"
@@ -123,6 +123,10 @@ ROWS = [
     ("prestarted in a further line", PLAN, [POOL.replace("prestarted 0", "prestarted 1")], [], []),
     ("another handler", PLAN, [POOL.replace("abort", "discard")], [], []),
     ("core threads that may time out", PLAN, [POOL.replace("timeout no", "timeout yes")], ["line 3: pool p: core threads may time out"], []),
+    ("a synchronous queue", PLAN, [POOL.replace("array 2", "synchronous 0")],
+     ["line 3: pool p: queue of another kind (synchronous)", "line 3: pool p: queue 0, plan 2"], []),
+    ("a plan with a queue of 0", PLAN.replace("queue = 2", "queue = 0, may_reject = true"), [POOL.replace("array 2", "synchronous 0")],
+     ["line 2: pool p: queue of another kind (array)", "line 2: pool p: queue 2, plan 0"], []),
     ("a plan that prestarts", PLAN.replace("queue = 2", "queue = 2, prestart = true"), [], ["line 2: pool p: 0 threads prestarted, plan 1"], []),
     ("a pool of the plan alone", PLAN.replace("pool = [", 'pool = [{name = "q", core = 1, max = 1, queue = 1}, '), [], ["pool q: in the plan and not in the recording"], []),
 ]
@@ -154,7 +158,7 @@ def wrong_stored_rows():
         if not bar or status not in ("0", "1") or "not decided" in expected:
             continue
         rows += 1
-        found = compared(plan, recording) or ["conforms"]
+        found, _ = answered(plan, recording)
         if found != expected.split("\n"):
             wrong.append(f"conform, row {name}: {found}, but the row has {expected}")
     print(f"conform: {rows} rows of tests, {len(wrong)} with other findings", flush=True)
@@ -170,7 +174,7 @@ def wrong_learned_rows():
             continue
         rows += 1
         head = plan.partition("\n\n")[0].splitlines()
-        comments = [line.removeprefix("# ") for line in head[2:] if not line.startswith("# Not at their ends yet.")]
+        comments = [line.removeprefix("# ") for line in head[2:] if not line.startswith(("# Not at their ends yet.", "# Pool "))]
         found = compared(plan, recording)
         if found != comments:
             wrong.append(f"conform, row {name}: {found}, but the comments of the learned plan are {comments}")

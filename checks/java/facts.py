@@ -26,6 +26,15 @@ About full pools that are meant to reject jobs. Each pool has one thread and one
   stages after it submit nothing.
 - After `shutdown`, `CallerRunsPolicy` drops the job.
 - A caller that holds a semaphore waits for itself if it runs a job that acquires it. With a reentrant lock it does not.
+
+About pools over a `SynchronousQueue`, which is the queue of 0 of a plan:
+
+- Below core a submit starts a thread, even if a thread is idle. From core on it hands the job to an idle thread that has none yet. If
+  there is no such thread, a thread starts below max, and otherwise the submit is rejected.
+- A get may return before the thread is back at the queue. So the next submit may be rejected although no job is unfinished. It is
+  never rejected if the thread waits in the queue.
+- A thread above core that is idle for the keep-alive time ends. If a job is handed to it at that moment, the job still runs.
+- `DiscardOldestPolicy` finds no job in the queue to discard, and calls `execute` again, until the stack overflows.
 """
 
 EXECUTORS = {
@@ -64,8 +73,23 @@ REJECTIONS = {
     "caller runs under a semaphore": "the caller waits true",
     "caller runs under a reentrant lock": "the caller waits false",
 }
+HAND_OVERS = {
+    "one thread, at work": "started, rejected, threads 1",
+    "one thread, idle at the queue": "started, handed over, threads 1",
+    "one idle thread, core 1, max 2": "handed over, started",
+    "one idle thread, core 2, max 2": "started, handed over",
+    "two idle threads, max 2": "handed over, handed over, rejected",
+    "two idle threads, max 3": "handed over, handed over, started",
+    "submits at once after a get": "some accepted true, some rejected true, threads 1",
+    "submits when the thread is back": "some accepted true, some rejected false, threads 1",
+    "keep-alive, core 1, max 4": "accepted jobs that never ran 0, some accepted true, threads ended true",
+    "keep-alive, core 4, max 4": "accepted jobs that never ran 0, some accepted true, threads ended false",
+    "discard": "returned, done false, by the caller false, ran false",
+    "discard oldest": "threw StackOverflowError, ran false",
+    "caller runs": "returned, done true, by the caller true, ran true",
+}
 # The facts, by the program that prints them.
-BY_HAND = {"Facts": EXECUTORS, "Rejections": REJECTIONS}
+BY_HAND = {"Facts": EXECUTORS, "Rejections": REJECTIONS, "HandOvers": HAND_OVERS}
 # Pairs that differ only in the cause of a fact, so their outcomes must differ.
 PAIRS = (("prestarted late", "not prestarted"), ("execute throws, max 2", "execute throws, max 3"),
          ("keep-alive, core 1, max 1", "keep-alive, core 1, max 2"),
@@ -77,7 +101,13 @@ PAIRS = (("prestarted late", "not prestarted"), ("execute throws, max 2", "execu
          ("discard and a get", "caller runs and a get"), ("discard oldest and a get", "caller runs and a get"),
          ("invokeAll, abort", "invokeAll, caller runs"),
          ("caller runs after shutdown", "caller runs before shutdown"),
-         ("caller runs under a semaphore", "caller runs under a reentrant lock"))
+         ("caller runs under a semaphore", "caller runs under a reentrant lock"),
+         ("one thread, at work", "one thread, idle at the queue"),
+         ("one idle thread, core 1, max 2", "one idle thread, core 2, max 2"),
+         ("two idle threads, max 2", "two idle threads, max 3"),
+         ("submits at once after a get", "submits when the thread is back"),
+         ("keep-alive, core 1, max 4", "keep-alive, core 4, max 4"),
+         ("discard", "discard oldest"), ("discard", "caller runs"))
 
 
 def part(tools):

@@ -2,10 +2,11 @@
 
 A submit is one event or, with `in_steps`, up to three: with fewer than core threads a new thread starts the job; otherwise the job is
 offered to the queue; and if the offer fails, the pool tries to add a thread. If the pool has all its threads, it refuses the job, or
-rejects it if it may: then the job is done at once. An actor can skip a submit, and then also skips its get.
+rejects it if it may: then the job is done at once. An actor can skip a submit, and then also skips its get. A queue of 0 is a
+`SynchronousQueue`: an offer succeeds if fewer jobs are queued than threads are idle, and a thread that was given a job does not end.
 """
 
-from small_plans import counts_text
+from small_plans import counts_text, queue_limit
 
 NOT_POSSIBLE = "not possible"
 
@@ -43,6 +44,10 @@ class Machine:
     def threads(self, pool):
         return self.idle[pool] + len(self.busy(pool))
 
+    def limit(self, pool, idle):
+        """Returns the maximum number of queued jobs if this number of threads is idle."""
+        return queue_limit(self.plan.pools[pool].queue, idle)
+
     # ---- events
 
     def moves(self):
@@ -57,7 +62,7 @@ class Machine:
         for pool, one in enumerate(self.plan.pools):
             if self.idle[pool] and self.queues[pool]:
                 found.append(f"take {one.name}")
-            if self.idle[pool] and self.threads(pool) > one.core:
+            if self.idle[pool] and self.threads(pool) > one.core and len(self.queues[pool]) <= self.limit(pool, self.idle[pool] - 1):
                 found.append(f"retire {one.name}")
         return found
 
@@ -134,7 +139,7 @@ class Machine:
             if self.in_steps:
                 return actor.call
         if actor.call == "found core threads":
-            if len(self.queues[pool]) < sizes.queue:
+            if len(self.queues[pool]) < self.limit(pool, self.idle[pool]):
                 return self.makes(actor, kind, pool, "queued")
             actor.call = "found the queue full"
             if self.in_steps:

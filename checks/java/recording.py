@@ -30,6 +30,7 @@ class Sizes(NamedTuple):
     queue: int
     timeout: bool
     prestarted: int
+    handler: str
 
 
 class Act(NamedTuple):
@@ -105,8 +106,8 @@ class Reader:
         self.recording.closed = True
 
     def pool(self, name, *words):
-        core, most, kind, queue, timeout, prestarted = (words[at] for at in (1, 3, 5, 6, 8, 10))
-        sizes = Sizes(self.number, int(core), int(most), kind, int(queue), timeout == "yes", int(prestarted))
+        core, most, kind, queue, timeout, prestarted, handler = (words[at] for at in (1, 3, 5, 6, 8, 10, 12))
+        sizes = Sizes(self.number, int(core), int(most), kind, int(queue), timeout == "yes", int(prestarted), handler)
         self.recording.pools.setdefault(name, []).append(sizes)
 
     def shutdown(self, pool, *count):

@@ -30,7 +30,7 @@ PART_LEFT_OUT = 0.3
 def part(tools):
     chance, rejecting = random.Random(1), random.Random(2)
     return [*examples(tools), *lists(tools, chance, "random replays"), *slips(tools, chance),
-            *lists(tools, rejecting, "random replays with pools that may reject jobs", REJECTING, True), *slip_of_rejections(tools, rejecting)]
+            *lists(tools, rejecting, "random replays with pools that may reject jobs", REJECTING, True), *slips_of_rejections(tools, rejecting)]
 
 
 def numbered(answers):
@@ -80,7 +80,7 @@ class List:
     def __init__(self, chance, plan, machine_of=Machine):
         self.plan, self.kind = plan, chance.choice(KINDS)
         self.in_steps, self.leaving_out = chance.random() < 0.5, chance.random() < 0.5
-        self.machine, self.events, self.answers = walk(plan, chance, self.in_steps, self.leaving_out)
+        self.machine, self.events, self.answers = walk(plan, chance, self.in_steps, self.leaving_out, machine_of)
         self.wanted = numbered(self.answers) + self.machine.counts()
 
     def case(self, plan=None, *more):
@@ -121,6 +121,7 @@ def lists(tools, chance, name, number=LISTS, rejecting=False):
         count["answers"] += len(one.answers)
         count["refused"] += sum(printed.startswith("refused") for printed in one.answers)
         count["rejected"] += one.machine.rejections
+        count["with a queue of 0"] += any(not pool.queue for pool in one.plan.pools)
         count["stuck yes"] += one.answers.count("stuck yes")
         count["retired"] += one.answers.count("retired")
         count["certified"] += sure
@@ -188,13 +189,35 @@ def slips(tools, chance):
     return [f"replays: the deliberate error '{name}' is not found" for name, number in found.items() if not number]
 
 
-def slip_of_rejections(tools, chance):
-    """Makes the executors' pools refuse what they may reject, and checks that this is found."""
+class NeverHandsOver(Machine):
+    """A machine with a deliberate error: an offer to a queue of 0 fails although a thread is idle."""
+
+    def limit(self, pool, idle):
+        return self.plan.pools[pool].queue
+
+
+class EndsWithAJob(Machine):
+    """A machine with a deliberate error: a thread above core ends although it was handed a job."""
+
+    def moves(self):
+        ending = [f"retire {one.name}" for pool, one in enumerate(self.plan.pools) if self.idle[pool] and self.threads(pool) > one.core]
+        return super().moves() + ending
+
+
+def slips_of_rejections(tools, chance):
+    """Makes each deliberate error that concerns pools that may reject jobs, in the executors' pools or in the machine, and checks that it
+    is found."""
     some = [List(chance, plan_by_chance(chance, True)) for _ in range(SLIPPED)]
     printed = on_executors(tools, [one.case(with_pools(one.plan, lambda pool: {"may_reject": False})) for one in some])
-    found = sum(printed[: len(one.answers)] != one.wanted[: len(one.answers)] for one, printed in zip(some, printed))
-    print(f"deliberate error 'a pool refuses what it may reject': found by {found} of {SLIPPED} lists", flush=True)
-    return [] if found else ["replays: the deliberate error 'a pool refuses what it may reject' is not found"]
+    found = {"a pool refuses what it may reject":
+             sum(printed[: len(one.answers)] != one.wanted[: len(one.answers)] for one, printed in zip(some, printed))}
+    printed = on_executors(tools, [one.case(with_pools(one.plan, lambda pool: {"queue": pool.queue or 1})) for one in some])
+    found["a queue of 1 in place of 0"] = sum(printed != one.wanted for one, printed in zip(some, printed))
+    for name, rule in (("no job is handed over", NeverHandsOver), ("a thread ends with a job", EndsWithAJob)):
+        some = [List(chance, plan_by_chance(chance, True), rule) for _ in range(SLIPPED)]
+        found[name] = sum(printed != one.wanted for one, printed in zip(some, on_executors(tools, [one.case() for one in some])))
+    print(f"deliberate errors, by the number of {SLIPPED} lists that find them: " + ", ".join(f"'{name}' {number}" for name, number in found.items()), flush=True)
+    return [f"replays: the deliberate error '{name}' is not found" for name, number in found.items() if not number]
 
 
 def by_rule(rule, one):

@@ -15,12 +15,13 @@ WEIGHTS = {"client": 4, "job": 4, "take": 2, "retire": 1, "leave": 2}
 
 
 def plan_by_chance(chance, rejecting=False):
-    """Returns a random plan. If it is rejecting, about two thirds of its pools may reject jobs."""
+    """Returns a random plan. If it is rejecting, about two thirds of its pools may reject jobs, and some of these have a queue of 0."""
     pools = []
     for number in range(chance.choice([1, 1, 2, 3])):
         core = chance.choice([1, 1, 2, 3])
-        pools.append(Pool("pqr"[number], core, core + chance.choice([0, 1, 2]), chance.choice([1, 1, 2, 3]), chance.random() < 0.3,
-                          rejecting and chance.random() < 0.67))
+        pool = Pool("pqr"[number], core, core + chance.choice([0, 1, 2]), chance.choice([1, 1, 2, 3]), chance.random() < 0.3,
+                    rejecting and chance.random() < 0.67)
+        pools.append(pool._replace(queue=0) if pool.may_reject and chance.random() < 0.4 else pool)
     classes = [
         Class("abcd"[number], chance.randrange(len(pools)), body_by_chance(chance, number))
         for number in range(chance.choice([1, 2, 3, 4]))
@@ -32,9 +33,9 @@ def plan_by_chance(chance, rejecting=False):
     return Plan(pools, classes, clients)
 
 
-def walk(plan, chance, in_steps, leaving_out, most=60):
+def walk(plan, chance, in_steps, leaving_out, machine_of=Machine, most=60):
     """Returns a machine after a random list of events, the events, and the expected answers."""
-    machine, events, answers = Machine(plan, in_steps), [], []
+    machine, events, answers = machine_of(plan, in_steps), [], []
     while len(events) < most and len(machine.jobs) < MOST_JOBS:
         event = draw(machine, chance, leaving_out)
         if event is None:

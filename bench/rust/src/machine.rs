@@ -71,6 +71,16 @@ enum Phase {
     Claimed,
 }
 
+/// Returns the maximum number of queued jobs of a pool with this number of idle threads. A capacity of 0 is that of a
+/// `SynchronousQueue`: each idle thread can have one job, which it has not taken yet.
+fn queue_limit(capacity: u64, idle: u64) -> u64 {
+    if capacity == 0 {
+        idle
+    } else {
+        capacity
+    }
+}
+
 impl Actor {
     fn new(body: &Body) -> Actor {
         Actor { position: 0, made: vec![0; body.slots] }
@@ -158,8 +168,12 @@ impl<'a> Machine<'a> {
     }
 
     fn retire(&mut self, number: usize) -> Option<Outcome> {
+        let sizes = &self.plan.pools[number];
         let pool = &mut self.state.pools[number];
-        if pool.idle == 0 || pool.threads <= self.plan.pools[number].core {
+        if pool.idle == 0 || pool.threads <= sizes.core {
+            return None;
+        }
+        if pool.queue.len() as u64 > queue_limit(sizes.queue, pool.idle - 1) {
             return None;
         }
         pool.idle -= 1;
@@ -239,7 +253,7 @@ impl State {
         let phase = if pool.threads < sizes.core {
             pool.threads += 1;
             Phase::AtWork
-        } else if (pool.queue.len() as u64) < sizes.queue {
+        } else if (pool.queue.len() as u64) < queue_limit(sizes.queue, pool.idle) {
             pool.queue.push_back(number);
             Phase::Queued
         } else if pool.threads < sizes.max {

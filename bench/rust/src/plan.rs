@@ -23,6 +23,7 @@ pub struct Pool {
     pub name: String,
     pub core: u64,
     pub max: u64,
+    /// The capacity of the queue. Only a pool that may reject jobs can have 0, that of a `SynchronousQueue`.
     pub queue: u64,
     pub prestart: bool,
     pub may_reject: bool,
@@ -115,7 +116,8 @@ fn check_pools(pools: &[Object<PoolText>]) -> Result<IndexSet<&str>, Fault> {
     let mut names = IndexSet::new();
     for (index, Object(pool)) in pools.iter().enumerate() {
         add_name(&mut names, Entry::Pool(index), &pool.name)?;
-        if !is_size(pool.core) || !is_size(pool.max) || !is_size(pool.queue) || pool.max < pool.core {
+        let is_queue = is_size(pool.queue) || pool.queue == 0 && pool.may_reject;
+        if !is_size(pool.core) || !is_size(pool.max) || !is_queue || pool.max < pool.core {
             return Err(Kind::BadNumber.at(Entry::Pool(index)));
         }
     }

@@ -1,6 +1,7 @@
 package sizing;
 
 import static org.junit.jupiter.api.Assertions.assertEquals;
+import static org.junit.jupiter.api.Assertions.assertThrows;
 import static org.junit.jupiter.api.Assertions.assertTrue;
 import static sizing.RecordingAssertions.thrownBy;
 
@@ -9,6 +10,7 @@ import java.nio.file.Path;
 import java.util.LinkedHashMap;
 import java.util.List;
 import java.util.Map;
+import java.util.concurrent.CountDownLatch;
 import java.util.concurrent.ExecutorService;
 import java.util.concurrent.Executors;
 import java.util.concurrent.ForkJoinPool;
@@ -57,6 +59,8 @@ class PlanCheckTest {
             pool = "db"
             body = []
             """;
+    private static final String SYNCHRONOUS = "pool = [{name = 'bulkhead', core = 8, max = 8, queue = 0, may_reject = true}]";
+
     private static final String GETS = """
             [[class]]
             name = "call"
@@ -120,6 +124,34 @@ class PlanCheckTest {
         same(executors, "pool web: queue 0, plan 8", "pool web: queue SynchronousQueue, plan ArrayBlockingQueue or LinkedBlockingQueue");
         executors.put("web", Recording.executor(2, 4, new LinkedBlockingQueue<>()));
         same(executors, "pool web: queue 2147483647, plan 8");
+    }
+
+    @Test
+    void aQueueOf0IsASynchronousQueue() throws Exception {
+        Path plan = file(SYNCHRONOUS);
+        compared(plan, Map.of("bulkhead", Recording.executor(8, 8, new SynchronousQueue<>())));
+        compared(plan, Map.of("bulkhead", Recording.executor(8, 8, new SynchronousQueue<>(true))));
+        compared(plan, Map.of("bulkhead", Recording.executor(8, 8, 8)),
+                "pool bulkhead: queue 8, plan 0", "pool bulkhead: queue ArrayBlockingQueue, plan SynchronousQueue");
+        compared(plan, Map.of("bulkhead", Recording.executor(8, 8, new LinkedBlockingQueue<>(8))),
+                "pool bulkhead: queue 8, plan 0", "pool bulkhead: queue LinkedBlockingQueue, plan SynchronousQueue");
+        ThreadPoolExecutor made = PlanCheck.newExecutor(plan, "bulkhead");
+        compared(plan, Map.of("bulkhead", made));
+        made.shutdown();
+    }
+
+    @Test
+    void discardOldestPolicyDoesNotFitASynchronousQueue() throws Exception {
+        ThreadPoolExecutor executor = Recording.executor(1, 1, new SynchronousQueue<>());
+        executor.setRejectedExecutionHandler(new ThreadPoolExecutor.DiscardOldestPolicy());
+        CountDownLatch held = new CountDownLatch(1);
+        executor.submit(() -> Recording.await(held));
+        assertThrows(StackOverflowError.class, () -> executor.execute(() -> { }));
+        held.countDown();
+        compared(file(SYNCHRONOUS.replace("8", "1")), Map.of("bulkhead", executor), "pool bulkhead: may_reject and handler DiscardOldestPolicy, "
+                + "but a SynchronousQueue has no job to discard: the handler calls execute until a thread is idle or the stack overflows");
+        executor.setRejectedExecutionHandler(new ThreadPoolExecutor.DiscardPolicy());
+        compared(file(SYNCHRONOUS.replace("8", "1")), Map.of("bulkhead", executor));
     }
 
     @Test
@@ -288,6 +320,11 @@ class PlanCheckTest {
         String pool = "[[pool]]\nname = 'p'\ncore = 1\nmax = 1\nqueue = 1\n";
         wrong(pool + "prestart = 1", "invalid prestart in pool {name=p, core=1, max=1, queue=1, prestart=1}");
         wrong(pool + "may_reject = 'yes'", "invalid may_reject in pool {name=p, core=1, max=1, queue=1, may_reject=yes}");
+        wrong("[[pool]]\nname = 'p'\ncore = 1\nmax = 1\nqueue = 0", "invalid queue in pool {name=p, core=1, max=1, queue=0}");
+        wrong("[[pool]]\nname = 'p'\ncore = 1\nmax = 1\nqueue = 0\nmay_reject = false",
+                "invalid queue in pool {name=p, core=1, max=1, queue=0, may_reject=false}");
+        wrong("[[pool]]\nname = 'p'\ncore = 1\nmax = 1\nqueue = -1\nmay_reject = true",
+                "invalid queue in pool {name=p, core=1, max=1, queue=-1, may_reject=true}");
         String shedding = pool + "may_reject = true\n";
         wrong(shedding + "[class]", "class is not a list of tables: write [[class]]");
         wrong(shedding + "[[class]]\nname = 'a'\npool = 1", "invalid pool in class {name=a, pool=1}");

@@ -76,6 +76,7 @@ class ServicesTest {
                 new Case("caller_runs_own_pool", "caller-runs-own-pool", SheddingServices::callerRunsOwnPool),
                 new Case("discard", "discard", SheddingServices::discard),
                 new Case("bulkhead_rejects", "bulkhead-rejects", SheddingServices::bulkheadRejects),
+                new Case("synchronous_bulkhead", "synchronous-bulkhead", SheddingServices::synchronousBulkhead),
                 new Case("connection_pool", "web-and-database-sized", PoolServices::connectionPool),
                 new Case("nested_connections", "nested-connections", PoolServices::nestedConnections),
                 // clients
@@ -159,6 +160,8 @@ class ServicesTest {
                 new Case("caller_runs_after_shutdown", "two-clients-queue-of-two", PoolServices::callerRunsAfterShutdown,
                         "job 0 of class a in pool p was refused"),
                 new Case("refused", "two-clients-queue-of-two", PoolServices::refused, "of class a in pool p was refused"),
+                new Case("synchronous_bulkhead_with_a_queue", "synchronous-bulkhead", SheddingServices::synchronousBulkheadWithAQueue,
+                        "pool bulkhead: queue of another kind (array)"),
                 new Case("caller_runs_an_order", "caller-runs-in-place", SheddingServices::callerRunsAnOrder,
                         "job 12 of class order in pool orders was refused"),
                 new Case("rejected_with_an_open_future", "caller-runs", SheddingServices::rejectedWithAnOpenFuture,
@@ -377,7 +380,8 @@ class ServicesTest {
     void conforms(Case one) throws Exception {
         Path recording = recordingOf(one);
         SizingProgram.Answer answer = conform(planOf(one), recording);
-        assertEquals(List.of("conforms"), answer.lines());
+        // The program adds a line for each pool that rejected jobs, as the plan allows.
+        assertEquals(List.of("conforms"), answer.lines().stream().filter(line -> !line.endsWith(", as the plan allows")).toList());
         assertEquals(0, answer.status());
     }
 

@@ -23,7 +23,8 @@ import java.util.concurrent.TimeUnit;
  * Services for the entries of docs/PATTERNS.md on pools that may reject jobs: right uses, and uses that the page does not cover and a
  * recording shows.
  *
- * <p>The pools of the right uses have room for all jobs of the run. Chance decides instead which submits are rejected.
+ * <p>The pools of the right uses have room for all jobs of the run. Chance decides instead which submits are rejected. Only the pool
+ * with a {@code SynchronousQueue} rejects jobs itself.
  */
 final class SheddingServices {
     private SheddingServices() {}
@@ -122,6 +123,26 @@ final class SheddingServices {
                 executeSupplier(bulkhead, () -> got(database.submit(task("query", 1)))).toCompletableFuture().join();
             }
         });
+    }
+
+    /** The pool has no queue, so most of the 100 requests are rejected while eight calls run. */
+    static void synchronousBulkhead(ServiceRun run) throws Exception {
+        ExecutorService bulkhead = run.pool("bulkhead");
+        ExecutorService database = run.pool("database");
+        run.rounds("request", 100, 5, () -> {
+            try {
+                bulkhead.submit(label("call", () -> database.submit(task("query", 1)).get())).get();
+            } catch (RejectedExecutionException full) {
+                work(1);
+            }
+        });
+    }
+
+    /** The pool of the plan has a {@code SynchronousQueue}. */
+    static void synchronousBulkheadWithAQueue(ServiceRun run) throws Exception {
+        ExecutorService bulkhead = run.pool("bulkhead", new ThreadPoolExecutor(8, 8, 0, TimeUnit.SECONDS, new ArrayBlockingQueue<>(8)));
+        run.pool("database");
+        run.rounds("request", 1, 1, () -> bulkhead.submit(task("call", 1)).get());
     }
 
     /** The order that its caller runs submits a query, which is not in the caller's path. */
