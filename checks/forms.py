@@ -40,6 +40,10 @@ from asking import built_program
 HERE = Path(__file__).resolve().parent
 KEYS = ["answer", "assumptions", "faults", "file", "format", "omitted", "plan", "pools", "sizes", "version", "warnings", "witness"]
 POOL_KEYS = ["blocked", "bound", "core", "max", "name", "prestart", "queue", "waits_for"]
+# The further keys of a pool that may reject jobs.
+REJECTING_KEYS = ["may_reject", "rejects_after"]
+# The kinds of warnings that are notes: whether they matter depends on the code around a submit.
+NOTES = {"open future", "run in caller"}
 ANSWERS = {"SAFE", "NOT SAFE", "NOT DECIDED"}
 TOOLS = HERE.parent / "tools"
 # A plan that is not safe, with a warning and with sizes to change.
@@ -97,7 +101,7 @@ def differences(program, dot, page, plan, *certificate):
     if as_json.stdout.count("\n") != 1 or not as_json.stdout.endswith("\n"):
         yield "--json is not one line"
     value = json.loads(as_json.stdout)
-    if list(value) != KEYS or any(list(pool) != POOL_KEYS for pool in value["pools"]):
+    if list(value) != KEYS or any(list(pool) != keys_of(pool) for pool in value["pools"]):
         yield f"the keys are {list(value)}"
     yield from differences_of_lines(value, words.stdout)
     yield from differences_of_bounds(value)
@@ -111,6 +115,11 @@ def differences(program, dot, page, plan, *certificate):
         yield "--dot has other faults than the lines"
 
 
+def keys_of(pool):
+    """Returns the keys of a pool, in order."""
+    return sorted([*POOL_KEYS, *REJECTING_KEYS]) if "may_reject" in pool else POOL_KEYS
+
+
 def differences_of_lines(value, text):
     """Yields a line if the answer, the faults or the warnings of the JSON form differ from those in the lines of `ask`."""
     lines = text.splitlines()
@@ -119,7 +128,7 @@ def differences_of_lines(value, text):
         yield f"the answer is {value['answer']}, and in lines {answers}"
     file = value["file"]
     faults = [f"{place_in(file, it)}{it['text']} (fault {it['fault']})" for it in value["faults"]]
-    warnings = [f"{place_in(file, it)}warning: {it['text']}" for it in value["warnings"]]
+    warnings = [f"{place_in(file, it)}{'note' if it['kind'] in NOTES else 'warning'}: {it['text']}" for it in value["warnings"]]
     more = [more_faults(value)] if value["omitted"] else []
     is_faulty = value["answer"] == "FAULTS"
     if [line for line in lines if is_faulty or line.startswith(f"{file}:")] != [*faults, *more, *warnings]:
@@ -137,10 +146,12 @@ def place_in(file, it):
 
 
 def differences_of_bounds(value):
-    """Yields a line for each wrong bound. Pools have bounds exactly when the plan is safe, and the shares in a bound add up to it."""
+    """Yields a line for each wrong bound. Pools have bounds exactly when the plan is safe, except that a pool that may reject jobs needs
+    none, and the shares in a bound add up to it."""
     for pool in value["pools"]:
         bound = pool["bound"]
-        if (bound is None) != (value["answer"] != "SAFE"):
+        may_lack_it = value["answer"] != "SAFE" or "may_reject" in pool
+        if (bound is None and not may_lack_it) or (bound is not None and value["answer"] != "SAFE"):
             yield f"pool {pool['name']} has the bound {bound}"
         if bound is None:
             continue
@@ -204,7 +215,7 @@ def annotations_of(value):
     if value["omitted"]:
         yield "error", None, None, more_faults(value)
     for warning in value["warnings"]:
-        yield "warning", warning["line"], warning["column"], warning["text"]
+        yield "notice" if warning["kind"] in NOTES else "warning", warning["line"], warning["column"], warning["text"]
     if value["answer"] == "SAFE":
         yield "notice", None, None, None
     if value["sizes"] is None:
