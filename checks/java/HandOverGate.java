@@ -78,10 +78,13 @@ final class HandOverGate extends Gate {
         return handed.contains(job);
     }
 
-    /** Waits until this number of threads is idle, and each of them without a job waits in Java's queue. */
+    /**
+     * Waits until this number of threads is idle, each job that was handed over is held by its thread, and each other idle thread
+     * waits in Java's queue. A thread that was handed a job may still look as if it waited.
+     */
     @Override
     synchronized void awaitIdle(int threads) throws InterruptedException {
-        for (long turns = 0; idle() != threads || !allWait(); turns++) {
+        for (long turns = 0; idle() != threads || holders != handed.size() || !allWait(); turns++) {
             Rest.within(turns);
             wait(1);
         }
@@ -115,6 +118,7 @@ final class HandOverGate extends Gate {
 
     @Override
     boolean timeOut(ThreadPoolExecutor pool) throws InterruptedException {
+        awaitIdle(idle());
         boolean hasEnded = super.timeOut(pool);
         awaitIdle(idle());
         return hasEnded;
