@@ -61,7 +61,7 @@ WITNESS = {
 
 
 class Learned(NamedTuple):
-    """The answer of `learn` to a recording: its text, the comments after the first lines, and the plan."""
+    """The answer of `learn` to a recording: its text, its comments about findings, and the plan."""
 
     text: str
     comments: list
@@ -128,7 +128,9 @@ def learned(tools, recording):
     if status != ("\n# line " in text) or not head or list(map(int, head.groups())) != [len(read(recording).rounds), len(read(recording).jobs)]:
         return None
     comments = text[head.end():].split("\n\n")[0].splitlines() if text[head.end()] != "\n" else []
-    return Learned(text, [line.removeprefix("# ") for line in comments], read_plan(text))
+    # the other comments count what the plan leaves out, and are no findings
+    findings = [line.removeprefix("# ") for line in comments if line.startswith("# line ")]
+    return Learned(text, findings, read_plan(text))
 
 
 def as_recorded(tools, plans, recordings):
