@@ -12,7 +12,7 @@ use Rattle.cert_text.specs.Cert.{Cert, PoolCert}
 -- ---- parts of plans, each with a name of one letter
 
 abbrev pub a_pool : ℕ → ℕ → ℕ → ℕ → Bool → Pool
-a_pool letter core max queue prestart = record { name = letter ∷ []; core = core; max = max; queue = queue; prestart = prestart; may_reject = false }
+a_pool letter core max queue prestart = record { name = letter ∷ []; core = core; max = max; queue = queue; prestart = prestart; may_reject = false; unbounded = false }
 
 abbrev pub a_class : ℕ → ℕ → List Action → Class
 a_class letter pool body = record { name = letter ∷ []; pool = pool; body = body }
@@ -49,9 +49,21 @@ one_pool_once core max queue count prestart = one_class (a_pool 112 core max que
 abbrev pub rejecting : ℕ → ℕ → ℕ → ℕ → Plan
 rejecting core max queue count = one_class (record (a_pool 112 core max queue false) { may_reject = true }) (clients 99 count true (asks 0))
 
+-- a pool of this many threads whose queue is unbounded
+abbrev pub unbounded_pool : ℕ → Pool
+unbounded_pool threads = record (a_pool 112 threads threads 1000000 false) { unbounded = true }
+
+-- a plan like `one_pool`, but the queue is unbounded
+abbrev pub unbounded_queue : ℕ → ℕ → Plan
+unbounded_queue threads count = one_class (unbounded_pool threads) (clients 99 count true (asks 0))
+
 -- a plan of one client that submits a job and never waits for it, once or repeatedly
 abbrev pub forgetting : Bool → Plan
 forgetting repeat = one_class (a_pool 112 1 1 2 false) (clients 99 1 repeat (Submit 0 ∷ []))
+
+-- a plan like `forgetting`, whose client repeats, but the queue is unbounded
+abbrev pub forgetting_unbounded : Plan
+forgetting_unbounded = one_class (unbounded_pool 1) (clients 99 1 true (Submit 0 ∷ []))
 
 -- a plan of a pool with this core and maximum and a queue of 5, in which an outer job submits an inner one and waits for it
 abbrev pub nested : ℕ → ℕ → Bool → Plan
@@ -64,6 +76,10 @@ nested core max prestart = record {
 -- a plan like `nested`, with this number of threads, but the pool may reject jobs
 abbrev pub nested_rejecting : ℕ → Plan
 nested_rejecting threads = record (nested threads threads false) { pools = record (a_pool 112 threads threads 5 false) { may_reject = true } ∷ [] }
+
+-- a plan like `nested`, with this number of threads, but the queue is unbounded
+abbrev pub nested_unbounded : ℕ → Plan
+nested_unbounded threads = record (nested threads threads false) { pools = unbounded_pool threads ∷ [] }
 
 -- a plan of a pool with two threads and this queue, in which an outer job submits three inner jobs and then waits for them
 abbrev pub fan_out : ℕ → Plan
@@ -146,8 +162,8 @@ abbrev pub standing_cert : ℕ → Cert
 standing_cert weight = one_pool_cert (Standing (weighing (0 ∷ []) ((weight ∷ weight ∷ weight ∷ weight ∷ []) ∷ []) ((weight ∷ 0 ∷ weight ∷ []) ∷ []))) 0
 
 -- a certificate for a plan of one pool without a bound, in which no job is ever blocked
-abbrev pub unbounded_cert : Cert
-unbounded_cert = record {
+abbrev pub cert_without_bound : Cert
+cert_without_bound = record {
   pools = record { bound = None; blocked = weighing (0 ∷ []) (one_of_zeros ∷ []) (has_nothing ∷ []) } ∷ [];
   ranks = record { pools = 0 ∷ []; reach = 0 ∷ []; levels = 0 ∷ [] };
 }
@@ -171,6 +187,13 @@ forgetting_cert = record {
   ranks = record { pools = 0 ∷ []; reach = 0 ∷ []; levels = 0 ∷ [] };
 }
 
+-- a certificate for `forgetting_unbounded`, without a bound, in which no job is ever blocked
+abbrev pub forgetting_cert_without_bound : Cert
+forgetting_cert_without_bound = record {
+  pools = record { bound = None; blocked = weighing (0 ∷ []) (one_of_zeros ∷ []) ((0 ∷ 0 ∷ []) ∷ []) } ∷ [];
+  ranks = record { pools = 0 ∷ []; reach = 0 ∷ []; levels = 0 ∷ [] };
+}
+
 -- the ranks for `nested`: the level of the outer class is above that of the inner one
 abbrev pub nested_ranks : Ranks
 nested_ranks = record { pools = 0 ∷ []; reach = 0 ∷ 0 ∷ []; levels = 1 ∷ 0 ∷ [] }
@@ -186,9 +209,9 @@ nested_cert = record {
   ranks = nested_ranks;
 }
 
--- a certificate for `nested_rejecting`, without a bound: only the outer job is ever blocked
-abbrev pub nested_unbounded_cert : Cert
-nested_unbounded_cert = record {
+-- a certificate for `nested_rejecting` and `nested_unbounded`, without a bound: only the outer job is ever blocked
+abbrev pub nested_cert_without_bound : Cert
+nested_cert_without_bound = record {
   pools = record { bound = None; blocked = weighing (0 ∷ []) (pair_of_ones ∷ one_of_zeros ∷ []) (lends ∷ []) } ∷ [];
   ranks = nested_ranks;
 }

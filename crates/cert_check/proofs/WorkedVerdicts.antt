@@ -13,7 +13,7 @@ use Rattle.soundness.specs.declared.note.Section.TheVariants as section
 use Rattle.soundness.specs.Conditions.{note, failing}
 use Rattle.cert_check.specs.declared.answer.PoolLine.{PoolLine}
 use Rattle.cert_check.specs.Verdict.{Verdict, verdict}
-use Rattle.cert_check.proofs.WorkedPlans.{no_parts, one_pool, one_pool_once, rejecting, forgetting, nested, nested_rejecting, fan_out, front_and_back, two_pools, there_and_back, no_parts_cert, standing_cert, unbounded_cert, faulty_cert, lifetime_cert, forgetting_cert, nested_ranks, nested_cert, nested_unbounded_cert, fan_out_cert, front_and_back_cert, two_pools_cert, there_and_back_cert}
+use Rattle.cert_check.proofs.WorkedPlans.{no_parts, one_pool, one_pool_once, rejecting, forgetting, forgetting_unbounded, unbounded_queue, nested, nested_rejecting, nested_unbounded, fan_out, front_and_back, two_pools, there_and_back, no_parts_cert, standing_cert, cert_without_bound, faulty_cert, lifetime_cert, forgetting_cert, forgetting_cert_without_bound, nested_ranks, nested_cert, nested_cert_without_bound, fan_out_cert, front_and_back_cert, two_pools_cert, there_and_back_cert}
 
 abbrev yes : List PoolLine → Verdict
 yes pools = record { yes = true; pools = pools }
@@ -23,15 +23,19 @@ no pools = record { yes = false; pools = pools }
 
 -- the line of a pool with a standing vector: its total and limit, and the blocked total and limit
 abbrev standing : ℕ → ℕ → ℕ → ℕ → PoolLine
-standing total queue blocked limit = record { bound = Some (record { lifetime = false; total = total; limit = queue }); blocked = blocked; limit = limit }
+standing total queue blocked limit = record { bound = Some (record { lifetime = false; total = total; limit = Some queue }); blocked = blocked; limit = limit }
 
 -- the line of a pool with a lifetime vector: its total and limit, and the blocked total and limit
 abbrev lifetime : ℕ → ℕ → ℕ → ℕ → PoolLine
-lifetime total most blocked limit = record { bound = Some (record { lifetime = true; total = total; limit = most }); blocked = blocked; limit = limit }
+lifetime total most blocked limit = record { bound = Some (record { lifetime = true; total = total; limit = Some most }); blocked = blocked; limit = limit }
+
+-- the line of a pool with a standing vector and an unbounded queue: its total, and the blocked total and limit
+abbrev standing_of_unbounded : ℕ → ℕ → ℕ → PoolLine
+standing_of_unbounded total blocked limit = record { bound = Some (record { lifetime = false; total = total; limit = None }); blocked = blocked; limit = limit }
 
 -- the line of a pool without a bound: the blocked total and limit
-abbrev unbounded : ℕ → ℕ → PoolLine
-unbounded blocked limit = record { bound = None; blocked = blocked; limit = limit }
+abbrev without_bound : ℕ → ℕ → PoolLine
+without_bound blocked limit = record { bound = None; blocked = blocked; limit = limit }
 
 -- ---- one pool
 
@@ -120,14 +124,14 @@ lifetime_repeating_fails = refl
 -- ---- pools that may reject jobs
 
 -- a pool that may reject jobs needs no bound
-pub rejecting_pool : verdict (rejecting 1 1 1 2) unbounded_cert ≡ yes (unbounded 0 0 ∷ [])
+pub rejecting_pool : verdict (rejecting 1 1 1 2) cert_without_bound ≡ yes (without_bound 0 0 ∷ [])
 rejecting_pool = refl
 
-pub rejecting_pool_fits : cert_fits (rejecting 1 1 1 2) unbounded_cert ≡ true
+pub rejecting_pool_fits : cert_fits (rejecting 1 1 1 2) cert_without_bound ≡ true
 rejecting_pool_fits = refl
 
 -- a pool that must not reject jobs needs a bound, so the certificate does not fit its plan
-pub other_pool_does_not_fit : cert_fits (one_pool 1 1 1 2) unbounded_cert ≡ false
+pub other_pool_does_not_fit : cert_fits (one_pool 1 1 1 2) cert_without_bound ≡ false
 other_pool_does_not_fit = refl
 
 -- a pool that may reject jobs can have a bound, whose conditions must hold
@@ -138,11 +142,37 @@ pub rejecting_pool_with_bound_fails : failing (rejecting 1 1 1 2) (standing_cert
 rejecting_pool_with_bound_fails = refl
 
 -- the conditions of the blocked vector do not depend on whether the pool has a bound
-pub nested_rejecting_two_workers : verdict (nested_rejecting 2) nested_unbounded_cert ≡ yes (unbounded 1 1 ∷ [])
+pub nested_rejecting_two_workers : verdict (nested_rejecting 2) nested_cert_without_bound ≡ yes (without_bound 1 1 ∷ [])
 nested_rejecting_two_workers = refl
 
-pub nested_rejecting_one_worker_fails : failing (nested_rejecting 1) nested_unbounded_cert ≡ note (section.Blocked 0) (row B2 place.Total 1 0) ∷ []
+pub nested_rejecting_one_worker_fails : failing (nested_rejecting 1) nested_cert_without_bound ≡ note (section.Blocked 0) (row B2 place.Total 1 0) ∷ []
 nested_rejecting_one_worker_fails = refl
+
+-- ---- pools with an unbounded queue
+
+-- a pool with an unbounded queue needs no bound
+pub unbounded_pool : verdict (unbounded_queue 1 3) cert_without_bound ≡ yes (without_bound 0 0 ∷ [])
+unbounded_pool = refl
+
+-- so its plan is accepted even if its client repeatedly submits a job and never waits for it
+pub unbounded_forgetting : verdict forgetting_unbounded forgetting_cert_without_bound ≡ yes (without_bound 0 0 ∷ [])
+unbounded_forgetting = refl
+
+-- the total of a standing vector of the pool has no limit
+pub unbounded_pool_with_bound : verdict (unbounded_queue 1 1000000) (standing_cert 1000000000) ≡ yes (standing_of_unbounded 1000000000000000 0 0 ∷ [])
+unbounded_pool_with_bound = refl
+
+-- the conditions V2 to V7 of the vector must hold
+pub unbounded_pool_with_bound_fails : failing (unbounded_queue 1 3) faulty_cert
+    ≡ note section.Ranks (row K1 (place.Class 0) 1 0) ∷ note (section.Standing 0) (row V6 (place.Class 0) 2 1) ∷ []
+unbounded_pool_with_bound_fails = refl
+
+-- the conditions of the blocked vector do not depend on whether the queue is unbounded
+pub nested_unbounded_two_workers : verdict (nested_unbounded 2) nested_cert_without_bound ≡ yes (without_bound 1 1 ∷ [])
+nested_unbounded_two_workers = refl
+
+pub nested_unbounded_one_worker_fails : failing (nested_unbounded 1) nested_cert_without_bound ≡ note (section.Blocked 0) (row B2 place.Total 1 0) ∷ []
+nested_unbounded_one_worker_fails = refl
 
 -- ---- jobs that wait for jobs of their own pool
 

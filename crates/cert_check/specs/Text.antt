@@ -11,25 +11,30 @@ use Rattle.cert_check.specs.Verdict.{Verdict}
 abbrev pub bound_words : Bool → List ℕ
 bound_words lifetime = if lifetime then codes ": lifetime " else codes ": standing "
 
+-- the limit of a total; that of an unbounded queue is `unbounded`
+abbrev pub limit_text : Option ℕ → List ℕ
+limit_text None = codes "unbounded"
+limit_text (Some limit) = decimal limit
+
 -- the words for the vector that bounds the pool's queue, and its total with its limit
 abbrev pub total_text : BoundTotal → List ℕ
-total_text bound = bound_words bound.lifetime ++ decimal bound.total ++ codes " of " ++ decimal bound.limit
+total_text bound = bound_words bound.lifetime ++ decimal bound.total ++ codes " of " ++ limit_text bound.limit
 
--- the text of the bound of the pool's queue; a pool without a bound may reject jobs
-abbrev pub bound_text : Option BoundTotal → List ℕ
-bound_text None = codes ": may reject"
-bound_text (Some bound) = total_text bound
+-- the text of the bound of the pool's queue; if the pool has none, its queue is unbounded, or it may reject jobs
+abbrev pub bound_text : Bool → Option BoundTotal → List ℕ
+bound_text unbounded None = if unbounded then codes ": unbounded" else codes ": may reject"
+bound_text unbounded (Some bound) = total_text bound
 
 -- the text of the blocked vector's total with its limit
 abbrev pub blocked_text : PoolLine → List ℕ
 blocked_text line = codes ", blocked " ++ decimal line.blocked ++ codes " of " ++ decimal line.limit ++ 10 ∷ []
 
--- the line of the pool with this name
-abbrev pub pool_line_text : List ℕ → PoolLine → List ℕ
-pool_line_text name line = codes "pool " ++ name ++ bound_text line.bound ++ blocked_text line
+-- the line of the pool with this name, whose queue may be unbounded
+abbrev pub pool_line_text : List ℕ → Bool → PoolLine → List ℕ
+pool_line_text name unbounded line = codes "pool " ++ name ++ bound_text unbounded line.bound ++ blocked_text line
 
 abbrev pub pool_lines_text : Plan → List PoolLine → List ℕ
-pool_lines_text plan lines = flat_map (λ entry. pool_line_text (pool_at plan entry.0).name entry.1) (enumerate_from 0 lines)
+pool_lines_text plan lines = flat_map (λ entry. pool_line_text (pool_at plan entry.0).name (pool_at plan entry.0).unbounded entry.1) (enumerate_from 0 lines)
 
 -- the text of the verdict: yes or no, and then the line of each pool
 abbrev pub verdict_text : Plan → Verdict → List ℕ

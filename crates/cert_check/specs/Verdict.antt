@@ -1,5 +1,5 @@
 -- The verdict on a plan and a certificate.
-use Rattle.std.specs.Prelude.{ℕ, ◌-◌, Bool, List, map, Option, Some, None}
+use Rattle.std.specs.Prelude.{ℕ, ◌-◌, Bool, if◌then◌else◌, List, map, Option, Some, None}
 use Rattle.std.specs.List.{enumerate_from}
 use Rattle.job_bodies.specs.Plan.{Plan, pool_at}
 use Rattle.weights.specs.declared.bound.Bound.{Bound}
@@ -10,10 +10,14 @@ use Rattle.soundness.specs.Accepted.{accepted}
 use Rattle.cert_check.specs.declared.answer.BoundTotal.{BoundTotal}
 use Rattle.cert_check.specs.declared.answer.PoolLine.{PoolLine}
 
+-- the limit of the total of the bound of pool p, or None if its queue is unbounded
+abbrev pub total_limit : Plan → ℕ → Bound → Option ℕ
+total_limit plan p bound = if (pool_at plan p).unbounded then None else Some (bound_limit plan p bound)
+
 -- the total of the bound of pool p with its limit, or None if there is no bound
 abbrev pub bound_total : Plan → ℕ → Option Bound → Option BoundTotal
 bound_total plan p None = None
-bound_total plan p (Some bound) = Some (record { lifetime = is_lifetime bound; total = total plan (bound_vector bound); limit = bound_limit plan p bound })
+bound_total plan p (Some bound) = Some (record { lifetime = is_lifetime bound; total = total plan (bound_vector bound); limit = total_limit plan p bound })
 
 -- the totals of pool p's two vectors, each with its limit
 abbrev pub pool_line : Plan → Cert → ℕ → PoolLine

@@ -1,6 +1,6 @@
 //! The test whether a certificate accepts a plan. A certificate has ranks and, for each pool, a
 //! bound of the queue (a standing or a lifetime vector) and a blocked vector. A pool that may
-//! reject jobs need not have a bound.
+//! reject jobs or has an unbounded queue need not have a bound.
 
 ghost use Rattle.std.specs.Prelude.{◌≡◌, ◌<◌, ◌&&◌, not, IsTrue, length};
 ghost use Rattle.std.specs.List.{list_all, enumerate_from};

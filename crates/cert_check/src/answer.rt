@@ -13,8 +13,8 @@ pub struct BoundTotal {
     /// The total of the vector.
     pub total: u64,
     /// The limit of `total`: the queue's capacity or, for a lifetime vector, the number of jobs
-    /// that the pool accepts before it can refuse one.
-    pub limit: u64,
+    /// that the pool accepts before it can refuse one. It is `None` if the queue is unbounded.
+    pub limit: Option<u64>,
 }
 
 /// The totals of the two vectors of a pool, each with its limit. One vector bounds the pool's
@@ -22,7 +22,7 @@ pub struct BoundTotal {
 #[derive(Clone, Copy, Debug, PartialEq, Eq)]
 pub struct PoolLine {
     /// The total of the vector that bounds the pool's queue, or `None` if the pool may reject jobs
-    /// and has no such vector.
+    /// or its queue is unbounded, and it has no such vector.
     pub bound: Option<BoundTotal>,
     /// The total of the blocked vector. It bounds the number of the pool's jobs that wait at
     /// [counted](weights::Counted) gets.

@@ -36,10 +36,10 @@ impl From<AllocError> for CheckFault {
 /// with the totals and limits of each pool.
 ///
 /// If the verdict is `yes`, no list of events reaches a state in which a submit was refused, a pool
-/// has more threads than its maximum or more queued jobs than its queue's capacity, or unfinished
-/// jobs wait only for each other. In each reached state with an unfinished job, a job can take a
-/// step or a worker can take a job. If the clients stop, all jobs finish after a bounded number of
-/// such events.
+/// has more threads than its maximum or more queued jobs than its queue's capacity (unless the
+/// queue is unbounded), or unfinished jobs wait only for each other. In each reached state with an
+/// unfinished job, a job can take a step or a worker can take a job. If the clients stop, all jobs
+/// finish after a bounded number of such events.
 ///
 /// # Errors
 ///

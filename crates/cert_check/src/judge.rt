@@ -70,8 +70,22 @@ fn bound_total(plan: &Plan, pool: usize, bound: &Option<Bound>) -> Option<BoundT
         Some(bound) => Some(BoundTotal {
             lifetime: bound.is_lifetime(),
             total: bound.vector().total(plan),
-            limit: bound.limit(plan, pool),
+            limit: total_limit(plan, pool, bound),
         }),
         None => None,
+    }
+}
+
+/// Returns the limit of the total of the pool's bound, or `None` if the queue of the pool is
+/// unbounded.
+fn total_limit(plan: &Plan, pool: usize, bound: &Bound) -> Option<u64>
+    requires { pool < length plan.now.pools }
+    ensures { result ≡ spec.total_limit plan.now pool bound.now }
+{
+    let sizes = &plan.pools()[pool];
+    if sizes.unbounded {
+        None
+    } else {
+        Some(bound.limit(plan, pool))
     }
 }

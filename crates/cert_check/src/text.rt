@@ -1,5 +1,6 @@
 //! The text of a verdict.
 
+ghost use Rattle.std.specs.Prelude.{None};
 ghost use Rattle.job_bodies.specs.Plan.{pool_at};
 ghost use Rattle.cert_check.specs.Text as spec;
 ghost use Rattle.support.specs.Pushed.{Pushes};
@@ -10,7 +11,8 @@ use std::alloc::AllocError;
 
 /// Appends the text of a verdict on the plan: `yes` or `no`, and then a line for each pool such as
 /// `pool pages: standing 2 of 2, blocked 0 of 0`, or `pool pages: may reject, blocked 0 of 0` if the
-/// pool has no vector that bounds its queue.
+/// pool has no vector that bounds its queue. For a pool with an unbounded queue, the line says
+/// `standing 2 of unbounded`, or `unbounded` in place of `may reject`.
 ///
 /// # Errors
 ///
@@ -38,37 +40,68 @@ fn push_pool_line(
     line: &PoolLine,
 ) -> Result<(), AllocError>
     ensures { Pushes result text.old text.new
-        (spec.pool_line_text (pool_at plan.now pool).name line.now) }
+        (spec.pool_line_text (pool_at plan.now pool).name (pool_at plan.now pool).unbounded line.now) }
 {
     match plan.pool_at(pool) {
-        Some(pool) => push_named_line(text, &pool.name, line),
-        None => push_named_line(text, "", line),
+        Some(pool) => push_named_line(text, &pool.name, pool.unbounded, line),
+        None => push_named_line(text, "", false, line),
     }
 }
 
-fn push_named_line(text: &mut String, name: &str, line: &PoolLine) -> Result<(), AllocError>
-    ensures { Pushes result text.old text.new (spec.pool_line_text name.now line.now) }
+fn push_named_line(
+    text: &mut String,
+    name: &str,
+    unbounded: bool,
+    line: &PoolLine,
+) -> Result<(), AllocError>
+    ensures { Pushes result text.old text.new (spec.pool_line_text name.now unbounded line.now) }
 {
     write!(text, "pool {name}")?;
-    push_bound(text, &line.bound)?;
+    push_bound(text, unbounded, &line.bound)?;
     push_blocked(text, line)
 }
 
-fn push_bound(text: &mut String, bound: &Option<BoundTotal>) -> Result<(), AllocError>
-    ensures { Pushes result text.old text.new (spec.bound_text bound.now) }
+fn push_bound(
+    text: &mut String,
+    unbounded: bool,
+    bound: &Option<BoundTotal>,
+) -> Result<(), AllocError>
+    ensures { Pushes result text.old text.new (spec.bound_text unbounded bound.now) }
 {
     match bound {
         Some(bound) => push_total(text, bound),
-        None => text.push_str(": may reject"),
+        None => push_no_bound(text, unbounded),
     }
+}
+
+/// Appends the reason why a pool needs no bound.
+fn push_no_bound(text: &mut String, unbounded: bool) -> Result<(), AllocError>
+    ensures { Pushes result text.old text.new (spec.bound_text unbounded None) }
+{
+    text.push_str(if unbounded {
+        ": unbounded"
+    } else {
+        ": may reject"
+    })
 }
 
 fn push_total(text: &mut String, bound: &BoundTotal) -> Result<(), AllocError>
     ensures { Pushes result text.old text.new (spec.total_text bound.now) }
 {
     push_kind(text, bound.lifetime)?;
-    let (total, limit) = (bound.total, bound.limit);
-    write!(text, "{total} of {limit}")
+    let total = bound.total;
+    write!(text, "{total} of ")?;
+    push_limit(text, bound.limit)
+}
+
+/// Appends the limit of a total, or `unbounded` if there is none.
+fn push_limit(text: &mut String, limit: Option<u64>) -> Result<(), AllocError>
+    ensures { Pushes result text.old text.new (spec.limit_text limit) }
+{
+    match limit {
+        Some(limit) => write!(text, "{limit}"),
+        None => text.push_str("unbounded"),
+    }
 }
 
 fn push_kind(text: &mut String, lifetime: bool) -> Result<(), AllocError>

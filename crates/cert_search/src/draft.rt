@@ -12,7 +12,8 @@ use weights::{Bound, Ranks, Vector};
 /// The known parts of a certificate for one pool.
 #[derive(Drop)]
 struct PoolDraft {
-    /// Whether the pool needs a bound, because it must not reject jobs.
+    /// Whether the pool needs a bound, because it must not reject jobs and its queue is not
+    /// unbounded.
     needs_bound: bool,
     rank: Option<u64>,
     bound: Option<Bound>,
@@ -38,7 +39,7 @@ impl Draft {
         let mut pools = Vec::with_capacity(alloc, plan.pools().len())?;
         for pool in plan.pools() {
             pools.push(PoolDraft {
-                needs_bound: !pool.may_reject,
+                needs_bound: !pool.needs_no_bound(),
                 rank: None,
                 bound: None,
                 blocked: None,
@@ -70,7 +71,7 @@ impl Draft {
 
     /// Records the results of a round, and gives `rank` to each pool whose blocked vector was
     /// found. Returns `false` if no pool got the rank. Also returns `false` if this was the first
-    /// round and it found no bound for some pool that must not reject jobs.
+    /// round and it found no bound for some pool that needs one.
     pub(crate) fn note(&mut self, found: Vec<PoolVectors>, rank: u64) -> bool {
         let mut moved = false;
         let mut bounded = true;
@@ -96,7 +97,7 @@ impl Draft {
     }
 
     /// Returns the certificate, or `None` if the blocked vector of a pool is not known, or the bound
-    /// of a pool that must not reject jobs.
+    /// of a pool that needs one.
     pub(crate) fn into_cert(
         self,
         alloc: Global,

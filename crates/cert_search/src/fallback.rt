@@ -1,6 +1,6 @@
 //! The steady certificate. The search tries it if the rounds find no certificate. In this
 //! certificate, one vector is both the bound and the blocked vector of every pool, except that a
-//! pool that may reject jobs has no bound.
+//! pool that may reject jobs or has an unbounded queue has no bound.
 
 ghost use Rattle.std.specs.Prelude.{◌≡◌, false, IfOk, IfSome, IfNone, IsTrue};
 ghost use Rattle.job_bodies.specs.WellFormed.{IsWellFormed};

@@ -50,7 +50,8 @@ impl From<AllocError> for SearchFault {
 /// the number of workers, which is tested, and not proved.
 ///
 /// A pool that may reject jobs needs no bound. The certificate has a bound of such a pool if the
-/// rounds find one, and the pool then never rejects a job.
+/// rounds find one, and the pool then never rejects a job. A pool with an unbounded queue needs
+/// none either. The rounds look for a standing vector of such a pool, whatever its total is.
 ///
 /// In each round the workers search for the vectors of the pools without a rank. A pool whose
 /// blocked vector is found gets the round's number as its rank. In the next round, a get is not

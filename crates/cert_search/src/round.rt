@@ -37,7 +37,7 @@ pub(crate) struct Round<'a> {
 pub(crate) struct PoolVectors {
     pub(crate) pool: usize,
     /// The bound of the pool's queue, or `None` if the search found none. Only the first round
-    /// searches for it. A pool that may reject jobs does not need it.
+    /// searches for it. A pool that may reject jobs or has an unbounded queue does not need it.
     pub(crate) bound: Option<Bound>,
     pub(crate) blocked: Option<Vector>,
 }

@@ -7,7 +7,7 @@ use Rattle.serde_json.specs.Data.{Data}
 use Rattle.support.specs.Reading.{ensure, ok_or}
 use Rattle.support.proofs.Steps.{bind_ok, holds_ok, ok_injective}
 use Rattle.support.proofs.ReadElements.{read_length, read_at}
-use Rattle.job_bodies.specs.Plan.{Plan, Class, Client, no_class, no_client, pool_at}
+use Rattle.job_bodies.specs.Plan.{Plan, Class, Client, no_class, no_client, pool_at, needs_no_bound}
 use Rattle.job_bodies.proofs.Passing.{EachPlace, both_passed, list_all_enumerated_from}
 use Rattle.weights.specs.declared.bound.Bound.{Bound}
 use Rattle.weights.specs.declared.bound.Bound.TheVariants.{Standing, Lifetime}
@@ -99,7 +99,7 @@ vector_read plan value v e =
 
 -- the bound of pool p has the plan's shape; no bound is for a pool that may reject jobs
 abbrev bound_has_shape : Plan → ℕ → Option Bound → Bool
-bound_has_shape plan p None = (pool_at plan p).may_reject
+bound_has_shape plan p None = needs_no_bound (pool_at plan p)
 bound_has_shape plan p (Some bound) = has_shape plan (bound_vector bound)
 
 standing_read : (plan : Plan) (p : ℕ) (value : Data) (bound : Option Bound) → standing_of plan value ≡ Ok bound → bound_has_shape plan p bound ≡ true
@@ -117,7 +117,7 @@ lifetime_read plan p value bound e =
 no_bound_read : (plan : Plan) (p : ℕ) (bound : Option Bound) → no_bound_of plan p ≡ Ok bound → bound_has_shape plan p bound ≡ true
 unfolding no_bound_of
 no_bound_read plan p bound e =
-    let allowed = both_passed (ensure (pool_at plan p).may_reject wrong_shape) _ bound e in
+    let allowed = both_passed (ensure (needs_no_bound (pool_at plan p)) wrong_shape) _ bound e in
     subst (λ (b : Option Bound). bound_has_shape plan p b ≡ true) (ok_injective {F = CertFault} None bound allowed.1) (holds_ok _ wrong_shape allowed.0)
 
 either_read : (plan : Plan) (p : ℕ) (lifetime standing : Option Data) (bound : Option Bound) → either_of plan p lifetime standing ≡ Ok bound → bound_has_shape plan p bound ≡ true

@@ -1,7 +1,8 @@
--- Certificates: for each pool a bound of the queue and a blocked vector, and the ranks. A pool that may reject jobs needs no bound.
+-- Certificates: for each pool a bound of the queue and a blocked vector, and the ranks. A pool needs no bound if it
+-- may reject jobs or its queue is unbounded.
 use Rattle.std.specs.Prelude.{ℕ, ◌==◌, ◌&&◌, Bool, List, [], length, slice_index_or, Option, Some, None}
 use Rattle.std.specs.List.{list_all, enumerate_from}
-use Rattle.job_bodies.specs.Plan.{Plan, pool_at}
+use Rattle.job_bodies.specs.Plan.{Plan, pool_at, needs_no_bound}
 use Rattle.weights.specs.declared.bound.Bound.{Bound}
 use Rattle.weights.specs.Vector.{Vector, vector_fits}
 use Rattle.weights.specs.Bound.{bound_vector}
@@ -25,9 +26,9 @@ no_pool_cert = record { bound = None; blocked = no_vector }
 abbrev pub pool_cert_at : Cert → ℕ → PoolCert
 pool_cert_at cert p = slice_index_or cert.pools p no_pool_cert
 
--- whether the vector of pool p's bound has the plan's shape and numbers within the limit; no bound fits only a pool that may reject jobs
+-- whether the vector of pool p's bound has the plan's shape and numbers within the limit; no bound fits only a pool that needs none
 abbrev pub bound_fits : Plan → ℕ → Option Bound → Bool
-bound_fits plan p None = (pool_at plan p).may_reject
+bound_fits plan p None = needs_no_bound (pool_at plan p)
 bound_fits plan p (Some bound) = vector_fits plan (bound_vector bound)
 
 -- whether the bound of the part fits pool p, and its blocked vector has the plan's shape and numbers within the limit

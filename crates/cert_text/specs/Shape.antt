@@ -3,7 +3,7 @@ use Rattle.std.specs.Prelude.{ℕ, List, length, codes, Option, Some, None, Resu
 use Rattle.serde_json.specs.Data.{Data}
 use Rattle.serde_json.specs.Find.{get}
 use Rattle.support.specs.Reading.{◌>>=◌, ensure, read_each}
-use Rattle.job_bodies.specs.Plan.{Plan, pool_at}
+use Rattle.job_bodies.specs.Plan.{Plan, pool_at, needs_no_bound}
 use Rattle.weights.specs.declared.bound.Bound.{Bound}
 use Rattle.weights.specs.declared.bound.Bound.TheVariants.{Standing, Lifetime}
 use Rattle.weights.specs.Ranks.{Ranks}
@@ -22,9 +22,9 @@ standing_of plan value = vector_of plan value >>= λ vector. Ok (Some (Standing 
 unfoldable pub lifetime_of : Plan → Data → Result (Option Bound) CertFault
 lifetime_of plan value = vector_of plan value >>= λ vector. Ok (Some (Lifetime vector))
 
--- no bound for pool p; a fault if the pool must not reject jobs
+-- no bound for pool p; a fault if the pool needs a bound
 unfoldable pub no_bound_of : Plan → ℕ → Result (Option Bound) CertFault
-no_bound_of plan p = ensure (pool_at plan p).may_reject wrong_shape >>= λ _. Ok None
+no_bound_of plan p = ensure (needs_no_bound (pool_at plan p)) wrong_shape >>= λ _. Ok None
 
 -- the bound of pool p from the values at the keys `lifetime` and `standing`: the first of them that is present, or no bound
 abbrev pub either_of : Plan → ℕ → Option Data → Option Data → Result (Option Bound) CertFault

@@ -1,8 +1,8 @@
 //! A fast parser of certificates in *canonical form*: exactly the form that
 //! [`write_cert`](crate::write_cert) writes. It builds no JSON tree. The part of a certificate for
 //! a pool has two vectors of numbers: the blocked vector, which bounds the pool's jobs that wait
-//! for other jobs, and then the bound of the pool's queue, which a pool that may reject jobs need
-//! not have.
+//! for other jobs, and then the bound of the pool's queue, which a pool that may reject jobs, or
+//! whose queue is unbounded, need not have.
 //!
 //! Nearly every text has this form. Any other text is an error here, and the caller then parses it
 //! as JSON.
@@ -20,7 +20,7 @@ use crate::canonical_numbers::{
     strip_bytes, strip_comma,
 };
 use crate::canonical_vectors::parse_vector;
-use crate::cert::may_reject;
+use crate::cert::needs_no_bound;
 use crate::version::version_number;
 use crate::{Cert, PoolCert};
 use job_bodies::{MAX_CERT_BYTES, Plan};
@@ -29,7 +29,7 @@ use weights::{Bound, Ranks};
 
 /// Parses the bound of the queue of the pool with this index, at the start of a text, which begins
 /// with the comma after the blocked vector. Returns the bound and the rest of the text. If the text
-/// has no bound there, it is an error, unless the pool may reject jobs.
+/// has no bound there, it is an error, unless the pool needs none.
 fn parse_bound<'a>(
     alloc: Global,
     plan: &Plan,
@@ -47,7 +47,7 @@ fn parse_bound<'a>(
         let (vector, rest) = parse_vector(alloc, plan, rest)?;
         return Ok((Some(Bound::Lifetime(vector)), rest));
     }
-    if !may_reject(plan, pool) {
+    if !needs_no_bound(plan, pool) {
         return Err(non_canonical_error());
     }
     Ok((None, text))

@@ -3,7 +3,7 @@
 
 ghost use Rattle.std.specs.Prelude.{◌≡◌, ◌<◌, length};
 ghost use Rattle.std.specs.List.{list_all, enumerate_from};
-ghost use Rattle.job_bodies.specs.Plan.{pool_at};
+ghost use Rattle.job_bodies.specs.Plan.{pool_at, needs_no_bound};
 ghost use Rattle.cert_text.specs.Cert as spec;
 
 use job_bodies::Plan;
@@ -13,8 +13,8 @@ use weights::{Bound, Ranks, Vector};
 /// The part of a certificate for one pool.
 #[derive(Debug, Drop)]
 pub struct PoolCert {
-    /// The vector that shows that the pool never refuses a job, or `None` if the pool may reject
-    /// jobs and has no such vector.
+    /// The vector that shows that the pool never refuses a job, or `None` if the pool needs no
+    /// bound, because it may reject jobs or its queue is unbounded.
     pub bound: Option<Bound>,
     /// The vector that shows that the number of the pool's jobs that wait at counted gets is always
     /// below its core size. A counted get can block a thread that other jobs need.
@@ -29,8 +29,8 @@ impl Model for PoolCert {
 
 impl PoolCert {
     /// Returns whether the vectors have the shape of the plan, and no number in them is above
-    /// [`MAX_WEIGHT`](job_bodies::MAX_WEIGHT). Without a bound, the part fits only a pool that may
-    /// reject jobs.
+    /// [`MAX_WEIGHT`](job_bodies::MAX_WEIGHT). Without a bound, the part fits only a pool that
+    /// needs none: it may reject jobs, or its queue is unbounded.
     fn fits(&self, plan: &Plan, pool: usize) -> bool
         ensures { result ≡ spec.pool_cert_fits plan.now pool self.now }
     {
@@ -43,17 +43,17 @@ fn bound_fits(bound: &Option<Bound>, plan: &Plan, pool: usize) -> bool
 {
     match bound {
         Some(bound) => bound.vector().fits(plan),
-        None => may_reject(plan, pool),
+        None => needs_no_bound(plan, pool),
     }
 }
 
-/// Returns whether the pool with this index may reject jobs. Returns `false` if the plan has no
-/// pool with this index.
-pub fn may_reject(plan: &Plan, pool: usize) -> bool
-    ensures { result ≡ (pool_at plan.now pool).may_reject }
+/// Returns whether the pool with this index needs no bound, because it may reject jobs or its queue
+/// is unbounded. Returns `false` if the plan has no pool with this index.
+pub fn needs_no_bound(plan: &Plan, pool: usize) -> bool
+    ensures { result ≡ needs_no_bound (pool_at plan.now pool) }
 {
     match plan.pool_at(pool) {
-        Some(pool) => pool.may_reject,
+        Some(pool) => pool.needs_no_bound(),
         None => false,
     }
 }
@@ -82,7 +82,7 @@ impl Cert {
 
     /// Returns whether the certificate has a part for each pool, each of its lists has the plan's
     /// shape, and each number is at most [`MAX_WEIGHT`](job_bodies::MAX_WEIGHT). Each pool that
-    /// must not reject jobs needs a bound. Allocates no memory.
+    /// must not reject jobs and whose queue is bounded needs a bound. Allocates no memory.
     pub fn fits(&self, plan: &Plan) -> bool
         ensures { result ≡ spec.cert_fits plan.now self.now }
     {

@@ -6,7 +6,7 @@ ghost use Rattle.support.specs.Results.{Gives};
 ghost use Rattle.serde_json.specs.View.{view};
 ghost use Rattle.cert_text.specs.Shape as spec;
 
-use crate::cert::may_reject;
+use crate::cert::needs_no_bound;
 use crate::fault::{CertError, wrong_shape};
 use crate::values::{check_keys, elements_of, value_at};
 use crate::vectors::{numbers_of, vector_of};
@@ -33,12 +33,12 @@ fn lifetime_of(alloc: Global, plan: &Plan, value: &Value) -> Result<Option<Bound
     Ok(Some(Bound::Lifetime(vector)))
 }
 
-/// Returns no bound for the pool with this index. It is a fault if the pool must not reject jobs.
+/// Returns no bound for the pool with this index. It is a fault if the pool needs a bound.
 #[tactic(auto, unfolding(crate::specs::Shape::no_bound_of))]
 fn no_bound_of(plan: &Plan, pool: usize) -> Result<Option<Bound>, CertError>
     ensures { Gives (λ bound. bound) result (spec.no_bound_of plan.now pool) }
 {
-    if !may_reject(plan, pool) {
+    if !needs_no_bound(plan, pool) {
         return Err(wrong_shape());
     }
     Ok(None)

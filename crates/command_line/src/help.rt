@@ -71,14 +71,16 @@ The answer is `yes` or `no`, and then a line for each pool:
   pool NAME: standing T of Q, blocked T of B
 `standing T of Q`: at most T jobs are in the queue at once, and its capacity is Q. A certificate can
 have `lifetime T of Q` instead: at most T jobs are ever submitted, and Q of them fit into queue and
-threads. `may reject` in its place: the pool has `may_reject = true`, and no bound for its queue.
+threads. `may reject` in its place: the pool has `may_reject = true`, and no bound for its queue. For
+an unbounded queue Q is the word `unbounded`; this word alone means that T is not known.
 `blocked T of B`: at most T of the pool's threads wait for jobs that need this pool, and B, core - 1,
 may.
 
 `yes` means that in every state that any order of events reaches, no submit was refused, each pool
-respects its maximum and its queue's capacity, and no jobs wait only for each other. (A submit that
-a pool with `may_reject = true` rejects is not refused, but skipped together with its get.) `no`
-means that this certificate does not prove it; `sizing explain` lists the conditions that fail.
+respects its maximum and, if its queue has one, the queue's capacity, and no jobs wait only for each
+other. (A submit that a pool with `may_reject = true` rejects is not refused, but skipped together
+with its get.) `no` means that this certificate does not prove it; `sizing explain` lists the
+conditions that fail.
 
 Exit status:
   0  yes
@@ -133,6 +135,7 @@ sizing fit [--bundle] PLAN
     notes: "\
 The answer has a line for each pool:
   pool NAME: core C, max M, queue Q
+  pool NAME: core C, queue unbounded
 with `(now X)` after each number that changes, where X is the number in the plan. The last line is
 `changes N`, the number of changes. With --bundle the answer is the plan with the new sizes, a line
 `%%`, and a certificate, to which `sizing check` answers yes.

@@ -9,7 +9,7 @@ use Rattle.job_bodies.specs.declared.action.Action.{Action}
 use Rattle.job_bodies.specs.declared.action.Action.TheVariants as action
 use Rattle.job_bodies.specs.Plan.{Plan, pool_at}
 use Rattle.job_bodies.proofs.Bodies.{HasValidBodies, ordered}
-use Rattle.pool_machine.specs.PoolState.{queue_limit}
+use Rattle.pool_machine.specs.PoolState.{room_limit}
 use Rattle.pool_machine.specs.declared.offer.Offer.TheVariants as offer
 use Rattle.written_machine.specs.declared.parent.Parent.{Parent}
 use Rattle.written_machine.specs.declared.event.Outcome.{Outcome}
@@ -102,7 +102,7 @@ taken_if : (plan : Plan) (a : Parent) (i k : ℕ) (s : JavaState) (requesting of
 taken_if plan a i k s true offering grows = taken_requested plan a i k s (ltb (threads plan s.machine (pool_of plan k)) (pool_at plan (pool_of plan k)).max) grows
 taken_if plan a i k s false true grows =
     taken_offered plan a i k s (record s { offering = without_calls_of a s.offering; requesting = record { actor = a; pool = pool_of plan k } ∷ s.requesting })
-    (ltb (length (pool_part s.machine (pool_of plan k)).queue) (queue_limit (pool_at plan (pool_of plan k)).queue (pool_part s.machine (pool_of plan k)).idle)) refl grows
+    (ltb (length (pool_part s.machine (pool_of plan k)).queue) (room_limit (pool_at plan (pool_of plan k)).unbounded (pool_at plan (pool_of plan k)).queue (pool_part s.machine (pool_of plan k)).idle (length (pool_part s.machine (pool_of plan k)).queue))) refl grows
 taken_if plan a i k s false false grows =
     taken_checked plan a i k s (record s { offering = record { actor = a; pool = pool_of plan k } ∷ s.offering })
     (ltb (threads plan s.machine (pool_of plan k)) (pool_at plan (pool_of plan k)).core) refl grows

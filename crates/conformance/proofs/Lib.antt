@@ -90,7 +90,9 @@ pub mod RejectionRules
 pub mod RejectionCounts
 pub mod RejectingPools
 pub mod RejectionsAllowed
+pub mod UnboundedPools
 mod WorkedRejections
+mod WorkedSizes
 pub mod ExcessTrackerAfter
 pub mod CollectedLists
 pub mod Steps

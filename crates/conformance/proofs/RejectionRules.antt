@@ -10,7 +10,7 @@ use Rattle.conformance.specs.declared.rejection_rule.RejectionRule.{RejectionRul
 use Rattle.conformance.specs.declared.rejection_rule.RejectionRule.TheVariants as rule
 use Rattle.conformance.specs.Handlers.{AreHandlersOf, AreRules}
 use Rattle.conformance.specs.PoolComparison.{has_name}
-use Rattle.conformance.specs.RejectionRule.{rule_by, rule_for, rule_of, has_handler, is_shut, is_got, is_abort, is_caller_runs, is_discard, is_allowed_by}
+use Rattle.conformance.specs.RejectionRule.{can_reject, rule_by, rule_for, rule_of, has_handler, is_shut, is_got, is_abort, is_caller_runs, is_discard, is_allowed_by}
 
 same_rule : (a a' b b' c c' d d' g g' : Bool) → a ≡ a' → b ≡ b' → c ≡ c' → d ≡ d' → g ≡ g' → rule_by (not a) (not b) c (not d && not g) ≡ rule_by (not a') (not b') c' (not d' && not g')
 same_rule a a' b b' c c' d d' g g' e1 e2 e3 e4 e5 =
@@ -29,10 +29,10 @@ rule_is plan lines pool handlers are name aborts caller_runs closes drops got un
     ∙ same_rule aborts _ caller_runs _ closes _ drops _ got _ (e1 ∙ are.not_abort name) (e2 ∙ are.not_caller_runs name) (e3 ∙ are.shut name) (e4 ∙ are.not_discard name) e5
     ∙ ap (λ (n : List ℕ). rule_by (has_handler lines is_abort n) (has_handler lines is_caller_runs n) (is_shut lines n) (has_handler lines is_discard n && not (is_got plan pool))) named
 
-pub rule_if : (plan : Plan) (lines : List RecordedLine) (pool : ℕ) → (pool_at plan pool).may_reject ≡ true → rule_for plan lines pool ≡ rule_of plan lines pool
+pub rule_if : (plan : Plan) (lines : List RecordedLine) (pool : ℕ) → can_reject (pool_at plan pool) ≡ true → rule_for plan lines pool ≡ rule_of plan lines pool
 rule_if plan lines pool may = ap (λ (b : Bool). if b then rule_for plan lines pool else rule.Never) (sym may)
 
-pub no_rule_if : (plan : Plan) (lines : List RecordedLine) (pool : ℕ) → (pool_at plan pool).may_reject ≡ false → rule.Never ≡ rule_of plan lines pool
+pub no_rule_if : (plan : Plan) (lines : List RecordedLine) (pool : ℕ) → can_reject (pool_at plan pool) ≡ false → rule.Never ≡ rule_of plan lines pool
 no_rule_if plan lines pool may = ap (λ (b : Bool). if b then rule_for plan lines pool else rule.Never) (sym may)
 
 pub allowed_is : (by by' : RejectionRule) (acted acted' started started' closed : Bool) → by ≡ by' → acted ≡ acted' → started ≡ started' → is_allowed_by by acted started closed ≡ is_allowed_by by' acted' started' closed
@@ -62,7 +62,7 @@ one_rule plan lines count rules one are is = record {
 }
 
 no_pool_past : (plan : Plan) (lines : List RecordedLine) (pool : ℕ) → length plan.pools ≤ pool → rule_of plan lines pool ≡ rule.Never
-no_pool_past plan lines pool past = ap (λ (one : Pool). if one.may_reject then rule_for plan lines pool else rule.Never) (get_or-eq_default plan.pools no_pool past)
+no_pool_past plan lines pool past = ap (λ (one : Pool). if can_reject one then rule_for plan lines pool else rule.Never) (get_or-eq_default plan.pools no_pool past)
 
 all_if : (plan : Plan) (lines : List RecordedLine) (count : ℕ) (rules : List RejectionRule) (pool : ℕ) → AreFirstRules plan lines count rules → length plan.pools ≤ count → (pool < count) ⊎ (count ≤ pool) → get_or rules pool rule.Never ≡ rule_of plan lines pool
 all_if plan lines count rules pool are past (inl early) = are.rules_so pool early

@@ -6,7 +6,7 @@ use Rattle.job_bodies.specs.declared.action.Action.{Action}
 use Rattle.job_bodies.specs.declared.action.Action.TheVariants as action
 use Rattle.job_bodies.specs.Plan.{Plan, pool_at}
 use Rattle.job_bodies.proofs.Bodies.{HasValidBodies}
-use Rattle.pool_machine.specs.PoolState.{queue_limit}
+use Rattle.pool_machine.specs.PoolState.{room_limit}
 use Rattle.pool_machine.specs.declared.offer.Offer.TheVariants as offer
 use Rattle.written_machine.specs.declared.event.Event.{Event}
 use Rattle.written_machine.specs.declared.parent.Parent.{Parent}
@@ -136,7 +136,7 @@ module _ (plan : Plan) (cert : Cert) (a : Parent) (body : List Action) (q k : �
 
   -- The second step.
   offers : (s : JavaState) → IsAtSubmit s → is_calling s.requesting a (pool_of plan k) ≡ false → is_calling s.offering a (pool_of plan k) ≡ true
-      → (room : Bool) → ltb (length (pool_part s.machine (pool_of plan k)).queue) (queue_limit (pool_at plan (pool_of plan k)).queue (pool_part s.machine (pool_of plan k)).idle) ≡ room → NextOfSubmit plan a s (IsTakenWithin 1 plan a)
+      → (room : Bool) → ltb (length (pool_part s.machine (pool_of plan k)).queue) (room_limit (pool_at plan (pool_of plan k)).unbounded (pool_at plan (pool_of plan k)).queue (pool_part s.machine (pool_of plan k)).idle (length (pool_part s.machine (pool_of plan k)).queue)) ≡ room → NextOfSubmit plan a s (IsTakenWithin 1 plan a)
   offers s at not_requesting is_offering true is_room = record {
     next = answers plan s a q k offer.Queued;
     is_next = executed s at false true not_requesting is_offering ∙ ap (λ (b : Bool). Some (cond b (answers plan s a q k offer.Queued) (finds_no_room s))) is_room;
@@ -174,7 +174,7 @@ module _ (plan : Plan) (cert : Cert) (a : Parent) (body : List Action) (q k : �
           refl,
           λ s' others.
               let later = others_stay others (record { sound = choice_keeps plan cert is_ordered laws s (Acts (event_of_actor a)) (finds_the_core s) at.sound stepped; stands = at.stands }) in
-              offers s' later.at ((later.calls p).1 ∙ not_requesting) ((later.calls p).0 ∙ first_call a p s.offering) (ltb (length (pool_part s'.machine p).queue) (queue_limit (pool_at plan p).queue (pool_part s'.machine p).idle)) refl,
+              offers s' later.at ((later.calls p).1 ∙ not_requesting) ((later.calls p).0 ∙ first_call a p s.offering) (ltb (length (pool_part s'.machine p).queue) (room_limit (pool_at plan p).unbounded (pool_at plan p).queue (pool_part s'.machine p).idle (length (pool_part s'.machine p).queue))) refl,
         );
       }
 

@@ -1,7 +1,8 @@
 -- Examples of refusals, computed from the definitions: rejections that the plan allows, and others.
-use Rattle.std.proofs.Common.{◌≡◌, ℕ, Bool, true, false, List, [], ◌∷◌, refl}
+use Rattle.std.proofs.Common.{◌≡◌, ℕ, Bool, true, false, List, [], ◌∷◌, map, refl}
 use Rattle.job_bodies.specs.declared.action.Action.{Action}
 use Rattle.job_bodies.specs.declared.action.Action.TheVariants.{Submit, Get}
+use Rattle.job_bodies.specs.Plan as plans
 use Rattle.job_bodies.specs.Plan.{Plan}
 use Rattle.recordings.specs.declared.pool_sizes.HandlerKind.{HandlerKind}
 use Rattle.recordings.specs.declared.pool_sizes.HandlerKind.TheVariants.{Abort, CallerRuns, Discard, DiscardOldest, Other}
@@ -14,10 +15,14 @@ use Rattle.conformance.specs.RejectionRule.{is_got, has_handler, is_shut, has_ac
 -- One pool q, one class b of that pool, and one client c with this body.
 abbrev plan_of : Bool → List Action → Plan
 plan_of may_reject body = record {
-  pools = record { name = 113 ∷ []; core = 1; max = 1; queue = 1; prestart = false; may_reject = may_reject } ∷ [];
+  pools = record { name = 113 ∷ []; core = 1; max = 1; queue = 1; prestart = false; may_reject = may_reject; unbounded = false } ∷ [];
   classes = record { name = 98 ∷ []; pool = 0; body = [] } ∷ [];
   clients = record { name = 99 ∷ []; count = 1; repeat = true; body = body } ∷ [];
 }
+
+-- The plan, in which the queue of each pool is unbounded.
+abbrev without_bounds : Plan → Plan
+without_bounds plan = record plan { pools = map (λ (pool : plans.Pool). record pool { unbounded = true }) plan.pools }
 
 abbrev pool_line : HandlerKind → RecordedLine
 pool_line handler = Pool (113 ∷ []) (record { core = 1; max = 1; queue = Array; capacity = 1; timeout = false; prestarted = 0; handler = handler })
@@ -43,6 +48,11 @@ aborts = refl
 pub without_the_key : rejected (plan_of false submits_and_gets) (refusal Abort []) ≡ []
 unfolding is_got has_handler is_shut has_acted submit_pool rule_for pools_in has_started
 without_the_key = refl
+
+-- An unbounded queue is never full.
+pub unbounded : rejected (without_bounds (plan_of true submits_and_gets)) (refusal Abort []) ≡ []
+unfolding is_got has_handler is_shut has_acted submit_pool rule_for pools_in has_started
+unbounded = refl
 
 pub another_handler : rejected (plan_of true submits) (refusal Other []) ≡ []
 unfolding is_got has_handler is_shut has_acted submit_pool rule_for pools_in has_started

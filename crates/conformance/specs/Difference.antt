@@ -4,7 +4,7 @@ use Rattle.recordings.specs.declared.pool_sizes.QueueKind.{QueueKind}
 use Rattle.recordings.specs.declared.pool_sizes.QueueKind.TheVariants as queue
 use Rattle.recordings.specs.LineText.{queue_word}
 use Rattle.conformance.specs.declared.difference.Difference.{Difference}
-use Rattle.conformance.specs.declared.difference.Difference.TheVariants.{Core, Max, KindOfQueue, Capacity, CoreTimeout, Prestarted}
+use Rattle.conformance.specs.declared.difference.Difference.TheVariants.{Core, Max, KindOfQueue, Capacity, BoundedQueue, CoreTimeout, Prestarted}
 
 -- The text has no pool name and no newline.
 abbrev pub difference_text : Difference → List ℕ
@@ -12,6 +12,7 @@ difference_text (Core recorded planned) = codes "core " ++ decimal recorded ++ c
 difference_text (Max recorded planned) = codes "max " ++ decimal recorded ++ codes ", plan " ++ decimal planned
 difference_text (KindOfQueue kind) = codes "queue of another kind (" ++ queue_word kind ++ codes ")"
 difference_text (Capacity recorded planned) = codes "queue " ++ decimal recorded ++ codes ", plan " ++ decimal planned
+difference_text (BoundedQueue recorded) = codes "queue " ++ decimal recorded ++ codes ", plan unbounded"
 difference_text CoreTimeout = codes "core threads may time out"
 difference_text (Prestarted recorded planned) = decimal recorded ++ codes " threads prestarted, plan " ++ decimal planned
 
@@ -29,6 +30,7 @@ is_same_difference (Core recorded planned) (Core other beside) = recorded == oth
 is_same_difference (Max recorded planned) (Max other beside) = recorded == other && planned == beside
 is_same_difference (KindOfQueue kind) (KindOfQueue other) = is_same_kind kind other
 is_same_difference (Capacity recorded planned) (Capacity other beside) = recorded == other && planned == beside
+is_same_difference (BoundedQueue recorded) (BoundedQueue other) = recorded == other
 is_same_difference CoreTimeout CoreTimeout = true
 is_same_difference (Prestarted recorded planned) (Prestarted other beside) = recorded == other && planned == beside
 is_same_difference difference beside = false

@@ -130,9 +130,13 @@ rule_for plan lines pool =
     let name = (pool_at plan pool).name in
     rule_by (has_handler lines is_abort name) (has_handler lines is_caller_runs name) (is_shut lines name) (has_handler lines is_discard name && not (is_got plan pool))
 
--- The rule for a pool of the plan: a pool that must not reject jobs allows none.
+-- The pool may reject jobs and can be full: its queue is bounded.
+abbrev pub can_reject : plans.Pool → Bool
+can_reject pool = pool.may_reject && not pool.unbounded
+
+-- The rule for a pool of the plan: a pool that must not reject jobs allows none, and neither does one whose queue is unbounded.
 abbrev pub rule_of : Plan → List RecordedLine → ℕ → RejectionRule
-rule_of plan lines pool = if (pool_at plan pool).may_reject then rule_for plan lines pool else rule.Never
+rule_of plan lines pool = if can_reject (pool_at plan pool) then rule_for plan lines pool else rule.Never
 
 -- The rule allows the rejection of the job, which `before` precedes. With `caller_runs`, the job must have no line as an actor other than
 -- its end. If the recording has a `shutdown` of the pool, the handler may have dropped the job: then the job must have a `start` line, and

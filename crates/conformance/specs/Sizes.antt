@@ -1,11 +1,13 @@
 -- The differences between one `pool` line and a pool of the plan.
 use Rattle.std.specs.Prelude.{◌≡◌, ℕ, Bool, true, false, ◌==◌, ◌||◌, not, if◌then◌else◌, List, [], ◌∷◌, ◌++◌, IsTrue}
 use Rattle.job_bodies.specs.Plan.{Pool, first_workers}
+use Rattle.recordings.specs.declared.pool_sizes.TheConstants.{UNBOUNDED_CAPACITY}
 use Rattle.recordings.specs.declared.pool_sizes.PoolSizes.{PoolSizes}
 use Rattle.recordings.specs.declared.pool_sizes.QueueKind.{QueueKind}
 use Rattle.recordings.specs.declared.pool_sizes.QueueKind.TheVariants as queue
+use Rattle.recordings.specs.PoolSizes.{is_linked}
 use Rattle.conformance.specs.declared.difference.Difference.{Difference}
-use Rattle.conformance.specs.declared.difference.Difference.TheVariants.{Core, Max, KindOfQueue, Capacity, CoreTimeout, Prestarted}
+use Rattle.conformance.specs.declared.difference.Difference.TheVariants.{Core, Max, KindOfQueue, Capacity, BoundedQueue, CoreTimeout, Prestarted}
 
 -- The queue is a `SynchronousQueue`.
 abbrev pub is_synchronous : QueueKind → Bool
@@ -27,26 +29,39 @@ is_array_or_linked queue.Other = false
 abbrev pub is_kind_of : ℕ → QueueKind → Bool
 is_kind_of capacity kind = if capacity == 0 then is_synchronous kind else is_array_or_linked kind
 
+-- The kind of the queue is that of the plan's pool: a `LinkedBlockingQueue` if the queue of the plan is unbounded.
+abbrev pub is_planned_kind : Pool → QueueKind → Bool
+is_planned_kind pool kind = if pool.unbounded then is_linked kind else is_kind_of pool.queue kind
+
+-- The capacity of the plan's queue as a `pool` line gives it.
+abbrev pub planned_capacity : Pool → ℕ
+planned_capacity pool = if pool.unbounded then UNBOUNDED_CAPACITY else pool.queue
+
+-- The difference if the queue has this capacity, which is not that of the plan.
+abbrev pub capacity_difference : ℕ → Pool → Difference
+capacity_difference recorded pool = if pool.unbounded then BoundedQueue recorded else Capacity recorded pool.queue
+
 -- A list with the difference, or an empty one if the two sides agree.
 abbrev pub unless : Bool → Difference → List Difference
 unless agree difference = if agree then [] else difference ∷ []
 
--- Another core size, maximum size, kind of queue or capacity than in the plan, or core threads that may time out. In the
--- first line of a pool, also another number of prestarted threads: the core size with `prestart`, and 0 without it.
+-- Another core size, maximum size, kind of queue or capacity than in the plan, or core threads that may time out. If the plan's
+-- queue is unbounded, the maximum size is not compared, because it has no effect. In the first line of a pool, also another
+-- number of prestarted threads: the core size with `prestart`, and 0 without it.
 abbrev pub differences : Bool → PoolSizes → Pool → List Difference
 differences is_first sizes pool =
     unless (sizes.core == pool.core) (Core sizes.core pool.core)
-    ++ unless (sizes.max == pool.max) (Max sizes.max pool.max)
-    ++ unless (is_kind_of pool.queue sizes.queue) (KindOfQueue sizes.queue)
-    ++ unless (sizes.capacity == pool.queue) (Capacity sizes.capacity pool.queue)
+    ++ unless (pool.unbounded || sizes.max == pool.max) (Max sizes.max pool.max)
+    ++ unless (is_planned_kind pool sizes.queue) (KindOfQueue sizes.queue)
+    ++ unless (sizes.capacity == planned_capacity pool) (capacity_difference sizes.capacity pool)
     ++ unless (not sizes.timeout) CoreTimeout
     ++ unless (not is_first || sizes.prestarted == first_workers pool) (Prestarted sizes.prestarted (first_workers pool))
 
 -- The sizes are those of the plan, as far as they are compared in this line.
 pub record IsAsPlanned (is_first : Bool) (sizes : PoolSizes) (pool : Pool) : Type 0 where
   pub core : sizes.core ≡ pool.core
-  pub max : sizes.max ≡ pool.max
-  pub kind_of_queue : IsTrue (is_kind_of pool.queue sizes.queue)
-  pub capacity : sizes.capacity ≡ pool.queue
+  pub max : pool.unbounded ≡ false → sizes.max ≡ pool.max
+  pub kind_of_queue : IsTrue (is_planned_kind pool sizes.queue)
+  pub capacity : sizes.capacity ≡ planned_capacity pool
   pub core_stays : sizes.timeout ≡ false
   pub prestarted : is_first ≡ true → sizes.prestarted ≡ first_workers pool

@@ -60,8 +60,8 @@ pub enum Conformance {
 /// - for each event type that invalidates a SAFE answer, whatever the paths are, its first line.
 ///   A rejection that the plan allows does not count.
 ///
-/// A `refused` line is a rejection that the plan allows if the pool may reject jobs, and in each
-/// `pool` line of the pool, its handler
+/// A `refused` line is a rejection that the plan allows if the pool may reject jobs and has a
+/// bounded queue, and in each `pool` line of the pool, its handler
 ///
 /// - is `abort`;
 /// - is `caller_runs`, and no line has the job as an actor, other than its end. If the recording

@@ -2,7 +2,7 @@
 //! a function with an empty body.
 
 ghost use Rattle.conformance.specs.ComparisonLaws.{DeviationsAddUp, ExcessesAddUp, PoolsAreAsPlanned, PoolsAreRecorded, RoundsAreWithinPlan};
-ghost use Rattle.conformance.specs.RejectionLaws.{RejectionsNeedTheKey, WithoutTheKeyAllCount};
+ghost use Rattle.conformance.specs.RejectionLaws.{RejectionsNeedTheKey, UnboundedPoolsGetNoKey, UnboundedPoolsRejectNothing, WithoutTheKeyAllCount};
 
 /// Proves that the comparison line by line finds all differences between the pools. If there are
 /// none, each recorded pool is in the plan and as planned in each of its lines. The number of
@@ -26,4 +26,11 @@ pub fn rounds_are_within_plan()
 pub fn rejections_need_the_key()
     ensures need { RejectionsNeedTheKey }
     ensures all { WithoutTheKeyAllCount }
+{}
+
+/// Proves that the plan allows no rejection by a pool with an unbounded queue, and that such a pool
+/// is never marked as one that rejects jobs in a recording.
+pub fn unbounded_pools_reject_nothing()
+    ensures none { UnboundedPoolsRejectNothing }
+    ensures no_key { UnboundedPoolsGetNoKey }
 {}

@@ -16,10 +16,13 @@ pub enum Difference {
     Core { recorded: u64, planned: u64 },
     /// The maximum pool size, in threads.
     Max { recorded: u64, planned: u64 },
-    /// A queue of this kind, which is neither an array queue nor a linked one.
+    /// A queue of this kind, which is not the plan's: an array queue or a linked one, a synchronous
+    /// one if the plan has `queue = 0`, and a linked one if the plan's queue is unbounded.
     KindOfQueue(QueueKind),
     /// The capacity of the queue, in jobs.
     Capacity { recorded: u64, planned: u64 },
+    /// A queue of this capacity, in jobs. The plan's queue is unbounded.
+    BoundedQueue { recorded: u64 },
     /// Core threads may time out. In a plan they never do.
     CoreTimeout,
     /// The number of threads when the recording began. In a plan, a pool with `prestart` has all
@@ -43,6 +46,7 @@ impl fmt::Display for Difference {
             Difference::Capacity { recorded, planned } => {
                 write!(f, "queue {recorded}, plan {planned}")
             }
+            Difference::BoundedQueue { recorded } => write!(f, "queue {recorded}, plan unbounded"),
             Difference::CoreTimeout => write!(f, "core threads may time out"),
             Difference::Prestarted { recorded, planned } => {
                 write!(f, "{recorded} threads prestarted, plan {planned}")

@@ -114,9 +114,9 @@ impl Finding {
     }
 
     /// Returns the number that orders findings of the same line and type. For a difference, it is
-    /// the position among the variants of [`Difference`]. For a pool that is not recorded, an
-    /// undecided actor or an excess of rounds, it is the number of the pool, the actor or the
-    /// client kind. It is 0 for all other findings.
+    /// the position among the variants of [`Difference`], of which the two about a capacity share
+    /// one. For a pool that is not recorded, an undecided actor or an excess of rounds, it is the
+    /// number of the pool, the actor or the client kind. It is 0 for all other findings.
     fn number(&self) -> usize
         ensures { result ≡ spec.number_of self.now }
     {
@@ -146,7 +146,7 @@ fn difference_number(difference: Difference) -> usize
         Difference::Core { .. } => 0,
         Difference::Max { .. } => 1,
         Difference::KindOfQueue(_) => 2,
-        Difference::Capacity { .. } => 3,
+        Difference::Capacity { .. } | Difference::BoundedQueue { .. } => 3,
         Difference::CoreTimeout => 4,
         Difference::Prestarted { .. } => 5,
     }

@@ -6,7 +6,7 @@ ghost use Rattle.job_bodies.specs.Plan.{pool_at};
 ghost use Rattle.recordings.specs.RecordingLine.{RecordedLine, line_view};
 ghost use Rattle.conformance.specs.PoolComparison.{has_name};
 ghost use Rattle.conformance.specs.Handlers as spec;
-ghost use Rattle.conformance.specs.RejectionRule.{rule_by, rule_for, rule_of};
+ghost use Rattle.conformance.specs.RejectionRule.{can_reject, rule_by, rule_for, rule_of};
 
 use crate::pool_names::PoolNames;
 use crate::rejection_rule::{RejectionRule, is_abort, is_caller_runs, is_discard, is_got};
@@ -90,14 +90,14 @@ impl Handlers {
             → spec.AreHandlersOf lines self.now
             → result ≡ rule_of plan.now lines pool }
     {
-        if may_reject(plan, pool) {
+        if can_reject(plan, pool) {
             self.rule_for(plan, pool)
         } else {
             RejectionRule::Never
         }
     }
 
-    // Returns the rule of a pool that may reject jobs.
+    // Returns the rule of a pool that may reject jobs and whose queue is bounded.
     fn rule_for(&self, plan: &Plan, pool: usize) -> RejectionRule
         ensures { (lines : List RecordedLine)
             → spec.AreHandlersOf lines self.now
@@ -113,11 +113,12 @@ impl Handlers {
     }
 }
 
-fn may_reject(plan: &Plan, pool: usize) -> bool
-    ensures { result ≡ (pool_at plan.now pool).may_reject }
+// Returns whether the pool may reject jobs and can be full. An unbounded queue never is.
+fn can_reject(plan: &Plan, pool: usize) -> bool
+    ensures { result ≡ can_reject (pool_at plan.now pool) }
 {
     match plan.pool_at(pool) {
-        Some(pool) => pool.may_reject,
+        Some(pool) => pool.may_reject && !pool.unbounded,
         None => false,
     }
 }

@@ -75,7 +75,10 @@ pub use actor_classifier::ActorClassifier;
 pub use actor_label::ActorLabel;
 pub use classified_actor::ClassifiedActor;
 pub use comparison::{Conformance, conform};
-pub use comparison_laws::{pools_are_as_planned, rejections_need_the_key, rounds_are_within_plan};
+pub use comparison_laws::{
+    pools_are_as_planned, rejections_need_the_key, rounds_are_within_plan,
+    unbounded_pools_reject_nothing,
+};
 pub use difference::Difference;
 pub use excess::Excess;
 pub use explained_prefix::ExplainedPrefix;

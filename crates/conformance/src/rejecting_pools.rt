@@ -14,7 +14,8 @@ use std::alloc::{AllocError, Global};
 ///
 /// A pool rejects jobs in the recording if at least one job that was submitted to it was refused,
 /// and each such refusal is a rejection that the plan allows if all its pools may reject jobs.
-/// [`conform`](crate::conform) lists when a plan allows a rejection.
+/// [`conform`](crate::conform) lists when a plan allows a rejection. It allows none by a pool with
+/// an unbounded queue.
 ///
 /// Reads the recording three times. The memory grows with the number of refused jobs.
 ///

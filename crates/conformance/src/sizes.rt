@@ -5,14 +5,15 @@ ghost use Rattle.conformance.specs.Sizes as spec;
 
 use crate::Difference;
 use job_bodies::Pool;
-use recordings::{PoolSizes, QueueKind};
+use recordings::{PoolSizes, QueueKind, UNBOUNDED_CAPACITY};
 use std::alloc::{AllocError, Global};
 
 /// Returns all differences between a `pool` line and the plan's pool, in the order of the variants
 /// of [`Difference`]. The list is empty exactly when the pool is as planned.
 ///
 /// The number of prestarted threads is compared only if this is the first line of the pool
-/// (`is_first`). The handler is not compared, because it is never called if the plan is SAFE.
+/// (`is_first`). The maximum is not compared if the plan's queue is unbounded, because it then has
+/// no effect. The handler is not compared, because it is never called if the plan is SAFE.
 ///
 /// # Errors
 ///
@@ -38,19 +39,19 @@ pub fn differences(
     let (recorded, planned) = (sizes.max as u64, pool.max);
     push_unless(
         &mut found,
-        recorded == planned,
+        pool.unbounded || recorded == planned,
         Difference::Max { recorded, planned },
     )?;
     push_unless(
         &mut found,
-        is_kind_of(pool.queue, sizes.queue),
+        is_planned_kind(pool, sizes.queue),
         Difference::KindOfQueue(sizes.queue),
     )?;
-    let (recorded, planned) = (sizes.capacity as u64, pool.queue);
+    let (recorded, planned) = (sizes.capacity as u64, planned_capacity(pool));
     push_unless(
         &mut found,
         recorded == planned,
-        Difference::Capacity { recorded, planned },
+        capacity_difference(recorded, pool),
     )?;
     push_unless(&mut found, !sizes.timeout, Difference::CoreTimeout)?;
     let (recorded, planned) = (sizes.prestarted as u64, pool.first_workers());
@@ -60,6 +61,41 @@ pub fn differences(
         Difference::Prestarted { recorded, planned },
     )?;
     Ok(found)
+}
+
+/// Returns whether the kind of the queue is that of the plan's pool: a `LinkedBlockingQueue` if the
+/// queue of the plan is unbounded.
+fn is_planned_kind(pool: &Pool, kind: QueueKind) -> bool
+    ensures { result ≡ spec.is_planned_kind pool.now kind }
+{
+    if pool.unbounded {
+        kind.is_linked()
+    } else {
+        is_kind_of(pool.queue, kind)
+    }
+}
+
+/// Returns the capacity of the plan's queue as a `pool` line gives it.
+fn planned_capacity(pool: &Pool) -> u64
+    ensures { result ≡ spec.planned_capacity pool.now }
+{
+    if pool.unbounded {
+        UNBOUNDED_CAPACITY as u64
+    } else {
+        pool.queue
+    }
+}
+
+/// Returns the difference if the queue has this capacity, which is not that of the plan.
+fn capacity_difference(recorded: u64, pool: &Pool) -> Difference
+    ensures { result ≡ spec.capacity_difference recorded pool.now }
+{
+    if pool.unbounded {
+        Difference::BoundedQueue { recorded }
+    } else {
+        let planned = pool.queue;
+        Difference::Capacity { recorded, planned }
+    }
 }
 
 /// Returns whether the kind of the queue is one that a plan describes by this capacity: a

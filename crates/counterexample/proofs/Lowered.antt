@@ -11,7 +11,7 @@ use Rattle.job_bodies.specs.ValidBody.{IsValidBody}
 use Rattle.job_bodies.proofs.Bodies.{HasValidBodies}
 use Rattle.pool_machine.specs.declared.offer.Offer.{Offer}
 use Rattle.pool_machine.specs.declared.offer.Offer.TheVariants as offer
-use Rattle.pool_machine.specs.PoolState.{PoolView, queue_limit, new_pool, answer}
+use Rattle.pool_machine.specs.PoolState.{PoolView, room_limit, new_pool, answer}
 use Rattle.written_machine.specs.declared.parent.Parent.{Parent}
 use Rattle.written_machine.specs.declared.parent.Parent.TheVariants as parent
 use Rattle.written_machine.specs.declared.event.Event.{Event}
@@ -56,6 +56,11 @@ may_reject_from most n [] p = refl
 may_reject_from most n (x ∷ xs) zero = refl
 may_reject_from most n (x ∷ xs) (suc p) = may_reject_from most (n + 1) xs p
 
+unbounded_from : (most : ℕ → ℕ) (n : ℕ) (pools : List Pool) (p : ℕ) → (get_or (map (with_most most) (enumerate_from n pools)) p no_pool).unbounded ≡ (get_or pools p no_pool).unbounded
+unbounded_from most n [] p = refl
+unbounded_from most n (x ∷ xs) zero = refl
+unbounded_from most n (x ∷ xs) (suc p) = unbounded_from most (n + 1) xs p
+
 max_from : (most : ℕ → ℕ) (n : ℕ) (pools : List Pool) (p : ℕ) → p < length pools → (get_or (map (with_most most) (enumerate_from n pools)) p no_pool).max ≡ most (n + p)
 max_from most n [] p inside = absurd (omega arith)
 max_from most n (x ∷ xs) zero inside = ap most (let same : n ≡ n + 0 = omega arith in same)
@@ -76,6 +81,16 @@ queue-lowered plan most p = queue_from most 0 plan.pools p
 
 may_reject-lowered : (plan : Plan) (most : ℕ → ℕ) (p : ℕ) → (pool_at (lowered plan most) p).may_reject ≡ (pool_at plan p).may_reject
 may_reject-lowered plan most p = may_reject_from most 0 plan.pools p
+
+unbounded-lowered : (plan : Plan) (most : ℕ → ℕ) (p : ℕ) → (pool_at (lowered plan most) p).unbounded ≡ (pool_at plan p).unbounded
+unbounded-lowered plan most p = unbounded_from most 0 plan.pools p
+
+-- the queue of each pool has room in the lowered plan exactly as in the plan
+room-lowered : (plan : Plan) (most : ℕ → ℕ) (p idle queued : ℕ)
+    → room_limit (pool_at (lowered plan most) p).unbounded (pool_at (lowered plan most) p).queue idle queued ≡ room_limit (pool_at plan p).unbounded (pool_at plan p).queue idle queued
+room-lowered plan most p idle queued =
+    ap (λ (unbounded : Bool). room_limit unbounded (pool_at (lowered plan most) p).queue idle queued) (unbounded-lowered plan most p)
+    ∙ ap (λ (queue : ℕ). room_limit (pool_at plan p).unbounded queue idle queued) (queue-lowered plan most p)
 
 pub max-lowered : (plan : Plan) (most : ℕ → ℕ) (p : ℕ) → p < length plan.pools → (pool_at (lowered plan most) p).max ≡ most p
 max-lowered plan most p inside = max_from most 0 plan.pools p inside ∙ ap most (let same : 0 + p ≡ p = omega arith in same)
@@ -122,7 +137,7 @@ kept-lowered plan most s kept within = record {
       record {
         queue = pool.queue;
         within_max = omega (arith, within p inside, max-lowered plan most p inside);
-        within_queue = subst (λ (queue : ℕ). length (pool_part s p).queue ≤ queue_limit queue (pool_part s p).idle) (sym (queue-lowered plan most p)) pool.within_queue;
+        within_queue = subst (λ (limit : ℕ). length (pool_part s p).queue ≤ limit) (sym (room-lowered plan most p (pool_part s p).idle (length (pool_part s p).queue))) pool.within_queue;
         core = λ some. let enough = pool.core some in omega (arith, core-lowered plan most p);
       };
   actors = λ a body i stands. kept.actors a body i stands;
@@ -130,8 +145,8 @@ kept-lowered plan most s kept within = record {
 
 -- ---- the steps of the lowered plan
 
--- a pool that starts a thread has fewer than core threads, or its queue is full
-pub started_when : (pool : PoolView) → answer pool ≡ offer.Started → (pool.threads < pool.core) ⊎ (pool.capacity ≤ length pool.queue)
+-- a pool that starts a thread has fewer than core threads, or its queue is bounded and full
+pub started_when : (pool : PoolView) → answer pool ≡ offer.Started → (pool.threads < pool.core) ⊎ ((pool.unbounded ≡ false) × (pool.capacity ≤ length pool.queue))
 started_when pool e = grind (arith, common_steps)
 
 -- the outcome of a submit to a full pool is not `Started`, whether or not the pool may reject jobs
@@ -175,12 +190,14 @@ happens-lowered plan most s s' e o ordered between below (starts a body i k at r
 happens-lowered plan most s s' e o ordered between below (queues a body i k at at_core room) is_step =
     let q = pool_of plan k in
     queues a body i k (stands-lowered plan most s a body i (Some (action.Submit k)) at) (omega (arith, core-lowered plan most q))
-    (subst (λ (queue : ℕ). length (pool_part s q).queue < queue_limit queue (pool_part s q).idle) (sym (queue-lowered plan most q)) room)
+    (subst (λ (limit : ℕ). length (pool_part s q).queue < limit) (sym (room-lowered plan most q (pool_part s q).idle (length (pool_part s q).queue))) room)
 happens-lowered plan most s s' e o ordered between below (is_refused a body i k at must no_room all_started) is_step =
     let q = pool_of plan k in
     let inside = ordered.pools k (class_exists plan s a body i k ordered at) in
     let low = (between q inside).1 in
-    is_refused a body i k (stands-lowered plan most s a body i (Some (action.Submit k)) at) (may_reject-lowered plan most q ∙ must) (omega (arith, queue-lowered plan most q)) (omega (arith, max-lowered plan most q inside))
+    let full = no_room.1 in
+    is_refused a body i k (stands-lowered plan most s a body i (Some (action.Submit k)) at) (may_reject-lowered plan most q ∙ must)
+    (unbounded-lowered plan most q ∙ no_room.0, omega (arith, queue-lowered plan most q)) (omega (arith, max-lowered plan most q inside))
 happens-lowered plan most s s' e o ordered between below (is_rejected a body i k at may) is_step =
     is_rejected a body i k (stands-lowered plan most s a body i (Some (action.Submit k)) at) (may_reject-lowered plan most (pool_of plan k) ∙ may)
 happens-lowered plan most s s' e o ordered between below (gets a body i t j at is_child done) is_step = gets a body i t j (stands-lowered plan most s a body i (Some (action.Get t)) at) is_child done
@@ -188,4 +205,4 @@ happens-lowered plan most s s' e o ordered between below (finishes j body i at) 
 happens-lowered plan most s s' e o ordered between below (loops c client body i at is_client repeats) is_step = loops c client body i (stands-lowered plan most s (parent.Client c) body i None at) is_client repeats
 happens-lowered plan most s s' e o ordered between below (takes p j queue idle is_queue is_idle) is_step = takes p j queue idle is_queue is_idle
 happens-lowered plan most s s' e o ordered between below (retires p idle is_idle above_core not_handed) is_step =
-    retires p idle is_idle (omega (arith, core-lowered plan most p)) (λ none. not_handed (sym (queue-lowered plan most p) ∙ none))
+    retires p idle is_idle (omega (arith, core-lowered plan most p)) (λ bounded none. not_handed (sym (unbounded-lowered plan most p) ∙ bounded) (sym (queue-lowered plan most p) ∙ none))

@@ -1,4 +1,4 @@
--- Events that lead to a submit whose job a pool rejects, as the plan allows.
+-- Events that lead to a submit whose job a pool rejects, as the plan allows. There are none if the queue of the pool is unbounded.
 use Rattle.std.specs.Prelude.{◌≡◌, ℕ, ◌==◌, Bool, false, List, [], ◌∷◌, ◌++◌, Some, slice_set, max}
 use Rattle.support.specs.In.{In}
 use Rattle.job_bodies.specs.Plan.{Pool, Plan, pool_at}

@@ -1,8 +1,8 @@
 //! A best-first search for a violation. To expand a state is to visit its successors. Several
 //! measures take turns in selecting the next state to expand: the weight that was lost under a
-//! vector, the number of threads that do not wait, and the least room of a pool that must not reject
-//! jobs. A violation is permanent if it is a refused submit, or if jobs wait only for each other and no
-//! later event ends the wait.
+//! vector, the number of threads that do not wait, and the least room of a pool that may refuse a
+//! job. A violation is permanent if it is a refused submit, or if jobs wait only for each other and
+//! no later event ends the wait.
 
 use crate::branches::Branch;
 use crate::choices::Choices;

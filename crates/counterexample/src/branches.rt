@@ -44,10 +44,14 @@ impl<'a> Walk<'a> {
     /// Returns the branches from this state. A new client of a client kind is tried only if no
     /// earlier client of the kind is back at its first submit, because both would act alike. For
     /// the same reason, only one client of a kind is tried for its first submit. For each other
-    /// submit, at most [`MAX_ACTORS`] actors are tried.
+    /// submit, at most [`MAX_ACTORS`] actors are tried. A submit to an unbounded queue that is at its
+    /// limit is not tried.
     pub(crate) fn branches(&self, alloc: Global) -> Result<Vec<Branch>, AllocError> {
         let mut branches = Vec::new(alloc);
         for (place, (choice, ready)) in self.choices.all.iter().zip(&self.ready).enumerate() {
+            if self.choices.is_at_limit(&self.machine, place) {
+                continue;
+            }
             let ways = match *choice {
                 Choice::Begin(kind) => usize::from(self.has_more(kind) && !self.has_old(kind)),
                 Choice::Take(class) => usize::from(self.would_take(class)),
@@ -101,13 +105,13 @@ impl<'a> Walk<'a> {
         threads.saturating_sub(waiting)
     }
 
-    /// Returns the least room of a pool that must not reject jobs. The room is the number of
-    /// further jobs that the pool accepts if no thread takes a job from its queue before that.
-    /// Returns `u64::MAX` if there are no such pools.
+    /// Returns the least room of a pool that may refuse a job: its queue is bounded, and the pool
+    /// must not reject jobs. The room is the number of further jobs that the pool accepts if no
+    /// thread takes a job from its queue before that. Returns `u64::MAX` if there are no such pools.
     pub(crate) fn least_room(&self) -> u64 {
         let mut least = u64::MAX;
         for pool in &self.machine.pools {
-            if !pool.may_reject() {
+            if !pool.never_refuses() {
                 least = least.min(pool.room());
             }
         }

@@ -1,6 +1,7 @@
 //! The choices of a walk: what may happen next in a state.
 
 use crate::machine::Machine;
+use crate::queue_limits::{QueueLimit, QueueLimits};
 use job_bodies::{Action, Plan};
 use std::alloc::{AllocError, Global};
 use written_machine::Parent;
@@ -27,6 +28,9 @@ pub(crate) enum Choice {
 #[derive(Drop)]
 pub(crate) struct Choices {
     pub(crate) all: Vec<Choice>,
+    /// For each choice, the limit for its submit. `None` if it submits no job, or if the queue of
+    /// the job's pool is bounded.
+    limits: Vec<Option<QueueLimit>>,
     of_kinds: Vec<Vec<usize>>,
     of_classes: Vec<Vec<usize>>,
 }
@@ -36,11 +40,14 @@ impl Choices {
     pub(crate) fn of(alloc: Global, plan: &Plan) -> Result<Choices, AllocError> {
         let mut choices = Choices {
             all: Vec::new(alloc),
+            limits: Vec::new(alloc),
             of_kinds: Vec::new(alloc),
             of_classes: Vec::new(alloc),
         };
+        let limits = QueueLimits::of(alloc, plan)?;
         for (kind, client) in plan.clients().iter().enumerate() {
-            choices.all.push(Choice::Begin(kind))?;
+            let limit = first_submit(&client.body).and_then(|class| limits.for_clients(class));
+            choices.add(Choice::Begin(kind), limit)?;
             let mut places = Vec::new(alloc);
             let mut is_first = true;
             for action in &client.body {
@@ -49,17 +56,17 @@ impl Choices {
                 } else {
                     Choice::Later(kind)
                 };
-                let place = choices.add_submit(*action, choice)?;
+                let place = choices.add_submit(&limits, *action, choice)?;
                 is_first = is_first && place == NO_CHOICE;
                 places.push(place)?;
             }
             choices.of_kinds.push(places)?;
         }
         for (number, class) in plan.classes().iter().enumerate() {
-            choices.all.push(Choice::Take(number))?;
+            choices.add(Choice::Take(number), None)?;
             let mut places = Vec::new(alloc);
             for action in &class.body {
-                let place = choices.add_submit(*action, Choice::Inner(number))?;
+                let place = choices.add_submit(&limits, *action, Choice::Inner(number))?;
                 places.push(place)?;
             }
             choices.of_classes.push(places)?;
@@ -67,13 +74,41 @@ impl Choices {
         Ok(choices)
     }
 
-    fn add_submit(&mut self, action: Action, choice: Choice) -> Result<usize, AllocError> {
-        if let Action::Submit(_) = action {
+    fn add_submit(
+        &mut self,
+        limits: &QueueLimits,
+        action: Action,
+        choice: Choice,
+    ) -> Result<usize, AllocError> {
+        if let Action::Submit(class) = action {
             let place = self.all.len();
-            self.all.push(choice)?;
+            let limit = if let Choice::Inner(_) = choice {
+                limits.for_jobs(class)
+            } else {
+                limits.for_clients(class)
+            };
+            self.add(choice, limit)?;
             Ok(place)
         } else {
             Ok(NO_CHOICE)
+        }
+    }
+
+    fn add(&mut self, choice: Choice, limit: Option<QueueLimit>) -> Result<(), AllocError> {
+        self.all.push(choice)?;
+        self.limits.push(limit)?;
+        Ok(())
+    }
+
+    /// Returns `true` if the choice with this index submits a job to an unbounded queue that has
+    /// as many jobs as its limit.
+    pub(crate) fn is_at_limit(&self, machine: &Machine, place: usize) -> bool {
+        match self.limits.get(place).copied() {
+            Some(Some(limit)) => match machine.pools.get(limit.pool) {
+                Some(pool) => limit.jobs <= pool.queued().len() as u64,
+                None => false,
+            },
+            _ => false,
         }
     }
 
@@ -93,4 +128,14 @@ impl Choices {
         };
         rows.get(kind)?.get(position).copied()
     }
+}
+
+/// Returns the class of the first submit in this body, or `None` if it has no submit.
+fn first_submit(body: &[Action]) -> Option<usize> {
+    for action in body {
+        if let Action::Submit(class) = action {
+            return Some(*class);
+        }
+    }
+    None
 }

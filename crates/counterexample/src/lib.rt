@@ -6,7 +6,8 @@
 //! the search finds.
 //!
 //! A pool that may reject jobs, as the plan allows, refuses none: a submit that it rejects is an
-//! ordinary event of a witness. [`find_rejection`] searches for events that lead to a rejection.
+//! ordinary event of a witness. [`find_rejection`] searches for events that lead to a rejection. A
+//! pool whose queue is unbounded neither refuses nor rejects a job.
 #![tactic(auto)]
 
 mod best_first;
@@ -22,6 +23,7 @@ mod machine;
 mod no_thread_starts;
 mod orders;
 mod pools;
+mod queue_limits;
 mod rejections;
 mod replaying;
 mod replays;

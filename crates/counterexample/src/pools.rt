@@ -5,7 +5,7 @@ use std::alloc::{AllocError, Global};
 use std::collections::VecDeque;
 
 /// The response of a pool to an offered job. A full pool rejects the job if the plan allows the pool
-/// to reject jobs, and otherwise refuses it.
+/// to reject jobs, and otherwise refuses it. A pool whose queue is unbounded is never full.
 #[derive(Clone, Copy, PartialEq, Eq)]
 pub(crate) enum Admission {
     Started,
@@ -14,12 +14,20 @@ pub(crate) enum Admission {
     Refused,
 }
 
-/// A pool's sizes, its threads and its queue of job numbers.
+/// Returns the greatest number of threads that the pool can have: its maximum, or its core if its
+/// queue is unbounded.
+pub(crate) fn most_threads(pool: &Pool) -> u64 {
+    if pool.unbounded { pool.core } else { pool.max }
+}
+
+/// A pool's sizes, its threads and its queue of job numbers. If the queue is unbounded, `max` is
+/// the pool's core, and `capacity` has no effect.
 #[derive(Drop)]
 pub(crate) struct SearchPool {
     core: u64,
     max: u64,
     capacity: u64,
+    unbounded: bool,
     may_reject: bool,
     threads: u64,
     idle: u64,
@@ -32,8 +40,9 @@ impl SearchPool {
         let first = pool.first_workers();
         SearchPool {
             core: pool.core,
-            max: pool.max,
+            max: most_threads(pool),
             capacity: pool.queue,
+            unbounded: pool.unbounded,
             may_reject: pool.may_reject,
             threads: first,
             idle: first,
@@ -47,6 +56,7 @@ impl SearchPool {
             core: self.core,
             max: self.max,
             capacity: self.capacity,
+            unbounded: self.unbounded,
             may_reject: self.may_reject,
             threads: self.threads,
             idle: self.idle,
@@ -59,7 +69,7 @@ impl SearchPool {
     pub(crate) fn answer(&self) -> Admission {
         if self.threads < self.core {
             Admission::Started
-        } else if (self.queue.len() as u64) < self.queue_limit() {
+        } else if self.places() > 0 {
             Admission::Queued
         } else if self.threads < self.max {
             Admission::Started
@@ -70,14 +80,18 @@ impl SearchPool {
         }
     }
 
-    /// Returns the number of jobs that the queue can hold at most: its capacity, or the number of
-    /// idle threads if the capacity is 0.
-    fn queue_limit(&self) -> u64 {
-        if self.capacity == 0 {
+    /// Returns the number of further jobs for which the queue has room. A queue of capacity 0 can
+    /// hold a job for each idle thread. Returns `u64::MAX` if the queue is unbounded.
+    fn places(&self) -> u64 {
+        if self.unbounded {
+            return u64::MAX;
+        }
+        let limit = if self.capacity == 0 {
             self.idle
         } else {
             self.capacity
-        }
+        };
+        limit.saturating_sub(self.queue.len() as u64)
     }
 
     /// Offers the job with this number to the pool, and returns the pool's response.
@@ -130,16 +144,17 @@ impl SearchPool {
         self.threads.max(self.core)
     }
 
-    /// Returns `true` if the plan allows the pool to reject jobs.
-    pub(crate) fn may_reject(&self) -> bool {
-        self.may_reject
+    /// Returns `true` if the pool never refuses a job: the plan allows it to reject jobs, or its
+    /// queue is unbounded.
+    pub(crate) fn never_refuses(&self) -> bool {
+        self.may_reject || self.unbounded
     }
 
     /// Returns the number of further jobs that the pool accepts if no thread takes a job from the
-    /// queue before that.
+    /// queue before that. Returns `u64::MAX` if the queue is unbounded.
     pub(crate) fn room(&self) -> u64 {
-        let places = self.queue_limit().saturating_sub(self.queue.len() as u64);
-        places.saturating_add(self.max.saturating_sub(self.threads))
+        self.places()
+            .saturating_add(self.max.saturating_sub(self.threads))
     }
 
     /// Returns the numbers of the queued jobs, from the first to the last of the queue.

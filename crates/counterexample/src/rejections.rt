@@ -17,7 +17,8 @@ use std::alloc::{AllocError, Global};
 /// Returns the events up to the first rejection by the pool. Other pools may reject jobs before,
 /// but no submit is refused. Returns `None` if the search finds no such events, if the pool must
 /// not reject jobs, or if there is no such pool. If the search finds none, the pool may still
-/// reject jobs. The result is the same for each call with the same arguments.
+/// reject jobs. A pool whose queue is unbounded never rejects a job, so the result for it is `None`,
+/// without a search. The result is the same for each call with the same arguments.
 ///
 /// The search is a search for a witness against the plan in which this pool must not reject jobs and
 /// has a queue of at least 1. The events are replayed in the given plan.
@@ -39,7 +40,7 @@ pub fn find_rejection(
     let Some(own) = plan.pool_at(pool) else {
         return Ok(None);
     };
-    if !own.may_reject {
+    if !own.may_reject || own.unbounded {
         return Ok(None);
     }
     let refusing = refusing_plan(alloc, plan, pool)?;

@@ -8,6 +8,8 @@ ghost use Rattle.std.specs.Prelude.{◌≤◌, IfOk};
 use crate::best_first::{BestFirstResult, best_first};
 use crate::choices::Choices;
 use crate::orders::{FIXED_ORDERS, Rng, fixed_order, shuffle};
+use crate::pools::most_threads;
+use crate::queue_limits::most_queued;
 use crate::replays::Replay;
 use crate::scripts::Script;
 use crate::shorten::shorten_script;
@@ -63,6 +65,7 @@ pub fn search_witness(alloc: Global, plan: &Plan, states: usize) -> Result<Searc
         alloc,
         plan,
         choices: Choices::of(alloc, plan)?,
+        longest_walk: longest_walk(plan),
         rng: Rng::new(),
         left: states,
         reserved: 0,
@@ -82,6 +85,8 @@ struct Search<'a> {
     alloc: Global,
     plan: &'a Plan,
     choices: Choices,
+    /// The maximum number of states that one walk may visit.
+    longest_walk: usize,
     rng: Rng,
     /// The number of states that the search may still visit.
     left: usize,
@@ -258,7 +263,7 @@ impl Search<'_> {
         Ok(Rules {
             keys: fixed_order(self.alloc, &self.choices.all, number)?,
             max_active_clients: usize::MAX,
-            max_states: longest_walk(self.plan),
+            max_states: self.longest_walk,
             changing: false,
         })
     }
@@ -291,11 +296,19 @@ impl Search<'_> {
 }
 
 /// Returns the limit on the number of states that one walk visits: 12 times the sum of the maximums
-/// and queue capacities of all pools, plus 128.
+/// and queue capacities of all pools, plus 128. For an unbounded queue, the capacity is the number
+/// of jobs that a search puts into it at most.
 fn longest_walk(plan: &Plan) -> usize {
     let mut room = 0u64;
-    for pool in plan.pools() {
-        room = room.saturating_add(pool.max).saturating_add(pool.queue);
+    for (number, pool) in plan.pools().iter().enumerate() {
+        let places = if pool.unbounded {
+            most_queued(plan, number)
+        } else {
+            pool.queue
+        };
+        room = room
+            .saturating_add(most_threads(pool))
+            .saturating_add(places);
     }
     room.saturating_mul(12).saturating_add(128) as usize
 }

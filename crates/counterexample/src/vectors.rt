@@ -1,6 +1,7 @@
 //! The vectors whose totals exceed the bounds that the plan's sizes set. The standing vector of a
 //! pool bounds the number of its queued jobs, and its blocked vector bounds the number of its jobs
-//! that wait for other jobs. A pool that may reject jobs needs no standing vector.
+//! that wait for other jobs. A pool that may reject jobs, or whose queue is unbounded, needs no
+//! standing vector.
 
 use job_bodies::Plan;
 use least_vectors::{Kind, Levels, ResizedPlan, reach};
@@ -34,7 +35,7 @@ pub(crate) fn missed_vectors(alloc: Global, plan: &Plan) -> Result<Vec<Potential
         maxes: &maxes,
     };
     for (number, pool) in plan.pools().iter().enumerate() {
-        if !pool.may_reject {
+        if !pool.needs_no_bound() {
             vectors.holds(&growing, number, Kind::Standing, pool.queue)?;
         }
     }

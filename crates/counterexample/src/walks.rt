@@ -232,14 +232,16 @@ impl<'a> Walk<'a> {
     /// Returns the index of the possible choice that loses the least weight under the vector
     /// `potential`, or `None` if no choice is possible. Among equal losses, returns the choice with
     /// the least key. Without a vector, every loss counts as 0. Returns a choice in `rejected` only
-    /// if no other choice is possible.
+    /// if no other choice is possible. Never returns a submit to an unbounded queue that is at its
+    /// limit.
     fn first_possible(&self, rules: &Rules, potential: Option<&Potential>) -> Option<usize> {
         let mut best = None;
         let mut least = u64::MAX;
         let mut least_is_late = true;
         let choices = self.choices.all.iter().zip(&rules.keys).zip(&self.ready);
         for (place, ((choice, key), ready)) in choices.enumerate() {
-            if !self.is_possible(rules, *choice, ready) {
+            let is_possible = self.is_possible(rules, *choice, ready);
+            if !is_possible || self.choices.is_at_limit(&self.machine, place) {
                 continue;
             }
             let lost = match potential {

@@ -10,14 +10,24 @@ zero_hint key =
     else (if bytes_eq key (codes "core") then codes "; write the number of threads that you want (docs/PATTERNS.md)"
     else codes "")
 
+-- the key of a size that can be unbounded
+abbrev pub can_be_unbounded : List ℕ → Bool
+can_be_unbounded key = bytes_eq key (codes "max") || bytes_eq key (codes "queue")
+
 abbrev pub names_no_limit : List ℕ → Bool
-names_no_limit text =
-    bytes_eq text (codes "unbounded") || (bytes_eq text (codes "unlimited") || (bytes_eq text (codes "infinite") || bytes_eq text (codes "none")))
+names_no_limit text = bytes_eq text (codes "unlimited") || (bytes_eq text (codes "infinite") || bytes_eq text (codes "none"))
 
 -- the end of the message for a text in place of a number
 abbrev pub no_limit_hint : List ℕ → List ℕ → List ℕ
-no_limit_hint key text =
-    if bytes_eq key (codes "queue") && names_no_limit text then codes "; write the longest queue that you allow (docs/PATTERNS.md)" else codes ""
+no_limit_hint key text = if can_be_unbounded key && names_no_limit text then codes "; did you mean \"unbounded\"?" else codes ""
+
+-- the end of the message for a maximum without a bound over a queue with a capacity
+abbrev pub unbounded_max_hint : List ℕ
+unbounded_max_hint = codes "; max = \"unbounded\" needs queue = \"unbounded\""
+
+-- the end of the message for a maximum that is less than core, of a pool whose queue is unbounded or not
+abbrev pub max_hint : Bool → List ℕ
+max_hint is_unbounded = if is_unbounded then codes "; with queue = \"unbounded\" you can write max = \"unbounded\"" else codes ""
 
 -- the hint if the first line of a text is that of a recording or of a certificate
 abbrev pub kind_hint : List ℕ → Option (List ℕ)
@@ -30,8 +40,8 @@ kind_hint line =
 abbrev pub word_hint : List ℕ → Option (List ℕ)
 word_hint key =
     if bytes_eq key (codes "name") || bytes_eq key (codes "pool") then Some (codes "write quotes around the value, as in pool = \"web\"")
-    else (if bytes_eq key (codes "core") || (bytes_eq key (codes "max") || bytes_eq key (codes "count")) then Some (codes "write a number")
-    else (if bytes_eq key (codes "queue") then Some (codes "write a number, the longest queue that you allow")
+    else (if bytes_eq key (codes "core") || bytes_eq key (codes "count") then Some (codes "write a number")
+    else (if bytes_eq key (codes "max") || bytes_eq key (codes "queue") then Some (codes "write a number, or \"unbounded\" with its quotes")
     else (if bytes_eq key (codes "repeat") || (bytes_eq key (codes "prestart") || bytes_eq key (codes "may_reject")) then Some (codes "write true or false")
     else None)))
 

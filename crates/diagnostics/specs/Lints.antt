@@ -5,14 +5,14 @@ use Rattle.job_bodies.specs.declared.action.Action.{Action}
 use Rattle.job_bodies.specs.declared.action.Action.TheVariants.{Work, Submit}
 use Rattle.job_bodies.specs.declared.fault.Part.{Part}
 use Rattle.job_bodies.specs.declared.fault.Part.TheVariants as part
-use Rattle.job_bodies.specs.Plan.{Pool, Class, Client, Plan, pool_at, class_at}
-use Rattle.size_search.specs.ByClients.{MarksSubmitted}
+use Rattle.job_bodies.specs.Plan.{Pool, Class, Client, Plan, pool_at, class_at, needs_no_bound, has_get_of}
+use Rattle.size_search.specs.ByClients.{MarksSubmitted, MarksRepeated}
 use Rattle.size_search.specs.declared.cause.Cause.{Cause}
 use Rattle.size_search.specs.declared.cause.Cause.TheVariants.{Circle, ClientNeverGets, ClassNeverGets}
 use Rattle.size_search.specs.Causes.{IsCause}
 use Rattle.size_search.specs.Submitted.{IsWithoutCause}
 use Rattle.diagnostics.specs.declared.lint.Lint.{Lint}
-use Rattle.diagnostics.specs.declared.lint.Lint.TheVariants.{SafeAtCore, SubmitsItself, NeverGot, NothingToAsk, NoClients, NothingSubmitted, PoolWithoutJobs, UselessMax, UselessMayReject, QueueFarAbove, ClassWithoutJobs, RunInCaller, GoesOnce, Crowd, WorkLikeASize, OpenFuture}
+use Rattle.diagnostics.specs.declared.lint.Lint.TheVariants.{SafeAtCore, SubmitsItself, NeverGot, NothingToAsk, NoClients, NothingSubmitted, PoolWithoutJobs, UselessMax, UselessMayReject, NeverRejects, QueueFarAbove, ClassWithoutJobs, RunInCaller, GoesOnce, Crowd, WorkLikeASize, OpenFuture, QueueMayGrow}
 use Rattle.diagnostics.specs.declared.warnings.Warning.{Warning}
 use Rattle.diagnostics.specs.OpenFutures.{has_open_future}
 
@@ -23,9 +23,9 @@ only_if false lint = []
 
 -- ---- lengths of work that look like sizes
 
--- the number is the core size, the maximum or the queue capacity of the pool
+-- the number is the core size of the pool or, unless its queue is unbounded, its maximum or its queue capacity
 abbrev pub has_size : ℕ → Pool → Bool
-has_size n pool = pool.core == n || pool.max == n || pool.queue == n
+has_size n pool = pool.core == n || not pool.unbounded && (pool.max == n || pool.queue == n)
 
 abbrev pub has_count : ℕ → Client → Bool
 has_count n client = client.count == n
@@ -40,10 +40,10 @@ looks_like_a_size plan units = nat_le 50 units && is_a_size plan units
 
 -- ---- submits to pools that may reject jobs
 
--- the pool's queue holds all jobs that can be in it at once, and their number is known
+-- the pool's queue is unbounded, or it holds all jobs that can be in it at once, and their number is known
 abbrev pub holds_all : Pool → Option ℕ → Bool
-holds_all pool None = false
-holds_all pool (Some most) = nat_le most pool.queue
+holds_all pool None = pool.unbounded
+holds_all pool (Some most) = pool.unbounded || nat_le most pool.queue
 
 -- pool p may reject jobs by the plan, and it is not known that it never does
 abbrev pub may_reject_jobs : Plan → List (Option ℕ) → ℕ → Bool
@@ -74,9 +74,9 @@ brings_jobs marks p k class = slice_index_or marks k false && class.pool == p
 abbrev pub gets_a_job : Plan → List Bool → ℕ → Bool
 gets_a_job plan marks p = list_any (λ (entry : ℕ × Class). brings_jobs marks p entry.0 entry.1) (enumerate_from 0 plan.classes)
 
--- the pool's maximum is above its core size
+-- the pool's maximum is above its core size, and has an effect if the queue can be full, because the queue is not unbounded
 abbrev pub may_grow : Pool → Bool
-may_grow pool = nat_lt pool.core pool.max
+may_grow pool = not pool.unbounded && nat_lt pool.core pool.max
 
 -- a tenth of the queue's capacity is more than `most` jobs, and more than 1
 abbrev pub is_far_above : Pool → ℕ → Bool
@@ -95,10 +95,14 @@ abbrev pub lints_of_known_sizes : ℕ → Pool → ℕ → List Lint
 lints_of_known_sizes p pool most =
     only_if (has_useless_max pool most) (UselessMax p) ++ (only_if (never_rejects pool most) (UselessMayReject p most) ++ only_if (is_far_above pool most) (QueueFarAbove p most))
 
--- the lints of a pool by the maximum number of jobs in its queue; none if it is not known
+-- the lints of a pool with a bounded queue by the maximum number of jobs in its queue; none if it is not known
+abbrev pub lints_of_bounded : ℕ → Pool → Option ℕ → List Lint
+lints_of_bounded p pool None = []
+lints_of_bounded p pool (Some most) = lints_of_known_sizes p pool most
+
+-- the same for each pool; of one with an unbounded queue, which never rejects, only the key `may_reject` can have no effect
 abbrev pub lints_of_sizes : ℕ → Pool → Option ℕ → List Lint
-lints_of_sizes p pool None = []
-lints_of_sizes p pool (Some most) = lints_of_known_sizes p pool most
+lints_of_sizes p pool most = if pool.unbounded then only_if pool.may_reject (NeverRejects p) else lints_of_bounded p pool most
 
 abbrev pub lints_of_pool : Plan → List (Option ℕ) → List Bool → ℕ → Pool → List Lint
 lints_of_pool plan needed marks p pool = if gets_a_job plan marks p then lints_of_sizes p pool (slice_index_or needed p None) else PoolWithoutJobs p ∷ []
@@ -130,17 +134,17 @@ lints_of_classes plan needed marks = flat_map (λ (entry : ℕ × Class). lints_
 
 -- ---- client kinds
 
--- the pool has one core thread and a queue with fewer places than `count`, and must not reject
+-- the pool has one core thread and a bounded queue with fewer places than `count`, and must not reject
 abbrev pub is_small : ℕ → Pool → Bool
-is_small count pool = pool.core == 1 && nat_lt pool.queue count && not pool.may_reject
+is_small count pool = pool.core == 1 && nat_lt pool.queue count && not (needs_no_bound pool)
 
--- the action is no submit, or submits to a pool with one core thread whose queue has fewer places than `count` and that must not reject
+-- the action is no submit, or submits to a pool with one core thread whose bounded queue has fewer places than `count` and that must not reject
 abbrev pub is_for_small : Plan → ℕ → Action → Bool
 is_for_small plan count (Submit k) = is_small count (pool_at plan (class_at plan k).pool)
 is_for_small plan count _ = true
 
--- the clients of this kind submit jobs, and only to pools that must not reject and have one core thread and a queue with fewer places than
--- there are clients of the kind
+-- the clients of this kind submit jobs, and only to pools that must not reject and have one core thread and a bounded queue with fewer places
+-- than there are clients of the kind
 abbrev pub are_a_crowd : Plan → Client → Bool
 are_a_crowd plan client = list_any is_submit client.body && list_all (is_for_small plan client.count) client.body
 
@@ -177,21 +181,55 @@ abbrev pub lints_of_cause : Option Cause → List Lint
 lints_of_cause None = []
 lints_of_cause (Some cause) = lint_of_cause cause ∷ []
 
+-- ---- unbounded queues that may grow without limit
+
+-- the action at position i of the body submits a job to a pool with an unbounded queue, and the body has no get of it
+abbrev pub fills_queue : Plan → List Action → ℕ → Action → Bool
+fills_queue plan body i (Submit k) = (pool_at plan (class_at plan k).pool).unbounded && not (has_get_of body i)
+fills_queue plan body i _ = false
+
+-- the lints of the submits of a body that clients cause again and again
+abbrev pub growing_of_body : Plan → Part → ℕ → List Action → List Lint
+growing_of_body plan of number body = flat_map (λ (entry : ℕ × Action). only_if (fills_queue plan body entry.0 entry.1) (QueueMayGrow of number entry.0)) (enumerate_from 0 body)
+
+-- those of a class, if repeating clients submit it, directly or through other jobs
+abbrev pub growing_of_class : Plan → List Bool → ℕ → Class → List Lint
+growing_of_class plan repeated k class = if slice_index_or repeated k false then growing_of_body plan part.Class k class.body else []
+
+-- those of a client kind, if it repeats
+abbrev pub growing_of_client : Plan → ℕ → Client → List Lint
+growing_of_client plan c client = if client.repeat then growing_of_body plan part.Client c client.body else []
+
+abbrev pub growing_of_classes : Plan → List Bool → List Lint
+growing_of_classes plan repeated = flat_map (λ (entry : ℕ × Class). growing_of_class plan repeated entry.0 entry.1) (enumerate_from 0 plan.classes)
+
+abbrev pub growing_of_clients : Plan → List Lint
+growing_of_clients plan = flat_map (λ (entry : ℕ × Client). growing_of_client plan entry.0 entry.1) (enumerate_from 0 plan.clients)
+
+-- the lints of all submits to unbounded queues that repeating clients cause and that are never got. For each class, `repeated` has whether
+-- repeating clients submit it
+abbrev pub growing_lints : Plan → List Bool → List Lint
+growing_lints plan repeated = growing_of_classes plan repeated ++ growing_of_clients plan
+
 -- ---- all
 
--- whether the plan is safe with each maximum lowered to its core, then the cause if there is one, and then the other lints
-abbrev pub all_lints : Plan → List (Option ℕ) → Bool → Option Cause → List Bool → List Lint
-all_lints plan needed safe_at_core cause marks = only_if safe_at_core SafeAtCore ++ lints_of_cause cause ++ lints plan needed marks
+-- whether the plan is safe with each maximum lowered to its core, then the cause if there is one, then the unbounded queues that may grow
+-- without limit, and then the other lints
+abbrev pub all_lints : Plan → List (Option ℕ) → Bool → Option Cause → List Bool → List Bool → List Lint
+all_lints plan needed safe_at_core cause marks repeated =
+    only_if safe_at_core SafeAtCore ++ lints_of_cause cause ++ growing_lints plan repeated ++ lints plan needed marks
 
--- the list has the lints of the plan, if the marked classes are those that clients submit, directly or through other jobs, and the cause
--- is one of the plan. There is none only if the plan has no cause
+-- the list has the lints of the plan, if the marked classes are those that clients submit, directly or through other jobs, the repeated
+-- ones those that repeating clients submit, and the cause is one of the plan. There is no cause only if the plan has none
 pub record AreLints (plan : Plan) (needed : List (Option ℕ)) (safe_at_core : Bool) (found : List Lint) : Type 0 where
   pub marks : List Bool
   pub submitted : MarksSubmitted plan marks
+  pub repeated : List Bool
+  pub submitted_repeatedly : MarksRepeated plan repeated
   pub cause : Option Cause
   pub is_cause : IfSome cause (IsCause plan)
   pub none : IfNone cause (IsWithoutCause plan)
-  pub is : found ≡ all_lints plan needed safe_at_core cause marks
+  pub is : found ≡ all_lints plan needed safe_at_core cause marks repeated
 
 -- the lint is a note: whether it matters depends on the handler of a pool or on the code around a submit, which no plan has
 abbrev pub is_note : Lint → Bool

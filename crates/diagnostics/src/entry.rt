@@ -10,6 +10,9 @@ use toml::{Table, Value};
 /// The beginning of a text.
 pub(crate) const BEGINNING: TextPlace = TextPlace { line: 1, column: 1 };
 
+/// The text in place of a number at a size that has no bound.
+pub(crate) const UNBOUNDED: &str = "unbounded";
+
 /// Returns the key of the list for entries of this kind, such as `pool`, or `plan` for the whole
 /// text. Messages use it as the name of the kind.
 pub(crate) fn list_of(part: Part) -> &'static str {
@@ -52,6 +55,11 @@ impl<'a> PlacedEntry<'a> {
             Some(value) => value.as_integer(),
             None => None,
         }
+    }
+
+    /// Returns whether the value of the key is the string `unbounded`.
+    pub(crate) fn is_unbounded(&self, key: &str) -> bool {
+        self.text(key) == Some(UNBOUNDED)
     }
 
     /// Returns whether the value of the key is `true`.

@@ -15,23 +15,48 @@ pub(crate) fn zero_hint(key: &str) -> &'static str
     }
 }
 
-/// Returns the end of the message for a string in place of a number. If the key is `queue` and the
-/// string asks for a queue without a bound, such as `unbounded`, the end says what to write
-/// instead. Otherwise it is empty.
+/// Returns the end of the message for a string in place of a number. If the key is `max` or `queue`
+/// and the string asks for a size without a bound in other words than `unbounded`, such as
+/// `unlimited`, the end says what to write instead. Otherwise it is empty.
 pub(crate) fn no_limit_hint(key: &str, text: &str) -> &'static str
     ensures { result.now ≡ spec.no_limit_hint key.now text.now }
 {
-    if key == "queue" && names_no_limit(text) {
-        "; write the longest queue that you allow (docs/PATTERNS.md)"
+    if can_be_unbounded(key) && names_no_limit(text) {
+        "; did you mean \"unbounded\"?"
     } else {
         ""
     }
 }
 
+fn can_be_unbounded(key: &str) -> bool
+    ensures { result ≡ spec.can_be_unbounded key.now }
+{
+    matches!(key, "max" | "queue")
+}
+
 fn names_no_limit(text: &str) -> bool
     ensures { result ≡ spec.names_no_limit text.now }
 {
-    matches!(text, "unbounded" | "unlimited" | "infinite" | "none")
+    matches!(text, "unlimited" | "infinite" | "none")
+}
+
+/// Returns the end of the message for a maximum without a bound over a queue with a capacity.
+pub(crate) fn unbounded_max_hint() -> &'static str
+    ensures { result.now ≡ spec.unbounded_max_hint }
+{
+    "; max = \"unbounded\" needs queue = \"unbounded\""
+}
+
+/// Returns the end of the message for a maximum that is less than the core size. If the queue is
+/// unbounded, the end says that the maximum can be, too. Otherwise it is empty.
+pub(crate) fn max_hint(is_unbounded: bool) -> &'static str
+    ensures { result.now ≡ spec.max_hint is_unbounded }
+{
+    if is_unbounded {
+        "; with queue = \"unbounded\" you can write max = \"unbounded\""
+    } else {
+        ""
+    }
 }
 
 /// Returns a hint if `line`, the first line of a text, shows that the text is a recording or JSON,
@@ -55,8 +80,8 @@ pub(crate) fn word_hint(key: &str) -> Option<&'static str>
 {
     match key {
         "name" | "pool" => Some("write quotes around the value, as in pool = \"web\""),
-        "core" | "max" | "count" => Some("write a number"),
-        "queue" => Some("write a number, the longest queue that you allow"),
+        "core" | "count" => Some("write a number"),
+        "max" | "queue" => Some("write a number, or \"unbounded\" with its quotes"),
         "repeat" | "prestart" | "may_reject" => Some("write true or false"),
         _ => None,
     }

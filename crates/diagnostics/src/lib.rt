@@ -16,6 +16,7 @@ mod control_characters;
 mod diagnostic;
 mod entry;
 mod entry_places;
+mod growing_queues;
 mod hints;
 mod line_laws;
 mod lint;

@@ -33,6 +33,8 @@ pub enum Lint {
     /// The plan says that this pool may reject jobs, but it never does: its queue holds the second
     /// field, which is the maximum number of jobs in the queue at once.
     UselessMayReject(usize, u64),
+    /// The plan says that this pool may reject jobs, but it never does: its queue is unbounded.
+    NeverRejects(usize),
     /// The queue capacity of this pool is more than ten times the second field, which is the
     /// maximum number of jobs in the queue at once.
     QueueFarAbove(usize, u64),
@@ -54,6 +56,11 @@ pub enum Lint {
     /// open: a job was submitted before, and its get comes later. The fields are: whether it is a
     /// class or a client kind, its number, and the number of the action.
     OpenFuture(Part, usize, usize),
+    /// The body of a class or client kind submits a job to a pool with an unbounded queue, and has no
+    /// get of it. Repeating clients cause such submits again and again, so the queue may grow without
+    /// limit. The fields are: whether it is a class or a client kind, its number, and the number of
+    /// the action.
+    QueueMayGrow(Part, usize, usize),
     /// A given certificate does not accept the plan. This is not a lint of the plan itself, and the
     /// caller that reports it provides the message.
     StaleCertificate,

@@ -6,7 +6,7 @@ ghost use Rattle.job_bodies.specs.Plan.{pool_at, class_at};
 ghost use Rattle.diagnostics.specs.Lints as spec;
 
 use crate::open_futures::has_open_future;
-use job_bodies::{Action, Class, Client, Plan, Pool};
+use job_bodies::{Action, Class, Client, Plan, Pool, has_get_of};
 
 /// The number by which [`is_far_above`] divides a queue's capacity before it compares the capacity
 /// with the maximum number of jobs in the queue.
@@ -61,11 +61,12 @@ fn brings_jobs(marks: &[bool], number: usize, class: &Class, pool: usize) -> boo
     is_submitted(marks, number) && class.pool == pool
 }
 
-/// Returns whether the pool's maximum is above its core size.
+/// Returns whether the pool's maximum is above its core size. Returns false if its queue is
+/// unbounded, since its maximum then has no effect.
 pub(crate) fn may_grow(pool: &Pool) -> bool
     ensures { result ≡ spec.may_grow pool.now }
 {
-    pool.core < pool.max
+    !pool.unbounded && pool.core < pool.max
 }
 
 /// Returns whether the pool's maximum is above its core size, but has no effect, because the queue
@@ -136,19 +137,45 @@ fn may_reject_jobs(plan: &Plan, needed: &[Option<u64>], number: usize) -> bool
     }
 }
 
-/// Returns whether the pool's queue holds all jobs that can be in it at once. `most` is their
-/// number. Returns `false` if it is `None`, because the number is not known.
+/// Returns whether the pool's queue holds all jobs that can be in it at once. An unbounded queue
+/// does. `most` is the number of these jobs. For a bounded queue returns `false` if it is `None`,
+/// because the number is not known.
 fn holds_all(pool: &Pool, most: Option<u64>) -> bool
     ensures { result ≡ spec.holds_all pool.now most }
 {
     match most {
-        Some(most) => most <= pool.queue,
+        Some(most) => pool.unbounded || most <= pool.queue,
+        None => pool.unbounded,
+    }
+}
+
+/// Returns whether the action at this position of the body submits a job to a pool with an unbounded
+/// queue, and the body has no get of it.
+pub(crate) fn fills_queue(plan: &Plan, body: &[Action], position: usize, action: Action) -> bool
+    ensures { result ≡ spec.fills_queue plan.now body.now position action }
+{
+    match action {
+        Action::Submit(class) => {
+            is_unbounded(plan, pool_of(plan, class)) && !has_get_of(body, position)
+        }
+        Action::Work(_) | Action::Get(_) => false,
+    }
+}
+
+/// Returns whether the queue of the pool with this number is unbounded. Returns `false` if there is
+/// no such pool.
+fn is_unbounded(plan: &Plan, number: usize) -> bool
+    ensures { result ≡ (pool_at plan.now number).unbounded }
+{
+    match plan.pool_at(number) {
+        Some(pool) => pool.unbounded,
         None => false,
     }
 }
 
 /// Returns whether the clients of this kind submit jobs, and each pool to which they submit must not
-/// reject, has one core thread, and has a queue capacity below the number of these clients.
+/// reject, has one core thread, and has a bounded queue with a capacity below the number of these
+/// clients.
 pub(crate) fn are_a_crowd(plan: &Plan, client: &Client) -> bool
     ensures { result ≡ spec.are_a_crowd plan.now client.now }
 {
@@ -174,7 +201,7 @@ fn submits_to_small_alone(plan: &Plan, count: u64, body: &[Action]) -> bool
 }
 
 /// Returns whether the action is not a submit, or submits a job to a pool that must not reject, with
-/// one core thread and a queue capacity below `count`.
+/// one core thread and a bounded queue with a capacity below `count`.
 fn is_for_small(plan: &Plan, count: u64, action: Action) -> bool
     ensures { result ≡ spec.is_for_small plan.now count action }
 {
@@ -203,12 +230,12 @@ fn is_small_at(plan: &Plan, count: u64, pool: usize) -> bool
     }
 }
 
-/// Returns whether the pool must not reject, has one core thread, and has a queue capacity below
-/// `count`.
+/// Returns whether the pool must not reject, has one core thread, and has a bounded queue with a
+/// capacity below `count`.
 fn is_small(count: u64, pool: &Pool) -> bool
     ensures { result ≡ spec.is_small count pool.now }
 {
-    pool.core == 1 && pool.queue < count && !pool.may_reject
+    pool.core == 1 && pool.queue < count && !pool.needs_no_bound()
 }
 
 /// Returns whether the length of a `work` is at least 50 units, and equals a size of a pool or the
@@ -232,10 +259,12 @@ fn is_size_of_any(pools: &[Pool], number: u64) -> bool
     pools.iter().any(|pool| has_size(pool, number))
 }
 
+/// Returns whether the number is a size of the pool. Only the core size of a pool with an unbounded
+/// queue counts.
 fn has_size(pool: &Pool, number: u64) -> bool
     ensures { result ≡ spec.has_size number pool.now }
 {
-    pool.core == number || pool.max == number || pool.queue == number
+    pool.core == number || !pool.unbounded && (pool.max == number || pool.queue == number)
 }
 
 fn is_count_of_any(clients: &[Client], number: u64) -> bool

@@ -3,13 +3,14 @@
 ghost use Rattle.std.specs.Prelude.{◌≡◌, ◌++◌, IfOk, OnOk};
 ghost use Rattle.diagnostics.specs.Lints as spec;
 
+use crate::growing_queues::push_growing;
 use crate::lint::Lint;
 use crate::lint_conditions::{
     are_a_crowd, gets_a_job, has_useless_max, is_any_submitted, is_far_above, is_submitted,
     leaves_a_future, looks_like_a_size, may_run_in_caller, most_at, never_rejects,
 };
 use job_bodies::{Action, Class, Client, Part, Plan, Pool};
-use size_search::{Cause, cause_of, submitted_by_clients};
+use size_search::{Cause, cause_of, submitted_by_clients, submitted_repeatedly};
 use std::alloc::{AllocError, Global};
 
 /// Returns the lints of the plan. `needed` has, for each pool, the maximum number of jobs in its
@@ -26,12 +27,22 @@ pub(crate) fn lints_of(
 {
     let cause = cause_of(alloc, plan)?;
     let marks = submitted_by_clients(alloc, plan)?;
-    lints_with(alloc, plan, needed, is_safe_at_core, cause, &marks)
+    let repeated = submitted_repeatedly(alloc, plan)?;
+    lints_with(
+        alloc,
+        plan,
+        needed,
+        is_safe_at_core,
+        cause,
+        &marks,
+        &repeated,
+    )
 }
 
 /// Returns the lints of the plan. `needed` and `is_safe_at_core` are as in [`lints_of`]. `cause` is
 /// a reason why no certificate accepts the plan, whatever its sizes, or `None` if there is no such
-/// reason. `marks` has, for each class, whether clients submit it, directly or through other jobs.
+/// reason. `marks` has, for each class, whether clients submit it, directly or through other jobs,
+/// and `repeated` whether repeating clients do.
 fn lints_with(
     alloc: Global,
     plan: &Plan,
@@ -39,12 +50,21 @@ fn lints_with(
     is_safe_at_core: bool,
     cause: Option<Cause>,
     marks: &[bool],
+    repeated: &[bool],
 ) -> Result<Vec<Lint>, AllocError>
-    ensures { IfOk result (λ found.
-        found.items ≡ spec.all_lints plan.now needed.now is_safe_at_core cause marks.now) }
+    ensures { IfOk result (λ found. found.items
+        ≡ spec.all_lints plan.now needed.now is_safe_at_core cause marks.now repeated.now) }
 {
     let mut found = Vec::new(alloc);
-    push_all(&mut found, plan, needed, is_safe_at_core, cause, marks)?;
+    push_all(
+        &mut found,
+        plan,
+        needed,
+        is_safe_at_core,
+        cause,
+        marks,
+        repeated,
+    )?;
     Ok(found)
 }
 
@@ -55,13 +75,14 @@ fn push_all(
     is_safe_at_core: bool,
     cause: Option<Cause>,
     marks: &[bool],
+    repeated: &[bool],
 ) -> Result<(), AllocError>
-    ensures { OnOk result
-        (found.new.items
-        ≡ found.old.items ++ spec.all_lints plan.now needed.now is_safe_at_core cause marks.now) }
+    ensures { OnOk result (found.new.items ≡ found.old.items
+        ++ spec.all_lints plan.now needed.now is_safe_at_core cause marks.now repeated.now) }
 {
     push_if(found, is_safe_at_core, Lint::SafeAtCore)?;
     push_cause(found, cause)?;
+    push_growing(found, plan, repeated)?;
     push_plan(found, plan, needed, marks)
 }
 
@@ -170,9 +191,8 @@ fn push_pool(
     }
 }
 
-/// Appends a lint if the pool's maximum has no effect, one if its key `may_reject` has none, and one
-/// if its queue capacity is far above `most`, the maximum number of jobs in the queue at once.
-/// Appends none if `most` is `None`.
+/// Appends the lints of the pool's sizes and of its key `may_reject`. Of a pool with an unbounded
+/// queue, only that key can have no effect.
 fn push_sizes(
     found: &mut Vec<Lint>,
     number: usize,
@@ -181,6 +201,25 @@ fn push_sizes(
 ) -> Result<(), AllocError>
     ensures { OnOk result
         (found.new.items ≡ found.old.items ++ spec.lints_of_sizes number pool.now most) }
+{
+    if pool.unbounded {
+        push_if(found, pool.may_reject, Lint::NeverRejects(number))
+    } else {
+        push_bounded(found, number, pool, most)
+    }
+}
+
+/// Appends a lint if the pool's maximum has no effect, one if its key `may_reject` has none, and one
+/// if its queue capacity is far above `most`, the maximum number of jobs in the queue at once.
+/// Appends none if `most` is `None`.
+fn push_bounded(
+    found: &mut Vec<Lint>,
+    number: usize,
+    pool: &Pool,
+    most: Option<u64>,
+) -> Result<(), AllocError>
+    ensures { OnOk result
+        (found.new.items ≡ found.old.items ++ spec.lints_of_bounded number pool.now most) }
 {
     match most {
         None => Ok(()),
@@ -332,7 +371,7 @@ fn push_action(
 }
 
 /// Appends the lint if `is_there` is true.
-fn push_if(found: &mut Vec<Lint>, is_there: bool, lint: Lint) -> Result<(), AllocError>
+pub(crate) fn push_if(found: &mut Vec<Lint>, is_there: bool, lint: Lint) -> Result<(), AllocError>
     ensures { OnOk result (found.new.items ≡ found.old.items ++ spec.only_if is_there lint) }
 {
     if is_there {

@@ -3,7 +3,7 @@
 use crate::collector::FaultCollector;
 use crate::diagnostic::NumberRange;
 use crate::entry::PlacedEntry;
-use crate::hints::zero_hint;
+use crate::hints::{max_hint, unbounded_max_hint, zero_hint};
 use job_bodies::MAX_SIZE;
 use std::alloc::AllocError;
 use support::number::BAD_NUMBER;
@@ -63,11 +63,14 @@ fn report_number(
 }
 
 /// Reports the sizes of a pool that are out of range, or its maximum if it is less than its core
-/// size.
+/// size. A maximum without a bound is out of range if the queue has a capacity.
 pub(crate) fn sizes(
     collector: &mut FaultCollector,
     pool: &PlacedEntry<'_>,
 ) -> Result<(), AllocError> {
+    if pool.is_unbounded("max") && pool.number("queue").is_some() {
+        unbounded_max(collector, pool)?;
+    }
     if out_of_range(collector, pool, &["core", "max", "queue"])? {
         return Ok(());
     }
@@ -80,14 +83,38 @@ pub(crate) fn sizes(
     Ok(())
 }
 
+/// Reports a maximum without a bound, in a pool whose queue has a capacity.
+fn unbounded_max(collector: &mut FaultCollector, pool: &PlacedEntry<'_>) -> Result<(), AllocError> {
+    let low = least_max(pool);
+    let hint = unbounded_max_hint();
+    let words = format!(in collector.alloc;
+        "max is \"unbounded\", but must be from {low} to {MOST}{hint}"
+    )?;
+    let range = NumberRange {
+        low,
+        high: MAX_SIZE,
+    };
+    let place = pool.value_place("max");
+    pool.report_with_range(collector, BAD_NUMBER, place, &words, Some(range))
+}
+
+/// Returns the least valid maximum of the pool: its core size, or 1 if the core size is not valid.
+fn least_max(pool: &PlacedEntry<'_>) -> u64 {
+    match pool.number("core") {
+        Some(core) if is_in_range(1, core) => core.unsigned_abs(),
+        _ => 1,
+    }
+}
+
 fn max_below_core(
     collector: &mut FaultCollector,
     pool: &PlacedEntry<'_>,
     core: i64,
     max: i64,
 ) -> Result<(), AllocError> {
+    let hint = max_hint(pool.is_unbounded("queue"));
     let words = format!(in collector.alloc;
-        "max {max} is less than core {core}, but must be from {core} to {MOST}"
+        "max {max} is less than core {core}, but must be from {core} to {MOST}{hint}"
     )?;
     let range = NumberRange {
         low: core.unsigned_abs(),

@@ -1,7 +1,7 @@
 //! The checks of an entry's keys: unknown keys, missing keys, and values of the wrong type.
 
 use crate::collector::FaultCollector;
-use crate::entry::{PlacedEntry, list_of};
+use crate::entry::{PlacedEntry, UNBOUNDED, list_of};
 use crate::hints::no_limit_hint;
 use crate::suggestions::{comma_list, suggestion};
 use job_bodies::{MAX_ACTIONS, Part};
@@ -14,6 +14,8 @@ use toml::Value;
 enum ValueKind {
     Text,
     Number,
+    /// A number, or the string `unbounded`.
+    Size,
     Flag,
     Body,
 }
@@ -56,11 +58,11 @@ fn key_rule(key: &'static str) -> Option<KeyRule> {
             "write core = N, the core pool size in threads",
         ),
         "max" => (
-            ValueKind::Number,
+            ValueKind::Size,
             "write max = N, the maximum pool size in threads",
         ),
         "queue" => (
-            ValueKind::Number,
+            ValueKind::Size,
             "write queue = N, the capacity of its queue",
         ),
         "count" => (
@@ -202,6 +204,7 @@ fn is_of(wanted: ValueKind, value: &Value) -> bool {
     match wanted {
         ValueKind::Text => value.is_str(),
         ValueKind::Number => value.is_integer(),
+        ValueKind::Size => value.is_integer() || value.as_str() == Some(UNBOUNDED),
         ValueKind::Flag => value.is_bool(),
         ValueKind::Body => value.is_array(),
     }
@@ -211,6 +214,7 @@ fn rule_of(wanted: ValueKind) -> &'static str {
     match wanted {
         ValueKind::Text => "a string",
         ValueKind::Number => "an integer, without quotes",
+        ValueKind::Size => "an integer, without quotes, or \"unbounded\"",
         ValueKind::Flag => "true or false, without quotes",
         ValueKind::Body => "an array of strings",
     }

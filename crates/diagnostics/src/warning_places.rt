@@ -14,10 +14,14 @@ pub(crate) fn place_of(places: &Places<'_>, plan: &Plan, lint: Lint) -> TextPlac
             BEGINNING,
         Lint::SafeAtCore => first_max_place(places, plan),
         Lint::SubmitsItself(class) => value_place(places, Part::Class, class, "name"),
-        Lint::NeverGot(part, number, action) => action_place(places, part, number, action),
+        Lint::NeverGot(part, number, action) | Lint::QueueMayGrow(part, number, action) => {
+            action_place(places, part, number, action)
+        }
         Lint::PoolWithoutJobs(pool) => entry_place(places, Part::Pool, pool),
         Lint::UselessMax(pool) => value_place(places, Part::Pool, pool, "max"),
-        Lint::UselessMayReject(pool, _) => value_place(places, Part::Pool, pool, "may_reject"),
+        Lint::UselessMayReject(pool, _) | Lint::NeverRejects(pool) => {
+            value_place(places, Part::Pool, pool, "may_reject")
+        }
         Lint::QueueFarAbove(pool, _) => value_place(places, Part::Pool, pool, "queue"),
         Lint::ClassWithoutJobs(class) => entry_place(places, Part::Class, class),
         Lint::RunInCaller(class) => value_place(places, Part::Class, class, "body"),

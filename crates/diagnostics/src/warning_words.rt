@@ -44,6 +44,7 @@ pub(crate) fn words_of(
         Lint::PoolWithoutJobs(pool) => words_of_idle_pool(alloc, plan, pool),
         Lint::UselessMax(pool) => words_of_max(alloc, plan, pool),
         Lint::UselessMayReject(pool, most) => words_of_key(alloc, plan, pool, most),
+        Lint::NeverRejects(pool) => words_of_unbounded(alloc, plan, pool),
         Lint::QueueFarAbove(pool, most) => words_of_queue(alloc, plan, pool, most),
         Lint::ClassWithoutJobs(class) => words_of_class(alloc, plan, class),
         Lint::RunInCaller(class) => words_of_handler(alloc, plan, class),
@@ -54,6 +55,9 @@ pub(crate) fn words_of(
         ),
         Lint::OpenFuture(part, number, action) => {
             words_of_future(alloc, text, place, plan, part, number, action)
+        }
+        Lint::QueueMayGrow(part, number, action) => {
+            words_of_growth(alloc, plan, part, number, action)
         }
         Lint::StaleCertificate => String::from_str(alloc, "the certificate is stale"),
     }
@@ -147,6 +151,23 @@ fn words_of_future(
     )
 }
 
+fn words_of_growth(
+    alloc: Global,
+    plan: &Plan,
+    part: Part,
+    number: usize,
+    action: usize,
+) -> Result<String, AllocError> {
+    let Some((kind, name, body)) = entry_of(plan, part, number) else {
+        return Ok(String::new(alloc));
+    };
+    let class = submitted_name(plan, body, action);
+    let pool = pool_submitted_to(plan, body, action);
+    format!(in alloc;
+        "{kind} {name}: submits {class} again and again and never gets it, and the queue of pool {pool} is unbounded: it may grow until memory is used up"
+    )
+}
+
 /// Returns the name of the class of a job whose future is open at this position of the body, or an
 /// empty name if there is none.
 fn open_class<'a>(plan: &'a Plan, body: &[Action], position: usize) -> &'a str {
@@ -182,6 +203,23 @@ fn submitted_name<'a>(plan: &'a Plan, body: &[Action], action: usize) -> &'a str
     match body.get(action) {
         Some(Action::Submit(class)) => plan.class_name(*class),
         _ => "",
+    }
+}
+
+/// Returns the name of the pool to which the action submits, or an empty name if it is no submit.
+fn pool_submitted_to<'a>(plan: &'a Plan, body: &[Action], action: usize) -> &'a str {
+    match body.get(action) {
+        Some(Action::Submit(class)) => pool_of_class(plan, *class),
+        _ => "",
+    }
+}
+
+/// Returns the name of the pool that runs the jobs of this class, or an empty name if there is no
+/// such class.
+fn pool_of_class(plan: &Plan, class: usize) -> &str {
+    match plan.class_at(class) {
+        Some(class) => plan.pool_name(class.pool),
+        None => "",
     }
 }
 
@@ -239,6 +277,14 @@ fn words_of_key(
     format!(in alloc;
         "pool {name}: may_reject has no effect: at most {most} jobs wait in its queue at once"
     )
+}
+
+fn words_of_unbounded(alloc: Global, plan: &Plan, number: usize) -> Result<String, AllocError> {
+    let Some(pool) = plan.pool_at(number) else {
+        return Ok(String::new(alloc));
+    };
+    let name = pool.name.as_str();
+    format!(in alloc; "pool {name}: may_reject has no effect: its queue is unbounded")
 }
 
 fn words_of_handler(alloc: Global, plan: &Plan, number: usize) -> Result<String, AllocError> {

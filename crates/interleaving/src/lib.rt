@@ -1,6 +1,6 @@
-//! An executable machine of a plan: bounded thread pools, and the steps of the clients and jobs
-//! that use them. A job is live while it is queued or running, and while it is done and its parent
-//! may still get it.
+//! An executable machine of a plan: thread pools, and the steps of the clients and jobs that use
+//! them. A job is live while it is queued or running, and while it is done and its parent may still
+//! get it.
 //!
 //! A [`World`] stores the live jobs, the pools and the clients. Its contracts relate it to the
 //! states of the machine that `written_machine` defines.

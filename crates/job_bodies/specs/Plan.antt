@@ -1,5 +1,5 @@
 -- Plans: pools of threads, classes of jobs and client kinds. Each class and each client kind has a body of actions.
-use Rattle.std.specs.Prelude.{ℕ, Bool, false, true, ◌==◌, if◌then◌else◌, List, [], map, Option, Some, slice_index_or, slice_get}
+use Rattle.std.specs.Prelude.{ℕ, Bool, false, true, ◌==◌, ◌||◌, if◌then◌else◌, List, [], map, Option, Some, slice_index_or, slice_get}
 use Rattle.std.specs.List.{list_any}
 use Rattle.job_bodies.specs.declared.action.Action.{Action}
 use Rattle.job_bodies.specs.declared.action.Action.TheVariants.{Submit, Get}
@@ -11,6 +11,7 @@ pub record Pool : Type 0 where
   pub queue : ℕ
   pub prestart : Bool
   pub may_reject : Bool
+  pub unbounded : Bool
 
 pub record Class : Type 0 where
   pub name : List ℕ
@@ -31,7 +32,7 @@ pub record Plan : Type 0 where
 
 -- the default for an index past the end of the list of pools
 abbrev pub no_pool : Pool
-no_pool = record { name = []; core = 0; max = 0; queue = 0; prestart = false; may_reject = false }
+no_pool = record { name = []; core = 0; max = 0; queue = 0; prestart = false; may_reject = false; unbounded = false }
 
 abbrev pub no_class : Class
 no_class = record { name = []; pool = 0; body = [] }
@@ -55,6 +56,10 @@ pool_names plan = map (λ pool. pool.name) plan.pools
 -- the number of threads that the pool has at first, all idle: core if the core threads are prestarted, and otherwise 0
 abbrev pub first_workers : Pool → ℕ
 first_workers pool = if pool.prestart then pool.core else 0
+
+-- whether a certificate needs no bound of the pool, because the pool may reject jobs or its queue is unbounded
+abbrev pub needs_no_bound : Pool → Bool
+needs_no_bound pool = pool.may_reject || pool.unbounded
 
 -- whether the action is a submit
 abbrev pub submits : Option Action → Bool

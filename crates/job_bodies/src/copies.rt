@@ -21,6 +21,7 @@ impl Pool {
             queue: self.queue,
             prestart: self.prestart,
             may_reject: self.may_reject,
+            unbounded: self.unbounded,
         })
     }
 }

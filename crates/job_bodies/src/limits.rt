@@ -14,7 +14,7 @@ pub const MAX_CLIENT_KINDS: usize = 256;
 /// The maximum number of actions of a body. The minimum is 0.
 pub const MAX_ACTIONS: usize = 256;
 /// The maximum of each size of a pool (core, maximum and queue capacity) and of the count of a
-/// client kind. The minimum is 1.
+/// client kind. The minimum is 1, or 0 for the queue of a pool that may reject jobs.
 pub const MAX_SIZE: u64 = 1_000_000;
 /// The maximum number of units of a `Work` action. The minimum is 1.
 pub const MAX_WORK: u64 = 1_000_000;

@@ -11,8 +11,8 @@ use crate::{Action, PlanFault};
 use std::alloc::Global;
 use std::marker::Model;
 
-/// A pool of threads with a bounded queue, as Java's `ThreadPoolExecutor` with an
-/// `ArrayBlockingQueue` and the default handler, `AbortPolicy`. `PoolState::offer` of
+/// A pool of threads with a queue, as Java's `ThreadPoolExecutor` with an `ArrayBlockingQueue` or a
+/// `LinkedBlockingQueue` and the default handler, `AbortPolicy`. `PoolState::offer` of
 /// `pool_machine` defines what the pool does with a submitted job.
 ///
 /// The ranges of the sizes are those of the constructor in the Javadoc (a maximum of at least 1 and
@@ -40,12 +40,17 @@ pub struct Pool {
     /// the full pool then counts as skipped together with its get. If `may_reject` is false, no
     /// submit to the pool should ever be refused.
     pub may_reject: bool,
+    /// Whether the queue is unbounded, as a `LinkedBlockingQueue` without a capacity. The pool then
+    /// refuses no job and starts no thread above core, so `max` and `queue` do not change what it
+    /// does. A plan's text sets them to core and to 1,000,000: the weights of a certificate count
+    /// `max` threads.
+    pub unbounded: bool,
 }
 
 impl Model for Pool {
     ghost Value = { spec.Pool };
 
-    ghost view = { λ p. record { name = string_bytes p.name; core = p.core; max = p.max; queue = p.queue; prestart = p.prestart; may_reject = p.may_reject } };
+    ghost view = { λ p. record { name = string_bytes p.name; core = p.core; max = p.max; queue = p.queue; prestart = p.prestart; may_reject = p.may_reject; unbounded = p.unbounded } };
 }
 
 impl Pool {
@@ -64,6 +69,14 @@ impl Pool {
         ensures { result ≡ least_queue self.now }
     {
         if self.may_reject { 0 } else { 1 }
+    }
+
+    /// Returns whether a certificate needs no bound of the pool: the pool may reject jobs, or its
+    /// queue is unbounded.
+    pub fn needs_no_bound(&self) -> bool
+        ensures { result ≡ spec.needs_no_bound self.now }
+    {
+        self.may_reject || self.unbounded
     }
 
     /// Returns the number of threads that the pool has at first, all idle: core if the core threads

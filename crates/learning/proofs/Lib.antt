@@ -10,3 +10,4 @@ pub mod LabelEntries
 pub mod LabelRounds
 pub mod Actors
 pub mod ValidPools
+pub mod NormalPools

@@ -8,6 +8,7 @@ use Rattle.job_bodies.specs.Build.{plan_of_lists}
 use Rattle.job_bodies.specs.Plan.{Pool, Class, Client}
 use Rattle.job_bodies.specs.WellFormed.{is_within, is_valid_name, has_valid_sizes, is_valid_pool, are_distinct, IsWellFormed}
 use Rattle.recordings.specs.declared.pool_sizes.PoolSizes.{PoolSizes}
+use Rattle.recordings.specs.PoolSizes.{has_unbounded_queue}
 use Rattle.recordings.specs.LineText.{is_valid_line, has_valid_numbers}
 use Rattle.recordings.specs.RecordingLine.{RecordedLine, line_of, lines_read}
 use Rattle.recordings.specs.RecordingLine as line
@@ -16,7 +17,7 @@ use Rattle.recordings.proofs.WrittenLines.{canonical}
 use Rattle.learning.specs.InferenceResult.{lines_of}
 use Rattle.learning.specs.Names.{IsNamedClass, IsNamedClient}
 use Rattle.conformance.specs.Sizes.{is_synchronous}
-use Rattle.learning.specs.Pools.{into_range, least_capacity, recorded_pool, pool_of_line, has_other_name, firsts, recorded_pools}
+use Rattle.learning.specs.Pools.{into_range, least_capacity, planned_max, planned_queue, recorded_pool, pool_of_line, has_other_name, firsts, recorded_pools}
 use Rattle.learning.specs.InferenceLimit.{HasActors}
 
 both : (a b : Bool) → a ≡ true → b ≡ true → (a && b) ≡ true
@@ -53,16 +54,30 @@ low_is_small : (hands : Bool) → cond hands 0 1 ≤ MAX_SIZE
 low_is_small true = omega arith
 low_is_small false = omega arith
 
+-- The size stays in its range if it is the largest, or the least, where the queue is unbounded.
+either_within : (unbounded : Bool) (low one other : ℕ) → is_within low MAX_SIZE one ≡ true → is_within low MAX_SIZE other ≡ true → is_within low MAX_SIZE (cond unbounded one other) ≡ true
+either_within true low one other valid valid' = valid
+either_within false low one other valid valid' = valid'
+
+least_within : (low : ℕ) → low ≤ MAX_SIZE → is_within low MAX_SIZE low ≡ true
+least_within low below = grind (arith, below)
+
+most_within : (low : ℕ) → low ≤ MAX_SIZE → is_within low MAX_SIZE MAX_SIZE ≡ true
+most_within low below = grind (arith, below)
+
 pool_is_lawful : (name : List ℕ) (sizes : PoolSizes) → is_valid_name name ≡ true → is_valid_pool (recorded_pool name sizes) ≡ true
 pool_is_lawful name sizes valid_gets =
+    let unbounded = has_unbounded_queue sizes in
     let core = into_range 1 sizes.core in
-    let max = into_range core sizes.max in
+    let max = planned_max core sizes in
     let least = least_capacity sizes in
-    let queue = into_range least sizes.capacity in
+    let queue = planned_queue sizes in
     let below : core ≤ MAX_SIZE = omega arith in
+    let small = low_is_small (is_synchronous sizes.queue) in
     both (is_valid_name name) (has_valid_sizes (recorded_pool name sizes)) valid_gets
     (both (is_within 1 MAX_SIZE core && is_within core MAX_SIZE max) (is_within least MAX_SIZE queue)
-    (both (is_within 1 MAX_SIZE core) (is_within core MAX_SIZE max) (in_range 1 sizes.core (omega arith)) (in_range core sizes.max below)) (in_range least sizes.capacity (low_is_small (is_synchronous sizes.queue))))
+    (both (is_within 1 MAX_SIZE core) (is_within core MAX_SIZE max) (in_range 1 sizes.core (omega arith)) (either_within unbounded core core (into_range core sizes.max) (least_within core below) (in_range core sizes.max below)))
+    (either_within unbounded least MAX_SIZE (into_range least sizes.capacity) (most_within least small) (in_range least sizes.capacity small)))
 
 -- ---- the pools of lines that were read
 still_all : {X : Type 0} (test kept : X → Bool) (items : List X) → list_all test items ≡ true → list_all test (filter kept items) ≡ true

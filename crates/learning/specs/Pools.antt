@@ -1,10 +1,12 @@
 -- The pools of a recording, as pools of a plan.
-use Rattle.std.specs.Prelude.{ℕ, Bool, not, ◌&&◌, ◌==◌, List, [], ◌∷◌, filter, Option, Some, None, if◌then◌else◌, ◌++◌, min, max}
+use Rattle.std.specs.Prelude.{◌≡◌, ℕ, Bool, not, ◌&&◌, ◌==◌, List, [], ◌∷◌, filter, map, Option, Some, None, if◌then◌else◌, ◌++◌, min, max}
 use Rattle.std.specs.List.{filter_map, list_any}
 use Rattle.std.specs.Str.{bytes_eq}
-use Rattle.job_bodies.specs.Plan.{Pool}
+use Rattle.job_bodies.specs.Plan.{Plan, Pool}
 use Rattle.job_bodies.specs.declared.limits.TheConstants.{MAX_SIZE}
 use Rattle.recordings.specs.declared.pool_sizes.PoolSizes.{PoolSizes}
+use Rattle.recordings.specs.PoolSizes.{has_unbounded_queue}
+use Rattle.conformance.specs.RejectingPools.{with_rejecting_pools}
 use Rattle.conformance.specs.Sizes.{is_synchronous}
 use Rattle.recordings.specs.RecordingLine as line
 use Rattle.recordings.specs.RecordingLine.{RecordedLine}
@@ -22,11 +24,19 @@ has_core_threads sizes = not (sizes.prestarted == 0) && (sizes.prestarted == siz
 abbrev pub least_capacity : PoolSizes → ℕ
 least_capacity sizes = if is_synchronous sizes.queue then 0 else 1
 
--- The pool of a `pool` line, with each size clamped to its range in a plan. A pool with a `SynchronousQueue` may reject jobs, because no
--- other pool of a plan has such a queue.
+-- The maximum of a pool with this core: over an unbounded queue, where the maximum has no effect, the core.
+abbrev pub planned_max : ℕ → PoolSizes → ℕ
+planned_max core sizes = if has_unbounded_queue sizes then core else into_range core sizes.max
+
+-- The capacity of the queue: of an unbounded one, whose capacity has no effect, the largest size of a plan.
+abbrev pub planned_queue : PoolSizes → ℕ
+planned_queue sizes = if has_unbounded_queue sizes then MAX_SIZE else into_range (least_capacity sizes) sizes.capacity
+
+-- The pool of a `pool` line, with each size clamped to its range in a plan. An unbounded queue stays unbounded. A pool with a
+-- `SynchronousQueue` may reject jobs, because no other pool of a plan has such a queue.
 abbrev pub recorded_pool : List ℕ → PoolSizes → Pool
 recorded_pool name sizes = let core = into_range 1 sizes.core in
-    record { name = name; core = core; max = into_range core sizes.max; queue = into_range (least_capacity sizes) sizes.capacity; prestart = has_core_threads sizes; may_reject = is_synchronous sizes.queue }
+    record { name = name; core = core; max = planned_max core sizes; queue = planned_queue sizes; prestart = has_core_threads sizes; may_reject = is_synchronous sizes.queue; unbounded = has_unbounded_queue sizes }
 
 -- ---- all pools
 -- The pool of a `pool` line, or `None` for any other line.
@@ -46,6 +56,16 @@ firsts (pool ∷ pools) = pool ∷ filter (has_other_name pool) (firsts pools)
 -- The pool of the first `pool` line of each name, in the order of the lines.
 unfoldable pub recorded_pools : List RecordedLine → List Pool
 recorded_pools lines = firsts (filter_map pool_of_line lines)
+
+-- ---- sizes without an effect
+-- The pool, except that over an unbounded queue its maximum is core and its queue the largest size, as the text of a plan gives them. These
+-- two sizes have no effect there.
+abbrev pub normal_pool : Pool → Pool
+normal_pool pool = if pool.unbounded then record pool { max = pool.core; queue = MAX_SIZE } else pool
+
+-- The pools of a recording have these sizes, also after the pools that reject jobs in the recording have got the key.
+abbrev pub LearnedPoolsAreNormal : Type 0
+LearnedPoolsAreNormal = (plan : Plan) (lines : List RecordedLine) → plan.pools ≡ recorded_pools lines → map normal_pool (with_rejecting_pools plan lines).pools ≡ (with_rejecting_pools plan lines).pools
 
 -- ---- one more pool
 -- Some pool has this name.

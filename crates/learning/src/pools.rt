@@ -14,9 +14,10 @@ use job_bodies::{MAX_POOLS, MAX_SIZE, Pool};
 use recordings::{Line, PoolSizes, QueueKind};
 use std::alloc::{AllocError, Global};
 
-/// Returns the pool of a `pool` line, with each size clamped to its range in a plan. `prestart` is
-/// true if all core threads were prestarted and there is at least one. `may_reject` is true if the
-/// queue is a `SynchronousQueue`, because no other pool of a plan has such a queue.
+/// Returns the pool of a `pool` line, with each size clamped to its range in a plan. An unbounded
+/// queue stays unbounded. `prestart` is true if all core threads were prestarted and there is at
+/// least one. `may_reject` is true if the queue is a `SynchronousQueue`, because no other pool of a
+/// plan has such a queue.
 ///
 /// # Errors
 ///
@@ -28,11 +29,36 @@ pub(crate) fn recorded_pool(alloc: Global, name: &str, sizes: PoolSizes) -> Resu
     Ok(Pool {
         name: String::from_str(alloc, name)?,
         core,
-        max: into_range(core, sizes.max as u64),
-        queue: into_range(least_capacity(sizes), sizes.capacity as u64),
+        max: planned_max(core, sizes),
+        queue: planned_queue(sizes),
         prestart: has_core_threads(sizes),
         may_reject: is_synchronous(sizes.queue),
+        unbounded: sizes.has_unbounded_queue(),
     })
+}
+
+// Returns the maximum of a pool with this core. Over an unbounded queue, where the maximum has no
+// effect, this is the core, as in the text of a plan.
+fn planned_max(core: u64, sizes: PoolSizes) -> u64
+    ensures { result ≡ spec.planned_max core sizes }
+{
+    if sizes.has_unbounded_queue() {
+        core
+    } else {
+        into_range(core, sizes.max as u64)
+    }
+}
+
+// Returns the capacity of the queue. Of an unbounded one, whose capacity has no effect, this is the
+// largest size of a plan, as in the text of a plan.
+fn planned_queue(sizes: PoolSizes) -> u64
+    ensures { result ≡ spec.planned_queue sizes }
+{
+    if sizes.has_unbounded_queue() {
+        MAX_SIZE
+    } else {
+        into_range(least_capacity(sizes), sizes.capacity as u64)
+    }
 }
 
 // Returns the least capacity of such a queue in a plan.

@@ -10,7 +10,7 @@ use crate::Levels;
 use crate::numbers::{number_at, put_at};
 use crate::relief::relieving_loan;
 use crate::rows::vector_of;
-use crate::sketch::Sketch;
+use crate::sketch::{Sketch, TOO_HEAVY};
 use crate::sketch_cache::SketchCache;
 use crate::target::Target;
 use job_bodies::Plan;
@@ -104,6 +104,28 @@ pub(crate) fn least_vector(
         ..
     } = minimize_total(alloc, plan, levels, target)?;
     if sketch.total > target.limit {
+        return Ok(None);
+    }
+    vector_of(alloc, plan, target, workers, &sketch)
+}
+
+/// Returns the vector of the target's pool and kind with the smallest total that the search finds,
+/// or `None` if it finds none. The limit of the target must be 0, so that the search does not stop
+/// at a larger total. The total of the vector can be above the limit.
+pub(crate) fn lightest_vector(
+    alloc: Global,
+    plan: &Plan,
+    levels: &Levels,
+    target: &Target,
+) -> Result<Option<Vector>, AllocError>
+    ensures { IfOk result (λ found. IfSome found (λ vector. IsTrue (vector_fits plan.now vector))) }
+{
+    let Loans {
+        workers,
+        sketch,
+        ..
+    } = minimize_total(alloc, plan, levels, target)?;
+    if sketch.total == TOO_HEAVY {
         return Ok(None);
     }
     vector_of(alloc, plan, target, workers, &sketch)

@@ -3,14 +3,15 @@
 //! the number of all jobs that are ever submitted to it. A *blocked vector* bounds the number of
 //! its jobs that wait at gets of classes whose reach is at least the rank of the pool. The *reach*
 //! of a class is the maximum of the rank of its pool and of the reaches of the classes whose jobs
-//! it gets. A pool that may reject jobs needs no bound, but its certificate can have one.
+//! it gets. A pool that may reject jobs or has an unbounded queue needs no bound, but its
+//! certificate can have one.
 
 ghost use Rattle.std.specs.Prelude.{◌<◌, IfOk, IfSome, IsTrue, length};
 ghost use Rattle.weights.specs.Vector.{vector_fits};
 ghost use Rattle.weights.specs.Bound.{bound_vector};
 
 use crate::Levels;
-use crate::minimize_total::least_vector;
+use crate::minimize_total::{least_vector, lightest_vector};
 use crate::target::Target;
 use job_bodies::Plan;
 use std::alloc::{AllocError, Global};
@@ -20,6 +21,10 @@ use weights::{Bound, Vector};
 /// lifetime vector. Returns `None` if the search finds neither with a total that fits the pool's
 /// sizes. The search does not depend on whether the pool may reject jobs, which then never happens
 /// if a bound is found. The plan must have a pool with the index `pool`.
+///
+/// If the queue of the pool is unbounded, returns the standing vector with the smallest total that
+/// the search finds, whatever its total is, or `None` if the search finds none. The number of
+/// queued jobs never exceeds this total.
 ///
 /// # Errors
 ///
@@ -35,6 +40,9 @@ pub fn pool_bound(
         (λ found. IfSome found (λ bound. IsTrue (vector_fits plan.now (bound_vector bound)))) }
 {
     let sizes = &plan.pools()[pool];
+    if sizes.unbounded {
+        return lightest_standing(alloc, plan, levels, pool);
+    }
     let standing = Target::standing(pool, sizes.queue).without_useless_loans();
     if let Some(vector) = least_vector(alloc, plan, levels, &standing)? {
         return Ok(Some(Bound::Standing(vector)));
@@ -43,6 +51,23 @@ pub fn pool_bound(
     let lifetime = Target::lifetime(pool, places.saturating_sub(sizes.first_workers()));
     match least_vector(alloc, plan, levels, &lifetime)? {
         Some(vector) => Ok(Some(Bound::Lifetime(vector))),
+        None => Ok(None),
+    }
+}
+
+/// Returns the standing vector of the pool with the smallest total that the search finds, or `None`
+/// if it finds none.
+fn lightest_standing(
+    alloc: Global,
+    plan: &Plan,
+    levels: &Levels,
+    pool: usize,
+) -> Result<Option<Bound>, AllocError>
+    ensures { IfOk result
+        (λ found. IfSome found (λ bound. IsTrue (vector_fits plan.now (bound_vector bound)))) }
+{
+    match lightest_vector(alloc, plan, levels, &Target::standing(pool, 0))? {
+        Some(vector) => Ok(Some(Bound::Standing(vector))),
         None => Ok(None),
     }
 }

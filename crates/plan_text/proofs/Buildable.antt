@@ -113,13 +113,13 @@ client_is classes index client made e =
     }
 
 -- the checks of all pools, all classes and all client kinds pass
-abbrev PoolsPass : List Pool → Type 0
+abbrev pub PoolsPass : List Pool → Type 0
 PoolsPass pools = check_each (λ index. check_pool (take index (map (λ pool. pool.name) pools)) index) 0 pools ≡ Ok tt
 
-abbrev ClassesPass : List (List ℕ) → List ClassEntry → Type 0
+abbrev pub ClassesPass : List (List ℕ) → List ClassEntry → Type 0
 ClassesPass pools classes = check_each (λ index class. check_class (length pools) (take index (class_names classes)) index (class_head pools class)) 0 classes ≡ Ok tt
 
-abbrev ClientsPass : List ClientEntry → Type 0
+abbrev pub ClientsPass : List ClientEntry → Type 0
 ClientsPass clients = check_each (λ index client. check_client (take index (client_names clients)) index (client_head client)) 0 clients ≡ Ok tt
 
 pools_pass : (pools : List Pool) (names : List (List ℕ)) → check_pools pools ≡ Ok names → PoolsPass pools × (map (λ pool. pool.name) pools ≡ names)
@@ -135,17 +135,17 @@ unfolding check_clients
 clients_pass clients passed e = e
 
 -- the results of the steps that parsed a plan
-record IsRead (entries : Entries) (pools classes : List (List ℕ)) (plan : Plan) : Type 0 where
-  pool_names_are : map (λ pool. pool.name) entries.pools ≡ pools
-  class_names_are : class_names entries.classes ≡ classes
-  pools_pass : PoolsPass entries.pools
-  classes_pass : ClassesPass pools entries.classes
-  clients_pass : ClientsPass entries.clients
-  pools_are : entries.pools ≡ plan.pools
-  classes_are : read_each (class_of pools classes) 0 entries.classes ≡ Ok plan.classes
-  clients_are : read_each (client_of classes) 0 entries.clients ≡ Ok plan.clients
+pub record IsRead (entries : Entries) (pools classes : List (List ℕ)) (plan : Plan) : Type 0 where
+  pub pool_names_are : map (λ pool. pool.name) entries.pools ≡ pools
+  pub class_names_are : class_names entries.classes ≡ classes
+  pub pools_pass : PoolsPass entries.pools
+  pub classes_pass : ClassesPass pools entries.classes
+  pub clients_pass : ClientsPass entries.clients
+  pub pools_are : entries.pools ≡ plan.pools
+  pub classes_are : read_each (class_of pools classes) 0 entries.classes ≡ Ok plan.classes
+  pub clients_are : read_each (client_of classes) 0 entries.clients ≡ Ok plan.clients
 
-is_read : {P : Type 0} (entries : Entries) (plan : Plan) → plan_of_entries entries ≡ Ok plan → ((pools classes : List (List ℕ)) → IsRead entries pools classes plan → P) → P
+pub is_read : {P : Type 0} (entries : Entries) (plan : Plan) → plan_of_entries entries ≡ Ok plan → ((pools classes : List (List ℕ)) → IsRead entries pools classes plan → P) → P
 unfolding plan_of_entries
 is_read entries plan e next =
     bind_ok_then (check_pools entries.pools) _ plan e (λ pools at_pools e1.

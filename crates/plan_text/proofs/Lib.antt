@@ -13,5 +13,7 @@ pub mod Members
 pub mod Images
 mod SlotNames
 mod SpelledBodies
+pub mod EffectivePlans
+pub mod ReadSizes
 mod SpelledEntries
 mod SpelledPlan

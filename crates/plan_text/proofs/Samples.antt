@@ -18,7 +18,7 @@ client = codes "[[client]]\nname = \"c\"\ncount = 2\nrepeat = true\nbody = [\"su
 
 abbrev plan : Plan
 plan = record {
-  pools = record { name = codes "p"; core = 1; max = 1; queue = 2; prestart = false; may_reject = false } ∷ [];
+  pools = record { name = codes "p"; core = 1; max = 1; queue = 2; prestart = false; may_reject = false; unbounded = false } ∷ [];
   classes = record { name = codes "a"; pool = 0; body = Work 1 ∷ [] } ∷ [];
   clients = record { name = codes "c"; count = 2; repeat = true; body = Submit 0 ∷ Get 0 ∷ [] } ∷ [];
 }
@@ -36,7 +36,7 @@ unfolding plan_on_literals
 one_of_each = refl
 
 abbrev prestarted : Plan
-prestarted = record { pools = record { name = codes "p"; core = 1; max = 1; queue = 2; prestart = true; may_reject = false } ∷ []; classes = []; clients = [] }
+prestarted = record { pools = record { name = codes "p"; core = 1; max = 1; queue = 2; prestart = true; may_reject = false; unbounded = false } ∷ []; classes = []; clients = [] }
 
 -- the plan of a text with a pool whose core threads are prestarted
 prestarted_pool : plan_of (pool ++ codes "prestart = true\n") ≡ Ok prestarted
@@ -44,12 +44,53 @@ unfolding plan_on_literals
 prestarted_pool = refl
 
 abbrev rejecting : Plan
-rejecting = record { pools = record { name = codes "p"; core = 1; max = 1; queue = 2; prestart = false; may_reject = true } ∷ []; classes = []; clients = [] }
+rejecting = record { pools = record { name = codes "p"; core = 1; max = 1; queue = 2; prestart = false; may_reject = true; unbounded = false } ∷ []; classes = []; clients = [] }
 
 -- the plan of a text with a pool that may reject jobs
 rejecting_pool : plan_of (pool ++ codes "may_reject = true\n") ≡ Ok rejecting
 unfolding plan_on_literals
 rejecting_pool = refl
+
+abbrev pool_of : List ℕ → List ℕ → List ℕ
+pool_of max queue = codes "[[pool]]\nname = \"p\"\ncore = 2\nmax = " ++ max ++ codes "\nqueue = " ++ queue ++ codes "\n"
+
+abbrev unbounded : Plan
+unbounded = record { pools = record { name = codes "p"; core = 2; max = 2; queue = 1000000; prestart = false; may_reject = false; unbounded = true } ∷ []; classes = []; clients = [] }
+
+-- the plan of a text with a pool that has an unbounded queue and an unbounded maximum
+unbounded_pool : plan_of (pool_of (codes "\"unbounded\"") (codes "\"unbounded\"")) ≡ Ok unbounded
+unfolding plan_on_literals
+unbounded_pool = refl
+
+-- a number above core as the maximum of a pool with an unbounded queue gives the same plan
+unused_maximum : plan_of (pool_of (codes "7") (codes "\"unbounded\"")) ≡ Ok unbounded
+unfolding plan_on_literals
+unused_maximum = refl
+
+-- the fault of a maximum below core over an unbounded queue
+small_unused_maximum : plan_of (pool_of (codes "1") (codes "\"unbounded\"")) ≡ Err (at_entry part.Pool 0 8)
+unfolding plan_on_literals
+small_unused_maximum = refl
+
+-- the fault of a negative maximum over an unbounded queue
+negative_unused_maximum : plan_of (pool_of (codes "-7") (codes "\"unbounded\"")) ≡ Err (at_entry part.Pool 0 8)
+unfolding plan_on_literals
+negative_unused_maximum = refl
+
+-- the fault of an unbounded maximum over a queue with a capacity
+unbounded_maximum : plan_of (pool_of (codes "\"unbounded\"") (codes "3")) ≡ Err (at_entry part.Pool 0 8)
+unfolding plan_on_literals
+unbounded_maximum = refl
+
+-- the fault of another text as a queue
+no_size : plan_of (pool_of (codes "2") (codes "\"Unbounded\"")) ≡ Err (at_entry part.Pool 0 5)
+unfolding plan_on_literals
+no_size = refl
+
+-- the fault of an unbounded core
+unbounded_core : plan_of (codes "[[pool]]\nname = \"p\"\ncore = \"unbounded\"\nmax = 1\nqueue = 2\n") ≡ Err (at_entry part.Pool 0 5)
+unfolding plan_on_literals
+unbounded_core = refl
 
 -- the fault of a value that should be a boolean and is not
 no_truth : plan_of (pool ++ codes "prestart = 1\n") ≡ Err (at_entry part.Pool 0 5)

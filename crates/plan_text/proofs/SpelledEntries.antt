@@ -7,15 +7,18 @@ use Rattle.toml.specs.View.{items_of}
 use Rattle.support.specs.Reading.{read_each}
 use Rattle.job_bodies.specs.declared.fault.Part.{Part}
 use Rattle.job_bodies.specs.declared.fault.Part.TheVariants as part
-use Rattle.job_bodies.specs.declared.limits.TheConstants.{MAX_POOLS, MAX_CLASSES, MAX_CLIENT_KINDS, MAX_ACTIONS}
+use Rattle.job_bodies.specs.declared.limits.TheConstants.{MAX_POOLS, MAX_CLASSES, MAX_CLIENT_KINDS, MAX_ACTIONS, MAX_SIZE}
 use Rattle.job_bodies.specs.Plan.{Pool, Class, Client, Plan, pool_names}
+use Rattle.job_bodies.specs.WellFormed.{is_within}
 use Rattle.job_bodies.proofs.Passing.{EachPlace}
 use Rattle.plan_text.specs.Document.{has_only, list_at}
-use Rattle.plan_text.specs.Entry.{Entry, entry_of, text_at, number_at, flag_at, texts_at, action_text}
+use Rattle.plan_text.specs.Entry.{Entry, entry_of, text_at, number_at, size_at, flag_at, texts_at, action_text}
 use Rattle.plan_text.specs.Entries.{ClassEntry, ClientEntry, Entries, read_pool, read_class, read_client, entries_of}
 use Rattle.plan_text.specs.Spelling.{name_at, body_texts}
 use Rattle.plan_text.specs.PlanDocument.{list_data, texts_data, pool_data, class_data, client_data, plan_document}
+use Rattle.plan_text.specs.EffectivePlan.{effective_pool, effective_plan}
 use Rattle.plan_text.proofs.Tables.{elements-items_of}
+use Rattle.plan_text.proofs.EffectivePlans.{same_pool_names}
 
 -- ---- reading the images of a list's elements
 read_made_from : {X Y Z F : Type 0} (read : ℕ → Y → Result Z F) (make : X → Y) (image : X → Z) (n : ℕ) (xs : List X) → EachPlace xs (λ i x. read (n + i) (make x) ≡ Ok (image x))
@@ -53,17 +56,22 @@ texts_back entry key texts found short =
     let long : length (map string texts) ≡ length texts = length-map texts string in
     rw (found, elements-items_of (map string texts), long, short) (read_again (action_text entry.part entry.index) string texts (λ i text e. refl))
 
-pool_again : (index : ℕ) (name : List ℕ) (core max queue : ℕ) (prestart may_reject : Bool)
-    → let pool : Pool = record { name = name; core = core; max = max; queue = queue; prestart = prestart; may_reject = may_reject } in
-    read_pool index (pool_data pool) ≡ Ok pool
-unfolding read_pool pool_data entry_of text_at number_at flag_at
-pool_again index name core max queue true true = refl
-pool_again index name core max queue true false = refl
-pool_again index name core max queue false true = refl
-pool_again index name core max queue false false = refl
+pool_again : (index : ℕ) (name : List ℕ) (core max queue : ℕ) (prestart may_reject unbounded : Bool) → is_within core MAX_SIZE max ≡ true
+    → let pool : Pool = record { name = name; core = core; max = max; queue = queue; prestart = prestart; may_reject = may_reject; unbounded = unbounded } in
+    read_pool index (pool_data pool) ≡ Ok (effective_pool pool)
+unfolding read_pool pool_data entry_of text_at number_at size_at flag_at
+pool_again index name core max queue true true true within = rw within refl
+pool_again index name core max queue true true false within = refl
+pool_again index name core max queue true false true within = rw within refl
+pool_again index name core max queue true false false within = refl
+pool_again index name core max queue false true true within = rw within refl
+pool_again index name core max queue false true false within = refl
+pool_again index name core max queue false false true within = rw within refl
+pool_again index name core max queue false false false within = refl
 
-pool_back : (index : ℕ) (pool : Pool) → read_pool index (pool_data pool) ≡ Ok pool
-pool_back index pool = pool_again index pool.name pool.core pool.max pool.queue pool.prestart pool.may_reject
+-- the table of a pool is read as the effective pool
+pool_back : (index : ℕ) (pool : Pool) → is_within pool.core MAX_SIZE pool.max ≡ true → read_pool index (pool_data pool) ≡ Ok (effective_pool pool)
+pool_back index pool within = pool_again index pool.name pool.core pool.max pool.queue pool.prestart pool.may_reject pool.unbounded within
 
 -- the entry with this table; an entry with an empty table if the value is not a table
 abbrev entry_at : Part → ℕ → Data → Entry
@@ -106,18 +114,20 @@ list_back key most document make xs found few =
     let long : length (map make xs) ≡ length xs = length-map xs make in
     rw (found, elements-items_of (map make xs), long, few) refl
 
-pub entries_back : (plan : Plan) → IsShort plan → entries_of (plan_document plan) ≡ Ok (entries_in plan)
+-- the document of a plan is read as the entries of the effective plan
+pub entries_back : (plan : Plan) → IsShort plan → EachPlace plan.pools (λ i pool. is_within pool.core MAX_SIZE pool.max ≡ true) → entries_of (plan_document plan) ≡ Ok (entries_in (effective_plan plan))
 unfolding entries_of plan_document
-entries_back plan s =
+entries_back plan s within =
     let pools = pool_names plan in
     let classes = class_names_of plan in
     rw (
       list_back (codes "pool") MAX_POOLS (plan_document plan) pool_data plan.pools refl s.few_pools,
       list_back (codes "class") MAX_CLASSES (plan_document plan) (class_data pools classes) plan.classes refl s.few_classes,
       list_back (codes "client") MAX_CLIENT_KINDS (plan_document plan) (client_data classes) plan.clients refl s.few_clients,
-      read_again read_pool pool_data plan.pools (λ i pool e. pool_back i pool),
+      read_made read_pool pool_data effective_pool plan.pools (λ i pool e. pool_back i pool (within i pool e)),
       read_made read_class (class_data pools classes) (class_entry pools classes) plan.classes (λ i class e. class_back pools classes i class (s.classes i class e)),
       read_made read_client (client_data classes) (client_entry classes) plan.clients (λ i client e. client_back classes i client (s.clients i client e)),
+      same_pool_names plan,
     ) refl
 
 -- the document has only the keys of a plan
@@ -133,16 +143,20 @@ each_at_most make most each (x ∷ xs) = max-le (each x) (each_at_most make most
 texts_depth : (texts : List (List ℕ)) → items_depth (items_of (map string texts)) ≤ 0
 texts_depth texts = each_at_most string 0 (λ text. omega arith) texts
 
-pool_depth_of : (name : List ℕ) (core max queue : ℕ) (prestart may_reject : Bool)
-    → depth (pool_data (record { name = name; core = core; max = max; queue = queue; prestart = prestart; may_reject = may_reject })) ≤ 2
+pool_depth_of : (name : List ℕ) (core max queue : ℕ) (prestart may_reject unbounded : Bool)
+    → depth (pool_data (record { name = name; core = core; max = max; queue = queue; prestart = prestart; may_reject = may_reject; unbounded = unbounded })) ≤ 2
 unfolding pool_data
-pool_depth_of name core max queue true true = omega arith
-pool_depth_of name core max queue true false = omega arith
-pool_depth_of name core max queue false true = omega arith
-pool_depth_of name core max queue false false = omega arith
+pool_depth_of name core max queue true true true = omega arith
+pool_depth_of name core max queue true true false = omega arith
+pool_depth_of name core max queue true false true = omega arith
+pool_depth_of name core max queue true false false = omega arith
+pool_depth_of name core max queue false true true = omega arith
+pool_depth_of name core max queue false true false = omega arith
+pool_depth_of name core max queue false false true = omega arith
+pool_depth_of name core max queue false false false = omega arith
 
 pool_depth : (pool : Pool) → depth (pool_data pool) ≤ 2
-pool_depth pool = pool_depth_of pool.name pool.core pool.max pool.queue pool.prestart pool.may_reject
+pool_depth pool = pool_depth_of pool.name pool.core pool.max pool.queue pool.prestart pool.may_reject pool.unbounded
 
 class_depth : (pools classes : List (List ℕ)) (class : Class) → depth (class_data pools classes class) ≤ 2
 unfolding class_data

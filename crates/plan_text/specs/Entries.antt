@@ -7,7 +7,8 @@ use Rattle.job_bodies.specs.declared.fault.Part.TheVariants as part
 use Rattle.job_bodies.specs.declared.limits.TheConstants.{MAX_POOLS, MAX_CLASSES, MAX_CLIENT_KINDS, MAX_ACTIONS}
 use Rattle.job_bodies.specs.Plan.{Pool}
 use Rattle.plan_text.specs.Document.{list_at}
-use Rattle.plan_text.specs.Entry.{entry_of, text_at, number_at, flag_at, texts_at}
+use Rattle.plan_text.specs.Entry.{entry_of, text_at, number_at, size_at, flag_at, texts_at}
+use Rattle.plan_text.specs.Sizes.{sizes_of}
 
 -- a class as its text gives it: the pool is a name, and the actions are texts
 pub record ClassEntry : Type 0 where
@@ -41,11 +42,12 @@ read_pool index value =
     entry_of part.Pool index (codes "name" ∷ codes "core" ∷ codes "max" ∷ codes "queue" ∷ codes "prestart" ∷ codes "may_reject" ∷ []) value >>= λ entry.
     text_at entry (codes "name") >>= λ name.
     number_at entry (codes "core") >>= λ core.
-    number_at entry (codes "max") >>= λ max.
-    number_at entry (codes "queue") >>= λ queue.
+    size_at entry (codes "max") >>= λ max.
+    size_at entry (codes "queue") >>= λ queue.
     flag_at entry (codes "prestart") >>= λ prestart.
     flag_at entry (codes "may_reject") >>= λ may_reject.
-    Ok (record { name = name; core = core; max = max; queue = queue; prestart = prestart; may_reject = may_reject })
+    let sizes = sizes_of core max queue in
+    Ok (record { name = name; core = core; max = sizes.max; queue = sizes.queue; prestart = prestart; may_reject = may_reject; unbounded = sizes.unbounded })
 
 unfoldable pub read_class : ℕ → Data → Result ClassEntry PlanFault
 read_class index value =

@@ -1,5 +1,6 @@
 -- The table of one entry, with values of the expected types.
-use Rattle.std.specs.Prelude.{ℕ, ◌+◌, ℤ, pos, negsuc, Bool, false, nat_le, List, length, Option, None, Some, Result, Ok}
+use Rattle.std.specs.Prelude.{ℕ, ◌+◌, ℤ, pos, negsuc, Bool, false, nat_le, List, length, codes, Option, None, Some, Result, Ok, Err}
+use Rattle.std.specs.Str.{bytes_eq}
 use Rattle.toml.specs.Data.{Data, Members, get_member, as_str, as_integer, as_bool, as_table}
 use Rattle.toml.specs.View.{table_view}
 use Rattle.support.specs.Reading.{◌>>=◌, ensure, ok_or, read_each}
@@ -25,7 +26,7 @@ entry_view entry = record { table = table_view entry.table.now; part = entry.par
 abbrev pub fault_at : Entry → ℕ → PlanFault
 fault_at entry number = at_entry entry.part entry.index number
 
--- an integer as a count; 0 if it is negative, and 0 is out of range for every number of a plan
+-- an integer as a count; a negative integer becomes a number that is out of range for every number of a plan
 abbrev pub count_of : ℤ → ℕ
 count_of (pos n) = n
 count_of (negsuc n) = MAX_SIZE + 1
@@ -51,6 +52,18 @@ number_at entry key =
     value_at entry key >>= λ value.
     ok_or (as_integer value) (fault_at entry WRONG_TYPE) >>= λ number.
     Ok (count_of number)
+
+-- the size that a value gives, seen as an integer and as a string: an integer as a count, and None for the string `unbounded`; a fault for
+-- any other value
+abbrev pub size_of : Entry → Option ℤ → Option (List ℕ) → Result (Option ℕ) PlanFault
+size_of entry (Some number) text = Ok (Some (count_of number))
+size_of entry None (Some text) = ensure (bytes_eq text (codes "unbounded")) (fault_at entry WRONG_TYPE) >>= λ _. Ok None
+size_of entry None None = Err (fault_at entry WRONG_TYPE)
+
+-- the size at this key: the integer as a count, or None if the value is the string `unbounded`; a fault if the key is absent or the value
+-- is neither
+unfoldable pub size_at : Entry → List ℕ → Result (Option ℕ) PlanFault
+size_at entry key = value_at entry key >>= λ value. size_of entry (as_integer value) (as_str value)
 
 -- the boolean value, or false if there is no value; a fault if the value has another type
 abbrev pub flag_of : Entry → Option Data → Result Bool PlanFault

@@ -1,5 +1,6 @@
 pub mod Document
 pub mod Entry
+pub mod Sizes
 pub mod Entries
 pub mod Checks
 pub mod ParsedActions
@@ -8,4 +9,5 @@ pub mod Bodies
 pub mod PlanOf
 pub mod Spelling
 pub mod PlanDocument
+pub mod EffectivePlan
 pub mod TextPlace

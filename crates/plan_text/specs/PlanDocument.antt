@@ -22,6 +22,10 @@ texts_data texts = list_data (map string texts)
 abbrev pub flag_and : List ℕ → Bool → Members → Members
 flag_and key flag rest = if flag then member key (boolean true) rest else rest
 
+-- the queue of a pool: the string `unbounded`, or the capacity
+abbrev pub queue_data : Pool → Data
+queue_data pool = if pool.unbounded then string (codes "unbounded") else number_data pool.queue
+
 unfoldable pub pool_data : Pool → Data
 pool_data pool =
     table (member (codes "core") (number_data pool.core)
@@ -29,7 +33,7 @@ pool_data pool =
     (flag_and (codes "may_reject") pool.may_reject
     (member (codes "name") (string pool.name)
     (flag_and (codes "prestart") pool.prestart
-    (member (codes "queue") (number_data pool.queue) no_members))))))
+    (member (codes "queue") (queue_data pool) no_members))))))
 
 -- the table of a class, given the names of all pools and classes
 unfoldable pub class_data : List (List ℕ) → List (List ℕ) → Class → Data

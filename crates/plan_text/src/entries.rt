@@ -10,6 +10,7 @@ ghost use Rattle.plan_text.specs.Entries as spec;
 use crate::document::list_at;
 use crate::entry::Entry;
 use crate::fault::TextError;
+use crate::sizes::sizes_of;
 use job_bodies::{MAX_CLASSES, MAX_CLIENT_KINDS, MAX_POOLS, Part, Pool};
 use std::alloc::Global;
 use std::marker::Model;
@@ -67,17 +68,19 @@ fn read_pool(alloc: Global, index: usize, value: &Value) -> Result<Pool, TextErr
     let entry = Entry::of(value, Part::Pool, index, &keys)?;
     let name = entry.text("name")?;
     let core = entry.number("core")?;
-    let max = entry.number("max")?;
-    let queue = entry.number("queue")?;
+    let max = entry.size("max")?;
+    let queue = entry.size("queue")?;
     let prestart = entry.flag("prestart")?;
     let may_reject = entry.flag("may_reject")?;
+    let sizes = sizes_of(core, max, queue);
     Ok(Pool {
         name: String::from_str(alloc, name)?,
         core,
-        max,
-        queue,
+        max: sizes.max,
+        queue: sizes.queue,
         prestart,
         may_reject,
+        unbounded: sizes.unbounded,
     })
 }
 

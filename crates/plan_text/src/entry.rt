@@ -93,6 +93,23 @@ impl<'a> Entry<'a> {
         Ok(count_of(number))
     }
 
+    /// Returns the size at this key: the integer, or a number that is out of range if it is
+    /// negative, or `None` if the value is the string `unbounded`. Returns a fault if the key is
+    /// absent or the value is neither.
+    #[tactic(auto, unfolding(crate::specs::Entry::size_at))]
+    pub fn size(&self, key: &str) -> Result<Option<u64>, TextError>
+        ensures { Gives (λ size. size) result (spec.size_at (entry_view self.now) key.now) }
+    {
+        let value = self.value(key)?;
+        if let Some(number) = value.as_integer() {
+            return Ok(Some(count_of(number)));
+        }
+        match value.as_str() {
+            Some("unbounded") => Ok(None),
+            _ => Err(self.refuses(WRONG_TYPE)),
+        }
+    }
+
     /// Returns the boolean at this key, or `false` if the key is absent. Returns a fault if the
     /// value has another type.
     #[tactic(auto, unfolding(crate::specs::Entry::flag_at))]

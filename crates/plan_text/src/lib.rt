@@ -1,8 +1,9 @@
 //! The text of a plan, which is TOML.
 //!
 //! [`read_plan`] parses a plan, or returns the first fault. [`write_plan`] writes a text that
-//! [`read_plan`] parses as the same plan, unless the text is longer than a plan's text may be.
-//! [`Places`] finds the line and column of each part of a plan in its text.
+//! [`read_plan`] parses as the same plan, except for sizes that have no effect, unless the text is
+//! longer than a plan's text may be. [`Places`] finds the line and column of each part of a plan in
+//! its text.
 #![tactic(auto)]
 
 mod bodies;
@@ -19,6 +20,7 @@ mod place;
 mod places;
 mod plan_of;
 mod plan_values;
+mod sizes;
 mod slots;
 mod spelling;
 mod token;

@@ -5,6 +5,7 @@ ghost use Rattle.support.specs.Results.{Gives};
 ghost use Rattle.job_bodies.specs.Checks.{at_text};
 ghost use Rattle.job_bodies.specs.Build.{plan_of_lists};
 ghost use Rattle.job_bodies.specs.Plan as plans;
+ghost use Rattle.plan_text.specs.EffectivePlan.{effective_plan};
 ghost use Rattle.plan_text.specs.PlanOf as spec;
 
 use crate::bodies::{classes_of, clients_of};
@@ -20,12 +21,18 @@ use support::number::MEMORY;
 
 /// Parses the bytes of a plan.
 ///
+/// The `max` and the `queue` of a pool are each an integer or the string `unbounded`. With
+/// `queue = "unbounded"` the pool's queue is unbounded and its `max` has no effect: the plan has
+/// core as the maximum, and 1,000,000 as the queue. If `max` is a number, it must be in range all
+/// the same. If the queue has a capacity, `max = "unbounded"` is out of range.
+///
 /// # Errors
 ///
 /// Returns the first fault of the bytes. If memory runs out, returns a fault with the number
 /// [`MEMORY`], which says nothing about the bytes.
 pub fn read_plan(alloc: Global, bytes: &[u8]) -> Result<Plan, PlanFault>
     ensures plan { IfOk result (λ plan. spec.plan_of bytes.now ≡ Ok plan) }
+    ensures effective { IfOk result (λ plan. effective_plan plan ≡ plan) }
     ensures fault { IfErr result
         (λ fault. fault ≢ at_text MEMORY → spec.plan_of bytes.now ≡ Err fault) }
 {

@@ -44,6 +44,18 @@ fn number_value(number: u64) -> Value
     Value::Integer(number as i64)
 }
 
+/// Returns the value of the key `queue`: the string `unbounded`, or the capacity.
+fn queue_value(alloc: Global, pool: &Pool) -> Result<Value, AllocError>
+    requires { is_valid_pool pool.now ≡ true }
+    ensures { IfOk result (λ value. view value ≡ spec.queue_data pool.now) }
+{
+    if pool.unbounded {
+        Value::string(alloc, "unbounded")
+    } else {
+        Ok(number_value(pool.queue))
+    }
+}
+
 fn pool_value(alloc: Global, pool: &Pool) -> Result<Value, AllocError>
     requires { is_valid_pool pool.now ≡ true }
     ensures { IfOk result (λ value. view value ≡ spec.pool_data pool.now) }
@@ -59,7 +71,7 @@ fn pool_value(alloc: Global, pool: &Pool) -> Result<Value, AllocError>
     )?;
     insert_flag(alloc, &mut table, "prestart", pool.prestart)?;
     insert_flag(alloc, &mut table, "may_reject", pool.may_reject)?;
-    insert_value(alloc, &mut table, "queue", number_value(pool.queue))?;
+    insert_value(alloc, &mut table, "queue", queue_value(alloc, pool)?)?;
     Ok(Value::Table(table))
 }
 

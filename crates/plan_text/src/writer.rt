@@ -1,7 +1,9 @@
 //! A writer of the text of a plan.
 
-ghost use Rattle.std.specs.Prelude.{◌≡◌, ◌≤◌, length, IfOk, Ok, string_bytes};
+ghost use Rattle.std.specs.Prelude.{◌≡◌, ◌≤◌, false, length, IfOk, Ok, string_bytes};
+ghost use Rattle.std.specs.List.{list_any};
 ghost use Rattle.job_bodies.specs.declared.limits.TheConstants.{MAX_PLAN_BYTES};
+ghost use Rattle.plan_text.specs.EffectivePlan.{effective_plan};
 ghost use Rattle.plan_text.specs.PlanDocument.{IsPlanText};
 ghost use Rattle.plan_text.specs.PlanOf.{plan_of};
 
@@ -12,6 +14,10 @@ use std::alloc::{AllocError, Global};
 /// Writes a plan as TOML. [`read_plan`](crate::read_plan) parses the text as the same plan, unless
 /// the text is longer than a plan's text may be.
 ///
+/// An unbounded queue is written as `queue = "unbounded"`, and the `max` of its pool as the number
+/// that the pool has. Both sizes have no effect in such a pool. [`read_plan`](crate::read_plan)
+/// gives it core as its maximum and 1,000,000 as its queue, whatever they were in the plan.
+///
 /// A submit that a get names fills a slot of its own. The slot's name is `s` followed by the
 /// position of the submit in its body. Other submits fill no slot.
 ///
@@ -21,7 +27,12 @@ use std::alloc::{AllocError, Global};
 pub fn write_plan(alloc: Global, plan: &Plan) -> Result<String, AllocError>
     ensures document { IfOk result (λ text. IsPlanText plan.now (string_bytes text)) }
     ensures reads_back { IfOk result (λ text.
-        length (string_bytes text) ≤ MAX_PLAN_BYTES → plan_of (string_bytes text) ≡ Ok plan.now) }
+        length (string_bytes text) ≤ MAX_PLAN_BYTES
+        → plan_of (string_bytes text) ≡ Ok (effective_plan plan.now)) }
+    ensures bounded_reads_back { IfOk result (λ text.
+        list_any (λ pool. pool.unbounded) plan.now.pools ≡ false
+        → length (string_bytes text) ≤ MAX_PLAN_BYTES
+        → plan_of (string_bytes text) ≡ Ok plan.now) }
 {
     let document = plan_document(alloc, plan)?;
     match toml::table_to_string(alloc, &document) {

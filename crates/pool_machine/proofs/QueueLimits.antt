@@ -1,7 +1,7 @@
 -- Lemmas about the number of jobs that a queue can hold.
-use Rattle.std.proofs.Common.{◌≡◌, ℕ, zero, suc, ◌<◌, ◌≤◌, Bool, cond, refl, ap, arith}
+use Rattle.std.proofs.Common.{◌≡◌, ℕ, zero, suc, ◌+◌, ◌<◌, ◌≤◌, Bool, true, false, cond, refl, ap, arith}
 use Rattle.std.proofs.lemmas.Bool.{ne_eqb}
-use Rattle.pool_machine.specs.PoolState.{queue_limit}
+use Rattle.pool_machine.specs.PoolState.{queue_limit, room_limit}
 
 -- a queue of a capacity of at least 1 can hold that many jobs
 limit-suc : (n idle : ℕ) → queue_limit (suc n) idle ≡ suc n
@@ -12,7 +12,23 @@ pub capacity-le : (capacity idle : ℕ) → capacity ≤ queue_limit capacity id
 capacity-le zero idle = omega arith
 capacity-le (suc n) idle = omega (arith, limit-suc n idle)
 
--- a queue that is not longer than before is still within its limit if, with a capacity of 0, each of its jobs has an idle worker
-pub still_within : (capacity idle idle' n n' : ℕ) → n ≤ queue_limit capacity idle → n' ≤ n → (capacity ≡ 0 → n ≤ idle → n' ≤ idle') → n' ≤ queue_limit capacity idle'
-still_within zero idle idle' n n' within shorter each = each refl within
-still_within (suc capacity) idle idle' n n' within shorter each = omega (arith, limit-suc capacity idle, limit-suc capacity idle')
+-- a queue that is not longer than before is still within its limit if, in a bounded queue of capacity 0, each job has an idle worker
+pub still_within : (unbounded : Bool) (capacity idle idle' n n' : ℕ) → n ≤ room_limit unbounded capacity idle n → n' ≤ n → (unbounded ≡ false → capacity ≡ 0 → n ≤ idle → n' ≤ idle') → n' ≤ room_limit unbounded capacity idle' n'
+still_within true capacity idle idle' n n' within shorter each = omega arith
+still_within false zero idle idle' n n' within shorter each = each refl refl within
+still_within false (suc capacity) idle idle' n n' within shorter each = omega (arith, limit-suc capacity idle, limit-suc capacity idle')
+
+-- a queue with room is within its limit after one more job
+pub room_for_one : (unbounded : Bool) (capacity idle n : ℕ) → n < room_limit unbounded capacity idle n → n + 1 ≤ room_limit unbounded capacity idle (n + 1)
+room_for_one true capacity idle n room = omega arith
+room_for_one false capacity idle n room = omega (arith, room)
+
+-- a queue without room is bounded, and its capacity is at most the number of its jobs
+pub no_room_means : (unbounded : Bool) (capacity idle n : ℕ) → room_limit unbounded capacity idle n ≤ n → (unbounded ≡ false) × (capacity ≤ n)
+no_room_means true capacity idle n none = absurd (omega (arith, none))
+no_room_means false capacity idle n none = (refl, omega (arith, none, capacity-le capacity idle))
+
+-- a bounded queue that is within its limit has at most as many jobs as its capacity, or as workers are idle if its capacity is 0
+pub bounded_within : (unbounded : Bool) (capacity idle n : ℕ) → n ≤ room_limit unbounded capacity idle n → unbounded ≡ false → n ≤ queue_limit capacity idle
+bounded_within true capacity idle n within bounded = cc
+bounded_within false capacity idle n within bounded = within

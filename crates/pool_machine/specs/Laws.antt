@@ -1,5 +1,5 @@
 -- The laws of a single pool, and when a property of pools is an invariant.
-use Rattle.std.specs.Prelude.{◌≡◌, ℕ, ◌+◌, ◌<◌, ◌≤◌, ◌↔◌, ◌⊎◌, [], length, Some, None}
+use Rattle.std.specs.Prelude.{◌≡◌, false, ℕ, ◌+◌, ◌<◌, ◌≤◌, ◌↔◌, ◌⊎◌, [], length, Some, None}
 use Rattle.job_bodies.specs.Plan.{Pool, first_workers}
 use Rattle.pool_machine.specs.declared.offer.Offer.TheVariants.{Refused}
 use Rattle.pool_machine.specs.PoolState.{PoolView, new_pool, queue_limit, answer, offered, taken, finished, retired}
@@ -11,11 +11,12 @@ pub record IsInvariant (holds : PoolView → Type 0) : Type 0 where
   pub by_finish : (pool : PoolView) → pool.idle < pool.threads → holds pool → holds (finished pool)
   pub by_retire : (pool after : PoolView) → retired pool ≡ Some after → holds pool → holds after
 
--- the pool has the same core, maximum and capacity as the first pool
+-- the pool has the same sizes as the first pool, and both queues are unbounded or neither is
 pub record HasSizesOf (first pool : PoolView) : Type 0 where
   pub core : pool.core ≡ first.core
   pub max : pool.max ≡ first.max
   pub capacity : pool.capacity ≡ first.capacity
+  pub unbounded : pool.unbounded ≡ first.unbounded
 
 -- if the pool has a queued job, it has at least core threads
 abbrev pub QueuesOnlyAtCore : PoolView → Type 0
@@ -35,10 +36,10 @@ pub record LoadIsOffered : Type 0 where
   pub by_finish : (pool : PoolView) → load (finished pool) ≡ load pool
   pub by_retire : (pool after : PoolView) → retired pool ≡ Some after → load after < load pool
 
--- when operations fail: the pool refuses a job exactly when its queue is full and it has its maximum of threads; a take fails exactly when
--- no worker is idle or the queue is empty; a retirement fails exactly when no worker is idle, the pool has at most core threads, or its
--- capacity is 0 and each idle worker has a job in the queue
+-- when operations fail: the pool refuses a job exactly when its queue is bounded and full and it has its maximum of threads; a take fails
+-- exactly when no worker is idle or the queue is empty; a retirement fails exactly when no worker is idle, the pool has at most core threads, or its
+-- queue is bounded with capacity 0 and each idle worker has a job in it
 pub record FailureConditions (pool : PoolView) : Type 0 where
-  pub refuses : answer pool ≡ Refused ↔ (length pool.queue ≡ queue_limit pool.capacity pool.idle) × (pool.threads ≡ pool.max)
+  pub refuses : answer pool ≡ Refused ↔ (pool.unbounded ≡ false) × (length pool.queue ≡ queue_limit pool.capacity pool.idle) × (pool.threads ≡ pool.max)
   pub takes_none : taken pool ≡ None ↔ (pool.idle ≡ 0) ⊎ (pool.queue ≡ [])
-  pub ends_none : retired pool ≡ None ↔ (pool.idle ≡ 0) ⊎ (pool.threads ≤ pool.core) ⊎ ((pool.capacity ≡ 0) × (pool.idle ≡ length pool.queue))
+  pub ends_none : retired pool ≡ None ↔ (pool.idle ≡ 0) ⊎ (pool.threads ≤ pool.core) ⊎ ((pool.unbounded ≡ false) × (pool.capacity ≡ 0) × (pool.idle ≡ length pool.queue))

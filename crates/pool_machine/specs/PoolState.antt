@@ -6,30 +6,41 @@ use Rattle.job_bodies.specs.Plan.{Pool, first_workers}
 use Rattle.pool_machine.specs.declared.offer.Offer.{Offer}
 use Rattle.pool_machine.specs.declared.offer.Offer.TheVariants.{Started, Queued, Refused}
 
--- a pool: its sizes, the number of its threads, how many of them are idle, and the numbers of the jobs in its queue, the head first
+-- a pool: its sizes, whether its queue is unbounded (its capacity then has no effect), the number of its threads, how many of them are
+-- idle, and the numbers of the jobs in its queue, the head first
 pub record PoolView : Type 0 where
   pub core : ℕ
   pub max : ℕ
   pub capacity : ℕ
+  pub unbounded : Bool
   pub threads : ℕ
   pub idle : ℕ
   pub queue : List ℕ
 
 -- the pool at first, with an empty queue: it has core idle workers if they are prestarted, and otherwise no threads
 abbrev pub new_pool : Pool → PoolView
-new_pool pool = record { core = pool.core; max = pool.max; capacity = pool.queue; threads = first_workers pool; idle = first_workers pool; queue = [] }
+new_pool pool = record { core = pool.core; max = pool.max; capacity = pool.queue; unbounded = pool.unbounded; threads = first_workers pool; idle = first_workers pool; queue = [] }
 
--- the number of jobs that a queue of this capacity can hold at most in a pool with this number of idle workers: its capacity; a queue of
+-- the number of jobs that a bounded queue of this capacity can hold at most in a pool with this number of idle workers: its capacity; a queue of
 -- capacity 0 is a SynchronousQueue, which holds a job for each idle worker until that worker takes it
 abbrev pub queue_limit : ℕ → ℕ → ℕ
 queue_limit capacity idle = if capacity == 0 then idle else capacity
+
+-- the number of jobs below which a queue has room for one more, if it is unbounded or not, has this capacity and this number of jobs, and its
+-- pool has this number of idle workers; an unbounded queue always has room
+abbrev pub room_limit : Bool → ℕ → ℕ → ℕ → ℕ
+room_limit unbounded capacity idle queued = if unbounded then queued + 1 else queue_limit capacity idle
+
+-- whether the queue has room for one more job
+abbrev pub has_room : PoolView → Bool
+has_room pool = nat_lt (length pool.queue) (room_limit pool.unbounded pool.capacity pool.idle (length pool.queue))
 
 -- the answer of the pool to an offered job: with fewer than core threads, a new thread starts it; otherwise it is queued if the queue has
 -- room; otherwise, with fewer than the maximum of threads, a new thread starts it; otherwise it is refused
 abbrev pub answer : PoolView → Offer
 answer pool =
     if nat_lt pool.threads pool.core then Started
-    else (if nat_lt (length pool.queue) (queue_limit pool.capacity pool.idle) then Queued
+    else (if has_room pool then Queued
     else (if nat_lt pool.threads pool.max then Started
     else Refused))
 
@@ -55,21 +66,21 @@ taken pool = taken_from pool pool.idle pool.queue
 abbrev pub finished : PoolView → PoolView
 finished pool = record pool { idle = pool.idle + 1 }
 
--- whether a worker may end that leaves this number of idle workers: the pool has more than core threads, and with a capacity of 0 each job
+-- whether a worker may end that leaves this number of idle workers: the pool has more than core threads, and in a bounded queue of capacity 0 each job
 -- in the queue still has an idle worker, because a worker that was handed a job does not end
 abbrev pub may_retire : PoolView → ℕ → Bool
-may_retire pool idle = nat_lt pool.core pool.threads && (nat_lt 0 pool.capacity || nat_le (length pool.queue) idle)
+may_retire pool idle = nat_lt pool.core pool.threads && (pool.unbounded || nat_lt 0 pool.capacity || nat_le (length pool.queue) idle)
 
 abbrev pub retired_of : PoolView → ℕ → Option PoolView
 retired_of pool zero = None
 retired_of pool (suc idle) = if may_retire pool idle then Some (record pool { threads = pool.threads - 1; idle = idle }) else None
 
--- the pool after an idle worker ended; None if no worker is idle, the pool has at most core threads, or its capacity is 0 and each idle
--- worker has a job in the queue
+-- the pool after an idle worker ended; None if no worker is idle, the pool has at most core threads, or its queue is bounded with
+-- capacity 0 and each idle worker has a job in it
 abbrev pub retired : PoolView → Option PoolView
 retired pool = retired_of pool pool.idle
 
--- the invariant of a pool: its sizes are valid, and its idle workers, threads and queue are within their limits
+-- the invariant of a pool: its sizes are valid, and its idle workers, threads and bounded queue are within their limits
 pub record IsSound (pool : PoolView) : Type 0 where
   pub some_core : 1 ≤ pool.core
   pub core_within_max : pool.core ≤ pool.max
@@ -77,4 +88,4 @@ pub record IsSound (pool : PoolView) : Type 0 where
   pub capacity_within_limit : pool.capacity ≤ MAX_SIZE
   pub idle_within_threads : pool.idle ≤ pool.threads
   pub threads_within_max : pool.threads ≤ pool.max
-  pub queue_within_limit : length pool.queue ≤ queue_limit pool.capacity pool.idle
+  pub queue_within_limit : length pool.queue ≤ room_limit pool.unbounded pool.capacity pool.idle (length pool.queue)

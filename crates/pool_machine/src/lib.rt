@@ -1,5 +1,5 @@
-//! A bounded thread pool that behaves like Java's `ThreadPoolExecutor` with an `ArrayBlockingQueue`
-//! and `AbortPolicy`.
+//! A thread pool that behaves like Java's `ThreadPoolExecutor` with an `ArrayBlockingQueue`, a
+//! `SynchronousQueue` or an unbounded queue, and with `AbortPolicy`.
 #![tactic(auto)]
 
 mod laws;

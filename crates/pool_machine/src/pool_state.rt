@@ -4,7 +4,7 @@ ghost use Rattle.std.specs.Prelude.{◌≡◌, ◌-◌, ◌<◌, ◌≤◌, ◌�
 ghost use Rattle.std.specs.Prelude.{IsTrue, IsNone, IfSome, IfNone, IfOk, OnOk, OnErr};
 ghost use Rattle.std.specs.Bool.{OnTrue, OnFalse};
 ghost use Rattle.job_bodies.specs.WellFormed.{has_valid_sizes};
-ghost use Rattle.pool_machine.specs.PoolState.{IsSound, queue_limit, new_pool, answer, offered, taken, finished, retired};
+ghost use Rattle.pool_machine.specs.PoolState.{IsSound, queue_limit, has_room, new_pool, answer, offered, taken, finished, retired};
 
 use crate::Offer;
 use job_bodies::Pool;
@@ -12,17 +12,18 @@ use std::alloc::{AllocError, Global};
 use std::collections::VecDeque;
 use std::marker::Model;
 
-/// A bounded thread pool: its sizes, the number of its threads, how many of them are idle, and the
+/// A thread pool: its sizes, the number of its threads, how many of them are idle, and the
 /// numbers of the jobs in its queue.
 ///
 /// A worker that finished a job is idle until it takes the head of the queue. So the queue can be
 /// full while workers are idle. The rules are those of Java's `ThreadPoolExecutor` with an
-/// `ArrayBlockingQueue`, or with a `SynchronousQueue` if the capacity is 0.
+/// `ArrayBlockingQueue`, with a `SynchronousQueue` if the capacity is 0, or with an unbounded queue.
 #[derive(Drop)]
 pub struct PoolState {
     core: u64,
     max: u64,
     capacity: u64,
+    unbounded: bool,
     threads: u64,
     idle: u64,
     queue: VecDeque<usize>,
@@ -37,6 +38,7 @@ impl Model for PoolState {
       core = p.core;
       max = p.max;
       capacity = p.capacity;
+      unbounded = p.unbounded;
       threads = p.threads;
       idle = p.idle;
       queue = p.queue.items;
@@ -46,6 +48,7 @@ impl Model for PoolState {
       core = p.core;
       max = p.max;
       capacity = p.capacity;
+      unbounded = p.unbounded;
       threads = p.threads;
       idle = p.idle;
       queue = p.queue.items;
@@ -67,6 +70,7 @@ impl PoolState {
             core: pool.core,
             max: pool.max,
             capacity: pool.queue,
+            unbounded: pool.unbounded,
             threads: first_workers,
             idle: first_workers,
             queue: VecDeque::new(alloc),
@@ -76,7 +80,7 @@ impl PoolState {
     /// Offers the job with this number to the pool, as Java's `execute` does. If the pool has fewer
     /// than core threads, a new thread starts the job, even if workers are idle. Otherwise the job
     /// is appended to the queue if there is room. A queue of capacity 0, as Java's
-    /// `SynchronousQueue`, has room for each idle worker. Otherwise a new thread starts it if the
+    /// `SynchronousQueue`, has room for each idle worker, and an unbounded queue always has room. Otherwise a new thread starts it if the
     /// pool has fewer than its maximum of threads. Otherwise the job is refused.
     ///
     /// A new thread is busy with its job from the start. If the job is refused, the pool is
@@ -101,7 +105,7 @@ impl PoolState {
         Ok(answer)
     }
 
-    // Returns the number of jobs that the queue can hold at most: its capacity, or the number of idle
+    // Returns the number of jobs that a bounded queue can hold at most: its capacity, or the number of idle
     // workers if the capacity is 0.
     fn queue_limit(&self) -> u64
         ensures { result ≡ queue_limit self.now.capacity self.now.idle }
@@ -113,13 +117,20 @@ impl PoolState {
         }
     }
 
+    // Returns whether the queue has room for one more job.
+    fn has_room(&self) -> bool
+        ensures { result ≡ has_room self.now }
+    {
+        self.unbounded || (self.queue.len() as u64) < self.queue_limit()
+    }
+
     // Returns the answer of the pool to the next offered job.
     fn answer(&self) -> Offer
         ensures { result ≡ answer self.now }
     {
         if self.threads < self.core {
             Offer::Started
-        } else if (self.queue.len() as u64) < self.queue_limit() {
+        } else if self.has_room() {
             Offer::Queued
         } else if self.threads < self.max {
             Offer::Started
@@ -170,13 +181,13 @@ impl PoolState {
         ends
     }
 
-    // Returns whether an idle worker has no job of its own in the queue. With a capacity of 0 each
-    // queued job was handed to an idle worker.
+    // Returns whether an idle worker has no job of its own in the queue. In a bounded queue of
+    // capacity 0 each job was handed to an idle worker.
     fn has_spare_worker(&self) -> bool
         requires { 0 < self.now.idle }
-        ensures { result ≡ (nat_lt 0 self.now.capacity || nat_le (length self.now.queue) (self.now.idle - 1)) }
+        ensures { result ≡ (self.now.unbounded || nat_lt 0 self.now.capacity || nat_le (length self.now.queue) (self.now.idle - 1)) }
     {
-        0 < self.capacity || (self.queue.len() as u64) < self.idle
+        self.unbounded || 0 < self.capacity || (self.queue.len() as u64) < self.idle
     }
 
     /// Returns the core pool size: 1 to the maximum. While the pool has fewer threads, each offered
@@ -194,11 +205,19 @@ impl PoolState {
         self.max
     }
 
-    /// Returns the capacity of the queue: 0 to `MAX_SIZE`.
+    /// Returns the capacity of the queue: 0 to `MAX_SIZE`. It has no effect if the queue is
+    /// [unbounded](PoolState::is_unbounded).
     pub fn capacity(&self) -> u64
         ensures { result ≡ self.now.capacity }
     {
         self.capacity
+    }
+
+    /// Returns whether the queue is unbounded.
+    pub fn is_unbounded(&self) -> bool
+        ensures { result ≡ self.now.unbounded }
+    {
+        self.unbounded
     }
 
     /// Returns the number of threads, busy and idle: 0 to the maximum.
@@ -225,8 +244,8 @@ impl PoolState {
         self.threads - self.idle
     }
 
-    /// Returns the number of jobs in the queue: 0 to the capacity, or to the number of idle workers
-    /// if the capacity is 0.
+    /// Returns the number of jobs in the queue. A bounded queue has at most its capacity of them, or
+    /// as many as workers are idle if its capacity is 0.
     pub fn queued(&self) -> usize
         ensures value { result ≡ length self.now.queue }
         ensures sound { IsSound self.now }

@@ -1,13 +1,26 @@
 -- The settings of a pool in a `pool` line: its sizes, its queue and its handler.
-use Rattle.std.specs.Prelude.{ℕ, Bool, true, false, if◌then◌else◌, List, Option, Some, None, codes}
+use Rattle.std.specs.Prelude.{ℕ, Bool, true, false, ◌==◌, ◌&&◌, if◌then◌else◌, List, Option, Some, None, codes}
 use Rattle.std.specs.Str.{bytes_eq}
 use Rattle.line_words.specs.Pieces.{split_space}
+use Rattle.recordings.specs.declared.pool_sizes.TheConstants.{UNBOUNDED_CAPACITY}
 use Rattle.recordings.specs.declared.pool_sizes.PoolSizes.{PoolSizes}
 use Rattle.recordings.specs.declared.pool_sizes.QueueKind.{QueueKind}
 use Rattle.recordings.specs.declared.pool_sizes.QueueKind.TheVariants as queue
 use Rattle.recordings.specs.declared.pool_sizes.HandlerKind.{HandlerKind}
 use Rattle.recordings.specs.declared.pool_sizes.HandlerKind.TheVariants as handler
 use Rattle.recordings.specs.Words.{◌>>=◌, parse_number, strip_word, parse_word_and_number}
+
+-- whether the queue is a `LinkedBlockingQueue`
+abbrev pub is_linked : QueueKind → Bool
+is_linked queue.Array = false
+is_linked queue.Linked = true
+is_linked queue.Synchronous = false
+is_linked queue.Priority = false
+is_linked queue.Other = false
+
+-- whether the queue is unbounded: a `LinkedBlockingQueue` without a capacity, or with one that a line cannot tell from none
+abbrev pub has_unbounded_queue : PoolSizes → Bool
+has_unbounded_queue sizes = is_linked sizes.queue && sizes.capacity == UNBOUNDED_CAPACITY
 
 -- the kind of queue that the word names
 unfoldable pub queue_kind_of : List ℕ → Option QueueKind

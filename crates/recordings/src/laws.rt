@@ -1,9 +1,14 @@
-//! A law about the lines of a recording. The law is the contract of a function with an empty body.
+//! Laws about the lines of a recording. Each law is the contract of a function with an empty body.
 
-ghost use Rattle.recordings.specs.Laws.{RecordingLinesAreCanonical};
+ghost use Rattle.recordings.specs.Laws.{RecordingLinesAreCanonical, UnboundedCapacityIsStated};
 
 /// Proves that each valid line has exactly one text. A text parses as a line if and only if the
 /// line is valid and the text is its text.
 pub fn recording_lines_are_canonical()
     ensures { RecordingLinesAreCanonical }
+{}
+
+/// Proves that [`UNBOUNDED_CAPACITY`](crate::UNBOUNDED_CAPACITY) has its documented value.
+pub fn unbounded_capacity_is_stated()
+    ensures { UnboundedCapacityIsStated }
 {}

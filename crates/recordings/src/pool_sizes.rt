@@ -5,7 +5,14 @@ ghost use Rattle.std.specs.Prelude.{◌≡◌, option_map};
 ghost use Rattle.recordings.specs.PoolSizes as spec;
 
 use crate::words::{is_word, parse_number, parse_word_and_number, strip_word};
+use job_bodies::MAX_LINE_NUMBER;
 use line_words::split_space;
+
+/// The capacity of an unbounded queue in a `pool` line. A `LinkedBlockingQueue` that was created
+/// without a capacity has one of 2,147,483,647, and a recorder writes a number above
+/// [`MAX_LINE_NUMBER`] as this limit. So a queue that was created with such a capacity counts as
+/// unbounded too.
+pub const UNBOUNDED_CAPACITY: usize = MAX_LINE_NUMBER;
 
 /// The settings of a pool. No number in a line is above
 /// [`MAX_LINE_NUMBER`](job_bodies::MAX_LINE_NUMBER): a recorder writes a larger value as this
@@ -24,6 +31,15 @@ pub struct PoolSizes {
     pub handler: HandlerKind,
 }
 
+impl PoolSizes {
+    /// Returns whether the queue is unbounded: a `LinkedBlockingQueue` of [`UNBOUNDED_CAPACITY`].
+    pub fn has_unbounded_queue(self) -> bool
+        ensures { result ≡ spec.has_unbounded_queue self }
+    {
+        self.queue.is_linked() && self.capacity == UNBOUNDED_CAPACITY
+    }
+}
+
 /// The kind of a pool's queue. A subclass of `ArrayBlockingQueue` or `LinkedBlockingQueue` is
 /// [`Other`](QueueKind::Other).
 #[derive(Clone, Copy, PartialEq, Eq, Hash)]
@@ -33,6 +49,15 @@ pub enum QueueKind {
     Synchronous,
     Priority,
     Other,
+}
+
+impl QueueKind {
+    /// Returns whether the queue is a `LinkedBlockingQueue`.
+    pub fn is_linked(self) -> bool
+        ensures { result ≡ spec.is_linked self }
+    {
+        matches!(self, QueueKind::Linked)
+    }
 }
 
 /// The kind of a pool's handler for jobs that it refuses.

@@ -1,6 +1,6 @@
 //! The failing conditions of a certificate, as notes. Each note belongs to a section: the ranks, or
 //! one vector of a pool. The *bound* of a pool is the standing or lifetime vector that bounds its
-//! queue. A pool that may reject jobs need not have one.
+//! queue. A pool that may reject jobs or has an unbounded queue need not have one.
 
 ghost use Rattle.std.specs.Prelude.{◌≡◌, ◌<◌, ◌++◌, IsTrue, IfOk, OnOk, filter, length};
 ghost use Rattle.weights.specs.Bound.{bound_vector, bound_rows};

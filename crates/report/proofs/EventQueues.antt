@@ -8,7 +8,7 @@ use Rattle.job_bodies.specs.Plan.{Plan, Pool, no_pool, pool_at}
 use Rattle.job_bodies.specs.WellFormed.{IsWellFormed}
 use Rattle.written_machine.specs.declared.event.Event.{Event}
 use Rattle.written_machine.specs.declared.event.Outcome.{Outcome}
-use Rattle.pool_machine.specs.PoolState.{queue_limit}
+use Rattle.pool_machine.specs.PoolState.{room_limit}
 use Rattle.written_machine.specs.State.{Stage, State, CreatedJob, PoolPart, no_pool_part, no_job, job_at, pool_part, pool_of, threads}
 use Rattle.written_machine.specs.Step.{step, moved_jobs}
 use Rattle.written_machine.specs.Reach.{start, IsReached}
@@ -72,12 +72,12 @@ abbrev pub pool_at_event : Plan → State → Event → State → Outcome → Op
 pool_at_event plan s e s' o = option_and_then (counts_of plan s') (changed_pool plan s' (actor_of plan s e) o)
 
 -- a pool whose queue has room exists, because past the end of the list there is no queue and no idle worker
-room_exists : (plan : Plan) (s : State) (q n : ℕ) → length s.pools ≡ length plan.pools → n < queue_limit (pool_at plan q).queue (pool_part s q).idle → q < length plan.pools
+room_exists : (plan : Plan) (s : State) (q n : ℕ) → length s.pools ≡ length plan.pools → n < room_limit (pool_at plan q).unbounded (pool_at plan q).queue (pool_part s q).idle n → q < length plan.pools
 room_exists plan s q n as_many room = elim (cases_lt q (length plan.pools)) [
   | inl inside ↦ inside
   | inr past ↦
-      let none : queue_limit (pool_at plan q).queue (pool_part s q).idle ≡ 0 =
-      ap (λ (pool : Pool). queue_limit pool.queue (pool_part s q).idle) (get_or_past plan.pools q no_pool past) ∙ ap (λ (part : PoolPart). part.idle) (get_or_past s.pools q no_pool_part (omega arith)) in
+      let none : room_limit (pool_at plan q).unbounded (pool_at plan q).queue (pool_part s q).idle n ≡ 0 =
+      ap (λ (pool : Pool). room_limit pool.unbounded pool.queue (pool_part s q).idle n) (get_or_past plan.pools q no_pool past) ∙ ap (λ (part : PoolPart). part.idle) (get_or_past s.pools q no_pool_part (omega arith)) in
       absurd (omega (arith, none))
 ]
 

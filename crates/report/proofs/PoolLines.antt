@@ -1,5 +1,5 @@
 -- The lines of the pools so far, and how many of their sizes change.
-use Rattle.std.proofs.Common.{◌≡◌, ◌<◌, ◌≤◌, ℕ, ◌+◌, ◌*◌, Bool, true, false, cond, List, [], ◌∷◌, ◌++◌, length, get_or, take, flat_map, sum_by, refl, sym, ap, subst, ◌∙◌, append_assoc, arith}
+use Rattle.std.proofs.Common.{◌≡◌, ◌<◌, ◌≤◌, ℕ, ◌+◌, ◌*◌, Bool, true, false, cond, ◌&&◌, List, [], ◌∷◌, ◌++◌, length, get_or, take, flat_map, sum_by, refl, sym, ap, subst, ◌∙◌, append_assoc, arith}
 use Rattle.std.specs.Prelude.{◌==◌, codes, decimal, min}
 use Rattle.std.proofs.lemmas.Grind.{flat_map-append}
 use Rattle.std.proofs.lemmas.List.{take_more, take_all, append-nil, length-append}
@@ -7,7 +7,7 @@ use Rattle.std.proofs.lemmas.List.Sums.{sum_by_push}
 use Rattle.std.proofs.lemmas.Slice.Zip.{get_or-zip, length-zip}
 use Rattle.job_bodies.specs.Plan.{Pool, Plan, no_pool}
 use Rattle.report.specs.Sizes as spec
-use Rattle.report.specs.Sizes.{changed, pool_changes, pool_text, both_text, both_changes, both_pools, sizes_text}
+use Rattle.report.specs.Sizes.{changed, any_changed, pool_changes, pool_text, both_text, both_changes, both_pools, sizes_text}
 
 -- the text after the lines of the first n pools, and the number of their sizes that change
 pub record IsTextOfFirst (declared fit : Plan) (old : List ℕ) (n : ℕ) (text : List ℕ) (changes : ℕ) : Type 0 where
@@ -15,20 +15,24 @@ pub record IsTextOfFirst (declared fit : Plan) (old : List ℕ) (n : ℕ) (text 
   pub changes_are : changes ≡ sum_by both_changes (take n (both_pools declared fit))
   pub few : changes ≤ n * 3
 
+one_at_most : (same : Bool) → cond same 0 1 ≤ 1
+one_at_most true = omega arith
+one_at_most false = omega arith
+
 -- a size counts as at most one change
 at_most_one : (declared fit : ℕ) → changed declared fit ≤ 1
-at_most_one declared fit = by_test (declared == fit)
-  where
-    by_test : (same : Bool) → cond same 0 1 ≤ 1
-    by_test true = omega arith
-    by_test false = omega arith
+at_most_one declared fit = one_at_most (declared == fit)
 
 pub at_most_three : (declared fit : Pool) → pool_changes declared fit ≤ 3
-at_most_three declared fit =
-    let core = at_most_one declared.core fit.core in
-    let max = at_most_one declared.max fit.max in
-    let queue = at_most_one declared.queue fit.queue in
-    omega (arith, core, max, queue)
+at_most_three declared fit = by_key fit.unbounded
+  where
+    by_key : (unbounded : Bool) → cond unbounded (any_changed declared fit) (changed declared.core fit.core + changed declared.max fit.max + changed declared.queue fit.queue) ≤ 3
+    by_key true = let one = one_at_most (declared.core == fit.core && declared.max == fit.max && declared.queue == fit.queue) in omega (arith, one)
+    by_key false =
+        let core = at_most_one declared.core fit.core in
+        let max = at_most_one declared.max fit.max in
+        let queue = at_most_one declared.queue fit.queue in
+        omega (arith, core, max, queue)
 
 pub text_of_none : (declared fit : Plan) (old : List ℕ) → IsTextOfFirst declared fit old 0 old 0
 text_of_none declared fit old = record { text_is = sym (append-nil old); changes_are = refl; few = omega arith }

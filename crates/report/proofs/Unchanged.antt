@@ -1,10 +1,10 @@
 -- A plan with no changed size is the declared one.
-use Rattle.std.proofs.Common.{◌≡◌, ℕ, ◌+◌, Bool, true, false, cond, List, [], ◌∷◌, map, zip, sum_by, refl, sym, ap, ap₂, ◌∙◌, arith}
+use Rattle.std.proofs.Common.{◌≡◌, ℕ, ◌+◌, Bool, true, false, cond, ◌&&◌, List, [], ◌∷◌, map, zip, sum_by, refl, sym, ap, ap₂, ◌∙◌, arith}
 use Rattle.std.specs.Prelude.{◌==◌}
-use Rattle.std.proofs.lemmas.Bool.{eqb-true}
+use Rattle.std.proofs.lemmas.Bool.{eqb-true, and_parts}
 use Rattle.std.proofs.lemmas.List.Sums.{sum_by-cons}
 use Rattle.job_bodies.specs.Plan.{Pool, Class, Client, Plan}
-use Rattle.report.specs.Sizes.{changed, pool_changes, both_changes, UnchangedSizesAreTheDeclaredPlan}
+use Rattle.report.specs.Sizes.{changed, any_changed, pool_changes, both_changes, UnchangedSizesAreTheDeclaredPlan}
 
 -- a size that does not change is the declared one
 same_size : (declared fit : ℕ) → changed declared fit ≡ 0 → fit ≡ declared
@@ -14,6 +14,27 @@ same_size declared fit none = by_test (declared == fit) refl none
     by_test true is none = sym (eqb-true declared fit is)
     by_test false is none = absurd (omega (arith, none))
 
+-- a number that is 0 if a test holds and otherwise 1 shows the test
+holds : (test : Bool) → ◌≡◌ {A = ℕ} (cond test 0 1) 0 → test ≡ true
+holds true none = refl
+holds false none = absurd (omega (arith, none))
+
+-- the sizes of a pool are the declared ones
+abbrev AreSame : Pool → Pool → Type 0
+AreSame declared fit = (fit.core ≡ declared.core) × (fit.max ≡ declared.max) × (fit.queue ≡ declared.queue)
+
+-- if no size changes, they are the declared ones, whether they count as one or each by itself
+same_sizes : (unbounded : Bool) (declared fit : Pool)
+    → ◌≡◌ {A = ℕ} (cond unbounded (any_changed declared fit) (changed declared.core fit.core + changed declared.max fit.max + changed declared.queue fit.queue)) 0
+    → AreSame declared fit
+same_sizes true declared fit none =
+    let all = holds (declared.core == fit.core && declared.max == fit.max && declared.queue == fit.queue) none in
+    let parts = and_parts (declared.core == fit.core && declared.max == fit.max) (declared.queue == fit.queue) all in
+    let first = and_parts (declared.core == fit.core) (declared.max == fit.max) parts.0 in
+    (sym (eqb-true declared.core fit.core first.0), sym (eqb-true declared.max fit.max first.1), sym (eqb-true declared.queue fit.queue parts.1))
+same_sizes false declared fit none =
+    (same_size declared.core fit.core (omega (arith, none)), same_size declared.max fit.max (omega (arith, none)), same_size declared.queue fit.queue (omega (arith, none)))
+
 -- the pool without its sizes
 abbrev bare : Pool → Pool
 bare pool = record pool { core = 0; max = 0; queue = 0 }
@@ -21,19 +42,20 @@ bare pool = record pool { core = 0; max = 0; queue = 0 }
 -- a pool with no changed size is the declared one
 same_pool : (declared fit : Pool) → bare fit ≡ bare declared → pool_changes declared fit ≡ 0 → fit ≡ declared
 same_pool declared fit same none =
-    let core : fit.core ≡ declared.core = same_size declared.core fit.core (omega (arith, none)) in
-    let max : fit.max ≡ declared.max = same_size declared.max fit.max (omega (arith, none)) in
-    let queue : fit.queue ≡ declared.queue = same_size declared.queue fit.queue (omega (arith, none)) in
+    let sizes : AreSame declared fit = same_sizes fit.unbounded declared fit none in
     let name : fit.name ≡ declared.name = ap (λ (pool : Pool). pool.name) same in
     let prestart : fit.prestart ≡ declared.prestart = ap (λ (pool : Pool). pool.prestart) same in
     let may_reject : fit.may_reject ≡ declared.may_reject = ap (λ (pool : Pool). pool.may_reject) same in
-    by_fields declared.name fit.name declared.core fit.core declared.max fit.max declared.queue fit.queue declared.prestart fit.prestart declared.may_reject fit.may_reject name core max queue prestart may_reject
+    let unbounded : fit.unbounded ≡ declared.unbounded = ap (λ (pool : Pool). pool.unbounded) same in
+    by_fields declared.name fit.name declared.core fit.core declared.max fit.max declared.queue fit.queue declared.prestart fit.prestart declared.may_reject fit.may_reject
+    declared.unbounded fit.unbounded name sizes.0 sizes.1 sizes.2 prestart may_reject unbounded
   where
-    pool_of : List ℕ → ℕ → ℕ → ℕ → Bool → Bool → Pool
-    pool_of name core max queue prestart may_reject = record { name = name; core = core; max = max; queue = queue; prestart = prestart; may_reject = may_reject }
+    pool_of : List ℕ → ℕ → ℕ → ℕ → Bool → Bool → Bool → Pool
+    pool_of name core max queue prestart may_reject unbounded =
+        record { name = name; core = core; max = max; queue = queue; prestart = prestart; may_reject = may_reject; unbounded = unbounded }
 
-    by_fields : (n n' : List ℕ) (c c' m m' q q' : ℕ) (p p' r r' : Bool) → n' ≡ n → c' ≡ c → m' ≡ m → q' ≡ q → p' ≡ p → r' ≡ r → pool_of n' c' m' q' p' r' ≡ pool_of n c m q p r
-    by_fields n n' c c' m m' q q' p p' r r' name core max queue prestart may_reject = rw (name, core, max, queue, prestart, may_reject) refl
+    by_fields : (n n' : List ℕ) (c c' m m' q q' : ℕ) (p p' r r' u u' : Bool) → n' ≡ n → c' ≡ c → m' ≡ m → q' ≡ q → p' ≡ p → r' ≡ r → u' ≡ u → pool_of n' c' m' q' p' r' u' ≡ pool_of n c m q p r u
+    by_fields n n' c c' m m' q q' p p' r r' u u' name core max queue prestart may_reject unbounded = rw (name, core, max, queue, prestart, may_reject, unbounded) refl
 
 same_pools : (declared fit : List Pool) → map bare fit ≡ map bare declared → sum_by both_changes (zip declared fit) ≡ 0 → fit ≡ declared
 same_pools [] [] same none = refl

@@ -1,5 +1,5 @@
 -- The advice for the sizes that were found, or for the cause why there are none.
-use Rattle.std.specs.Prelude.{ℕ, ◌-◌, ◌==◌, if◌then◌else◌, List, [], ◌∷◌, ◌++◌, flat_map, codes, decimal}
+use Rattle.std.specs.Prelude.{ℕ, ◌-◌, ◌==◌, ◌||◌, if◌then◌else◌, List, [], ◌∷◌, ◌++◌, flat_map, codes, decimal}
 use Rattle.job_bodies.specs.Plan.{Pool, Plan}
 use Rattle.size_search.specs.declared.cause.Cause.TheVariants.{Circle, ClientNeverGets, ClassNeverGets}
 use Rattle.size_search.specs.declared.found.NoSizes.{NoSizes}
@@ -17,10 +17,10 @@ core_line name core =
 abbrev pub core_reason : Pool → Pool → List ℕ
 core_reason declared fit = if declared.core == fit.core then [] else core_line declared.name fit.core
 
--- the reason for a larger queue, if it changes
+-- the reason for a larger queue, if it is bounded and changes
 abbrev pub queue_reason : Pool → Pool → List ℕ
 queue_reason declared fit =
-    if declared.queue == fit.queue then [] else declared.name ++ (codes ": up to " ++ (decimal fit.queue ++ (codes " jobs may wait in its queue at once" ++ 10 ∷ [])))
+    if fit.unbounded || declared.queue == fit.queue then [] else declared.name ++ (codes ": up to " ++ (decimal fit.queue ++ (codes " jobs may wait in its queue at once" ++ 10 ∷ [])))
 
 abbrev pub pool_reasons : Pool × Pool → List ℕ
 pool_reasons both = core_reason both.0 both.1 ++ queue_reason both.0 both.1

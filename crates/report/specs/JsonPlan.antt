@@ -57,6 +57,10 @@ body_data plan bodies index body = array (items_of (map (action_entry plan bodie
 
 -- ---- pools, classes and client kinds
 
+-- the capacity of the pool's queue, or the string `unbounded`
+abbrev pub queue_data : Pool → Data
+queue_data pool = if pool.unbounded then string (codes "unbounded") else number (unsigned pool.queue)
+
 unfoldable pub pool_data : Option TextPlace → Pool → Data
 pool_data place pool =
     object (member (codes "column") (column_data place)
@@ -65,7 +69,7 @@ pool_data place pool =
     (member (codes "max") (number (unsigned pool.max))
     (member (codes "name") (string pool.name)
     (member (codes "prestart") (boolean pool.prestart)
-    (member (codes "queue") (number (unsigned pool.queue)) no_members)))))))
+    (member (codes "queue") (queue_data pool) no_members)))))))
 
 -- a pool that may reject jobs
 unfoldable pub rejecting_data : Option TextPlace → Pool → Data
@@ -77,7 +81,7 @@ rejecting_data place pool =
     (member (codes "may_reject") (boolean true)
     (member (codes "name") (string pool.name)
     (member (codes "prestart") (boolean pool.prestart)
-    (member (codes "queue") (number (unsigned pool.queue)) no_members))))))))
+    (member (codes "queue") (queue_data pool) no_members))))))))
 
 unfoldable pub class_data : Option TextPlace → List ℕ → List ℕ → Data → Data
 class_data place name pool body =

@@ -9,7 +9,8 @@ use Rattle.weights.specs.Bound.{bound_vector}
 use Rattle.weights.specs.declared.bound.Bound.{Bound}
 use Rattle.weights.specs.declared.bound.Bound.TheVariants.{Standing, Lifetime}
 use Rattle.cert_text.specs.Cert.{PoolCert}
-use Rattle.report.specs.Places.{total_of}
+use Rattle.report.specs.JsonPlan.{queue_data}
+use Rattle.report.specs.Places.{bounds_jobs, total_of}
 use Rattle.report.specs.SafeText.{waited_names, rejection_at}
 use Rattle.report.specs.Shares.{client_shares, worker_shares}
 
@@ -56,10 +57,10 @@ vector_data plan kind v = bound_object (clients_data plan (client_shares plan v)
 abbrev pub fitting_data : Plan → Bound → Data
 fitting_data plan bound = if vector_fits plan (bound_vector bound) then vector_data plan (kind_of bound) (bound_vector bound) else null
 
--- the same; null if there is no bound
-abbrev pub bound_data : Plan → Option Bound → Data
-bound_data plan None = null
-bound_data plan (Some bound) = fitting_data plan bound
+-- the same for pool p; null if there is no bound, or if it is none of the jobs in an unbounded queue
+abbrev pub bound_data : Plan → ℕ → Option Bound → Data
+bound_data plan p None = null
+bound_data plan p (Some bound) = if bounds_jobs plan p bound then fitting_data plan bound else null
 
 -- ---- threads that wait
 
@@ -88,7 +89,7 @@ pool_object blocked bound pool waits_for =
     (member (codes "max") (number (unsigned pool.max))
     (member (codes "name") (string pool.name)
     (member (codes "prestart") (boolean pool.prestart)
-    (member (codes "queue") (number (unsigned pool.queue))
+    (member (codes "queue") (queue_data pool)
     (member (codes "waits_for") waits_for no_members))))))))
 
 -- a pool that may reject jobs by the plan
@@ -101,7 +102,7 @@ rejecting_object blocked bound pool rejects_after waits_for =
     (member (codes "may_reject") (boolean true)
     (member (codes "name") (string pool.name)
     (member (codes "prestart") (boolean pool.prestart)
-    (member (codes "queue") (number (unsigned pool.queue))
+    (member (codes "queue") (queue_data pool)
     (member (codes "rejects_after") rejects_after
     (member (codes "waits_for") waits_for no_members))))))))))
 
@@ -118,7 +119,7 @@ sized_pool plan p pool rejection blocked bound =
 -- pool p, with the certificate's part for it if there is one
 abbrev pub pool_data : Plan → ℕ → Pool → Option ℕ → Option PoolCert → Data
 pool_data plan p pool rejection None = sized_pool plan p pool rejection null null
-pool_data plan p pool rejection (Some part) = sized_pool plan p pool rejection (blocked_data plan pool part.blocked) (bound_data plan part.bound)
+pool_data plan p pool rejection (Some part) = sized_pool plan p pool rejection (blocked_data plan pool part.blocked) (bound_data plan p part.bound)
 
 abbrev pub pool_entry : Plan → List PoolCert → List (Option ℕ) → ℕ × Pool → Data
 pool_entry plan parts rejections (p, pool) = pool_data plan p pool (rejection_at rejections p) (slice_get parts p)

@@ -13,6 +13,7 @@ use Rattle.size_search.specs.declared.found.SizesFound.TheVariants.{Found, NotFo
 use Rattle.diagnostics.specs.declared.entry_places.PoolPlaces.{PoolPlaces}
 use Rattle.diagnostics.specs.declared.entry_places.PlanPlaces.{PlanPlaces}
 use Rattle.report.specs.Cause.{cause_words}
+use Rattle.report.specs.JsonPlan.{queue_data}
 use Rattle.report.specs.JsonPlaces.{line_data, column_data, pool_places_at, cause_place}
 
 -- ---- sizes
@@ -29,12 +30,14 @@ change_data key place now value =
 abbrev pub change_of : List ℕ → Option TextPlace → ℕ → ℕ → List Data
 change_of key place now value = if now == value then [] else change_data key place now value ∷ []
 
+-- the changes of a pool's maximum and queue; none if its queue is unbounded, so that neither has an effect
+abbrev pub limit_changes : PoolPlaces → Pool → Pool → List Data
+limit_changes places declared fit =
+    if fit.unbounded then [] else change_of (codes "max") places.max declared.max fit.max ++ change_of (codes "queue") places.queue declared.queue fit.queue
+
 -- the changes of a pool's sizes, in the order core, max, queue
 abbrev pub declared_changes : PoolPlaces → Pool → Pool → List Data
-declared_changes places declared fit =
-    change_of (codes "core") places.core declared.core fit.core
-    ++ (change_of (codes "max") places.max declared.max fit.max
-    ++ change_of (codes "queue") places.queue declared.queue fit.queue)
+declared_changes places declared fit = change_of (codes "core") places.core declared.core fit.core ++ limit_changes places declared fit
 
 -- the same; none if no pool is declared
 abbrev pub changes_of : PoolPlaces → Option Pool → Pool → List Data
@@ -47,7 +50,7 @@ size_data changes fit =
     (member (codes "core") (number (unsigned fit.core))
     (member (codes "max") (number (unsigned fit.max))
     (member (codes "name") (string fit.name)
-    (member (codes "queue") (number (unsigned fit.queue)) no_members)))))
+    (member (codes "queue") (queue_data fit) no_members)))))
 
 -- the sizes of pool p, with what changes in the declared ones
 abbrev pub size_entry : List PoolPlaces → Plan → ℕ × Pool → Data

@@ -4,7 +4,7 @@ use Rattle.serde_json.specs.Data.{Data, string, array, object, member, no_member
 use Rattle.serde_json.specs.View.{items_of}
 use Rattle.plan_text.specs.declared.place.TextPlace.{TextPlace}
 use Rattle.diagnostics.specs.declared.lint.Lint.{Lint}
-use Rattle.diagnostics.specs.declared.lint.Lint.TheVariants.{SafeAtCore, SubmitsItself, NeverGot, NothingToAsk, NoClients, NothingSubmitted, PoolWithoutJobs, UselessMax, UselessMayReject, QueueFarAbove, ClassWithoutJobs, RunInCaller, GoesOnce, Crowd, WorkLikeASize, OpenFuture, StaleCertificate}
+use Rattle.diagnostics.specs.declared.lint.Lint.TheVariants.{SafeAtCore, SubmitsItself, NeverGot, NothingToAsk, NoClients, NothingSubmitted, PoolWithoutJobs, UselessMax, UselessMayReject, NeverRejects, QueueFarAbove, ClassWithoutJobs, RunInCaller, GoesOnce, Crowd, WorkLikeASize, OpenFuture, QueueMayGrow, StaleCertificate}
 use Rattle.diagnostics.specs.declared.warnings.Warning.{Warning}
 use Rattle.report.specs.JsonPlaces.{line_data, column_data}
 
@@ -19,6 +19,7 @@ kind_of NothingSubmitted = codes "nothing submitted"
 kind_of (PoolWithoutJobs p) = codes "pool without jobs"
 kind_of (UselessMax p) = codes "useless max"
 kind_of (UselessMayReject p most) = codes "useless may reject"
+kind_of (NeverRejects p) = codes "never rejects"
 kind_of (QueueFarAbove p most) = codes "queue far above"
 kind_of (ClassWithoutJobs k) = codes "class without jobs"
 kind_of (RunInCaller k) = codes "run in caller"
@@ -26,6 +27,7 @@ kind_of (GoesOnce c) = codes "goes once"
 kind_of (Crowd c) = codes "crowd"
 kind_of (WorkLikeASize of number place units) = codes "work like a size"
 kind_of (OpenFuture of number action) = codes "open future"
+kind_of (QueueMayGrow of number action) = codes "queue may grow"
 kind_of StaleCertificate = codes "stale certificate"
 
 unfoldable pub warning_object : TextPlace → List ℕ → List ℕ → Data

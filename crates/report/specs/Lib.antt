@@ -33,5 +33,6 @@ pub mod Page
 pub mod Story
 pub mod StorySeen
 pub mod SubmitsTo
+pub mod LostSubmits
 pub mod Description
 pub mod Uri

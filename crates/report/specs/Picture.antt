@@ -9,8 +9,8 @@ use Rattle.weights.specs.Bound.{bound_vector}
 use Rattle.weights.specs.declared.bound.Bound.{Bound}
 use Rattle.weights.specs.Ranks.{Ranks, ranks_fit, is_counted}
 use Rattle.cert_text.specs.Cert.{PoolCert}
-use Rattle.report.specs.Places.{total_of}
-use Rattle.report.specs.SafeText.{most_text, threads_text}
+use Rattle.report.specs.Places.{bounds_jobs, total_of}
+use Rattle.report.specs.SafeText.{most_text, queue_size, threads_text}
 use Rattle.report.specs.declared.finding.PlanFinding.{PlanFinding}
 use Rattle.report.specs.declared.finding.PlanFinding.TheVariants.{Safe, NotSafe, NotDecided}
 
@@ -53,18 +53,22 @@ abbrev pub most_part : Bound → Option ℕ → List ℕ
 most_part bound None = []
 most_part bound (Some n) = codes "\\n" ++ most_text bound n
 
--- the bound of the queue; a pool without one may reject jobs
-abbrev pub bound_of : Plan → Option Bound → List ℕ
-bound_of plan None = codes "\\nmay reject"
-bound_of plan (Some bound) = most_part bound (total_of plan (bound_vector bound))
+-- what is said of a pool without a bound: it may reject jobs, unless its queue is unbounded
+abbrev pub no_bound_part : Pool → List ℕ
+no_bound_part pool = if pool.unbounded then [] else codes "\\nmay reject"
 
-abbrev pub bound_part : Plan → Option PoolCert → List ℕ
-bound_part plan None = []
-bound_part plan (Some part) = bound_of plan part.bound
+-- the bound of the queue of pool p, if it is one of the pool's jobs
+abbrev pub bound_of : Plan → ℕ → Pool → Option Bound → List ℕ
+bound_of plan p pool None = no_bound_part pool
+bound_of plan p pool (Some bound) = if bounds_jobs plan p bound then most_part bound (total_of plan (bound_vector bound)) else no_bound_part pool
 
--- the name of the pool, its sizes, and its bound if it is known
-abbrev pub pool_label : Plan → Pool → Option PoolCert → List ℕ
-pool_label plan pool part = pool.name ++ (codes "\\n" ++ (threads_text pool ++ (codes ", queue " ++ (decimal pool.queue ++ bound_part plan part))))
+abbrev pub bound_part : Plan → ℕ → Pool → Option PoolCert → List ℕ
+bound_part plan p pool None = []
+bound_part plan p pool (Some part) = bound_of plan p pool part.bound
+
+-- the name of pool p, its sizes, and its bound if it is known
+abbrev pub pool_label : Plan → ℕ → Pool → Option PoolCert → List ℕ
+pool_label plan p pool part = pool.name ++ (codes "\\n" ++ (threads_text pool ++ (codes ", queue " ++ (queue_size pool ++ bound_part plan p pool part))))
 
 -- the first lines of the box of pool p
 abbrev pub box_start : ℕ → List ℕ → List ℕ
@@ -77,7 +81,7 @@ box_nodes classes p = class_nodes classes p ++ (hidden_node classes p ++ (codes 
 
 -- the box of pool p, with its classes
 unfoldable pub box_text : Plan → ℕ → Pool → Option PoolCert → List ℕ
-box_text plan p pool part = box_start p (pool_label plan pool part) ++ box_nodes plan.classes p
+box_text plan p pool part = box_start p (pool_label plan p pool part) ++ box_nodes plan.classes p
 
 -- the same, with the part of the certificate for the pool
 abbrev pub pool_box : Plan → List PoolCert → ℕ × Pool → List ℕ

@@ -1,22 +1,57 @@
 -- The number of places that a pool needs in its queue, by a certificate.
-use Rattle.std.specs.Prelude.{ℕ, List, map, if◌then◌else◌, Option, Some, None}
-use Rattle.job_bodies.specs.Plan.{Plan}
-use Rattle.weights.specs.Vector.{Vector, vector_fits, total}
+use Rattle.std.specs.Prelude.{ℕ, Bool, not, ◌&&◌, ◌||◌, ◌==◌, nat_le, List, slice_index, map, if◌then◌else◌, Option, Some, None}
+use Rattle.std.specs.List.{list_all, enumerate_from}
+use Rattle.job_bodies.specs.Plan.{Class, Plan, pool_at}
+use Rattle.weights.specs.Vector.{Vector, vector_fits, class_weights, total}
+use Rattle.weights.specs.Bound.{bound_vector}
 use Rattle.weights.specs.declared.bound.Bound.{Bound}
 use Rattle.weights.specs.declared.bound.Bound.TheVariants.{Standing, Lifetime}
-use Rattle.cert_text.specs.Cert.{Cert}
+use Rattle.cert_text.specs.Cert.{PoolCert, Cert}
 
 -- the total of a vector, if it fits the plan
 abbrev pub total_of : Plan → Vector → Option ℕ
 total_of plan v = if vector_fits plan v then Some (total plan v) else None
 
--- the number of queue places that the bound shows to be enough: the total of a standing vector, and None for a lifetime vector and without a
--- bound
-abbrev pub places_of : Plan → Option Bound → Option ℕ
-places_of plan None = None
-places_of plan (Some (Standing v)) = total_of plan v
-places_of plan (Some (Lifetime v)) = None
+-- ---- bounds of unbounded queues
+
+-- the weight of a queued job, which is the first of these weights of a job, is at least 1
+abbrev pub counts_queued : List ℕ → Bool
+counts_queued weights = nat_le 1 (slice_index weights 0)
+
+-- each job of class k has a weight of at least 1: in a standing vector while it is queued, in a lifetime vector always
+abbrev pub counts_class : Bound → ℕ → Bool
+counts_class (Standing v) k = counts_queued (class_weights v k)
+counts_class (Lifetime v) k = list_all (nat_le 1) (class_weights v k)
+
+-- the class does not belong to pool p, or each job of the class counts
+abbrev pub counts_if_of : ℕ → Bound → ℕ × Class → Bool
+counts_if_of p bound entry = not (entry.1.pool == p) || counts_class bound entry.0
+
+-- the vector of the bound fits the plan, and each job of pool p counts in it
+abbrev pub counts_jobs : Plan → ℕ → Bound → Bool
+counts_jobs plan p bound = vector_fits plan (bound_vector bound) && list_all (counts_if_of p bound) (enumerate_from 0 plan.classes)
+
+-- the total of this bound is one of the jobs of pool p. If the queue of p is bounded, the conditions on the bound demand this. If it is
+-- unbounded they do not, so each job has to count
+abbrev pub bounds_jobs : Plan → ℕ → Bound → Bool
+bounds_jobs plan p bound = not (pool_at plan p).unbounded || counts_jobs plan p bound
+
+-- ---- the number of places
+
+-- the number of queue places that the bound of pool p shows to be enough: the total of a standing vector, and None for a lifetime vector, and
+-- if the total is not a bound of the jobs in an unbounded queue
+abbrev pub places_of_bound : Plan → ℕ → Bound → Option ℕ
+places_of_bound plan p (Standing v) = if bounds_jobs plan p (Standing v) then total_of plan v else None
+places_of_bound plan p (Lifetime v) = None
+
+-- the same; None without a bound
+abbrev pub places_of : Plan → ℕ → Option Bound → Option ℕ
+places_of plan p None = None
+places_of plan p (Some bound) = places_of_bound plan p bound
+
+abbrev pub places_in : Plan → ℕ × PoolCert → Option ℕ
+places_in plan (p, part) = places_of plan p part.bound
 
 -- the number of queue places for each pool, in the certificate's order
 abbrev pub needed_places : Plan → Cert → List (Option ℕ)
-needed_places plan cert = map (λ parts. places_of plan parts.bound) cert.pools
+needed_places plan cert = map (places_in plan) (enumerate_from 0 cert.pools)

@@ -73,11 +73,14 @@ change_words pool key declared fit = codes "pool " ++ (pool ++ (codes ": " ++ (k
 abbrev pub change_remarks : Rule → Option TextPlace → List ℕ → List ℕ → ℕ × ℕ → List Remark
 change_remarks r place pool key size = if size.0 == size.1 then [] else one r (change_words pool key size.0 size.1) place
 
+-- the remarks about the maximum and the queue of a pool; none if its queue is unbounded, so that neither has an effect
+abbrev pub limit_remarks : Rule → PoolPlaces → Pool → Pool → List Remark
+limit_remarks r places declared fit =
+    if fit.unbounded then []
+    else change_remarks r places.max declared.name (codes "max") (declared.max, fit.max) ++ change_remarks r places.queue declared.name (codes "queue") (declared.queue, fit.queue)
+
 abbrev pub pool_remarks : Rule → PoolPlaces → Pool → Pool → List Remark
-pool_remarks r places declared fit =
-    change_remarks r places.core declared.name (codes "core") (declared.core, fit.core)
-    ++ (change_remarks r places.max declared.name (codes "max") (declared.max, fit.max)
-    ++ change_remarks r places.queue declared.name (codes "queue") (declared.queue, fit.queue))
+pool_remarks r places declared fit = change_remarks r places.core declared.name (codes "core") (declared.core, fit.core) ++ limit_remarks r places declared fit
 
 abbrev pub declared_remarks : Rule → PoolPlaces → Option Pool → Pool → List Remark
 declared_remarks r places None fit = []
@@ -99,8 +102,8 @@ sizes_remarks r places plan (NotFound cause) = cause_remarks r places plan cause
 
 -- ---- findings
 
-abbrev pub safe_remarks : Cert → List Remark
-safe_remarks cert = one rule.Safe (safe_words cert) None
+abbrev pub safe_remarks : Plan → Cert → List Remark
+safe_remarks plan cert = one rule.Safe (safe_words plan cert) None
 
 abbrev pub not_decided_remarks : PlanPlaces → Plan → SizesFound → List Remark
 not_decided_remarks places plan sizes = one rule.NotDecided (open_words sizes) None ++ sizes_remarks rule.NotDecided places plan sizes
@@ -126,6 +129,6 @@ pub record AreNotSafe (places : PlanPlaces) (plan : Plan) (witness : Witness) (s
 
 -- a remark for each warning, and those about the finding
 abbrev pub AreRemarks : PlanPlaces → Plan → PlanFinding → List Warning → List Remark → Type 0
-AreRemarks places plan (Safe cert rejections) warnings remarks = remarks ≡ warning_remarks warnings ++ safe_remarks cert
+AreRemarks places plan (Safe cert rejections) warnings remarks = remarks ≡ warning_remarks warnings ++ safe_remarks plan cert
 AreRemarks places plan (NotSafe witness sizes) warnings remarks = AreNotSafe places plan witness sizes warnings remarks
 AreRemarks places plan (NotDecided sizes) warnings remarks = remarks ≡ warning_remarks warnings ++ not_decided_remarks places plan sizes

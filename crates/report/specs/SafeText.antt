@@ -1,6 +1,6 @@
 -- The text for a plan that a certificate accepts: for each pool the bound of its queue, the shares in it, and the pools that
 -- its jobs wait for.
-use Rattle.std.specs.Prelude.{ℕ, ◌-◌, ◌==◌, Bool, if◌then◌else◌, List, [], ◌∷◌, ◌++◌, flat_map, codes, decimal, Option, Some, None, is_none, slice_get, slice_index_or}
+use Rattle.std.specs.Prelude.{ℕ, ◌-◌, ◌==◌, Bool, not, ◌&&◌, ◌||◌, if◌then◌else◌, List, [], ◌∷◌, ◌++◌, flat_map, codes, decimal, Option, Some, None, is_none, slice_get, slice_index_or}
 use Rattle.std.specs.List.{enumerate_from, join_by, list_any}
 use Rattle.job_bodies.specs.Plan.{Pool, Plan, client_at, pool_at}
 use Rattle.weights.specs.Vector.{Vector, vector_fits, total}
@@ -8,6 +8,8 @@ use Rattle.weights.specs.Bound.{bound_vector}
 use Rattle.weights.specs.declared.bound.Bound.{Bound}
 use Rattle.weights.specs.declared.bound.Bound.TheVariants.{Standing, Lifetime}
 use Rattle.cert_text.specs.Cert.{PoolCert, Cert}
+use Rattle.report.specs.LostSubmits.{lost_texts}
+use Rattle.report.specs.Places.{bounds_jobs}
 use Rattle.report.specs.Shares.{client_shares, worker_shares}
 use Rattle.report.specs.SubmitsTo.{submits_text}
 use Rattle.report.specs.Waits.{waits_for}
@@ -18,12 +20,16 @@ separated = join_by (λ part. part) (codes ", ")
 
 -- ---- the bound of a queue
 
--- the number of threads of the pool
+-- the number of threads of the pool; with an unbounded queue it never has more than core
 abbrev pub threads_text : Pool → List ℕ
 threads_text pool =
-    if pool.core == pool.max
+    if pool.unbounded || pool.core == pool.max
     then (if pool.core == 1 then codes "1 thread" else decimal pool.core ++ codes " threads")
     else decimal pool.core ++ codes " to " ++ decimal pool.max ++ codes " threads"
+
+-- the capacity of the pool's queue
+abbrev pub queue_size : Pool → List ℕ
+queue_size pool = if pool.unbounded then codes "unbounded" else decimal pool.queue
 
 -- the maximum number of jobs in the queue at one time, or ever submitted to the pool
 abbrev pub most_text : Bound → ℕ → List ℕ
@@ -59,15 +65,15 @@ abbrev pub places_text : Plan → Bound → ℕ → List ℕ
 places_text plan bound n =
     if n == 0 then codes "no job waits in it" else most_text bound n ++ codes " (" ++ separated (share_texts plan (bound_vector bound)) ++ codes ")"
 
--- what a bound means for a pool that may reject jobs by the plan
+-- what a bound means for a pool that may reject jobs by the plan; nothing if its queue is unbounded, so that it never rejects
 abbrev pub never_text : Pool → List ℕ
-never_text pool = if pool.may_reject then codes "never rejects: " else []
+never_text pool = if pool.may_reject && not pool.unbounded then codes "never rejects: " else []
 
 -- the bound of the queue, if the vector fits the plan
 abbrev pub bounded_text : Plan → Pool → Bound → List ℕ
 bounded_text plan pool bound =
     if vector_fits plan (bound_vector bound)
-    then codes ", queue " ++ decimal pool.queue ++ codes ": " ++ never_text pool ++ places_text plan bound (total plan (bound_vector bound))
+    then codes ", queue " ++ queue_size pool ++ codes ": " ++ never_text pool ++ places_text plan bound (total plan (bound_vector bound))
     else []
 
 -- the number of events after which a pool rejects a job, if it is known
@@ -75,14 +81,27 @@ abbrev pub rejects_text : Option ℕ → List ℕ
 rejects_text None = codes "may reject (not shown)"
 rejects_text (Some events) = codes "may reject: after " ++ decimal events ++ codes " events"
 
--- the bound of the queue; a pool without one may reject jobs
-abbrev pub queue_text : Plan → Pool → Option ℕ → Option Bound → List ℕ
-queue_text plan pool rejection None = codes ", queue " ++ decimal pool.queue ++ codes ": " ++ rejects_text rejection
-queue_text plan pool rejection (Some bound) = bounded_text plan pool bound
+-- why an unbounded queue has no bound, given the submits to it whose jobs are never got
+abbrev pub growth_text : List (List ℕ) → List ℕ
+growth_text [] = codes "no bound is known"
+growth_text (lost ∷ more) = codes "no bound: " ++ separated (lost ∷ more)
 
--- the pool's threads, and its queue
-abbrev pub bound_line : Plan → Pool → Option ℕ → Option Bound → List ℕ
-bound_line plan pool rejection bound = pool.name ++ codes ": " ++ threads_text pool ++ queue_text plan pool rejection bound ++ 10 ∷ []
+-- what is said of pool p without a bound: its unbounded queue may grow, or it may reject jobs
+abbrev pub no_bound_text : Plan → ℕ → Pool → Option ℕ → List ℕ
+no_bound_text plan p pool rejection = if pool.unbounded then growth_text (lost_texts plan p) else rejects_text rejection
+
+-- the queue of pool p, and what is said of it without a bound
+abbrev pub open_queue_text : Plan → ℕ → Pool → Option ℕ → List ℕ
+open_queue_text plan p pool rejection = codes ", queue " ++ queue_size pool ++ codes ": " ++ no_bound_text plan p pool rejection
+
+-- the bound of the queue of pool p, if it is one of the pool's jobs
+abbrev pub queue_text : Plan → ℕ → Pool → Option ℕ → Option Bound → List ℕ
+queue_text plan p pool rejection None = open_queue_text plan p pool rejection
+queue_text plan p pool rejection (Some bound) = if bounds_jobs plan p bound then bounded_text plan pool bound else open_queue_text plan p pool rejection
+
+-- the threads of pool p, and its queue
+abbrev pub bound_line : Plan → ℕ → Pool → Option ℕ → Option Bound → List ℕ
+bound_line plan p pool rejection bound = pool.name ++ codes ": " ++ threads_text pool ++ queue_text plan p pool rejection bound ++ 10 ∷ []
 
 -- ---- pools that wait for pools
 
@@ -118,14 +137,14 @@ waits_line plan p pool blocked = codes "  " ++ pool.name ++ codes " waits for " 
 
 -- ---- the whole text
 
--- the submits to pool p, if it has no bound, so that it may reject jobs
-abbrev pub pool_submits : Plan → ℕ → Option Bound → List ℕ
-pool_submits plan p bound = if is_none bound then submits_text plan p else []
+-- the submits to pool p, if its queue is bounded and it has no bound, so that it may reject jobs
+abbrev pub pool_submits : Plan → ℕ → Pool → Option Bound → List ℕ
+pool_submits plan p pool bound = if is_none bound && not pool.unbounded then submits_text plan p else []
 
 -- the lines of pool p, if the certificate has a part for it
 abbrev pub part_lines : Plan → ℕ → Pool → Option ℕ → Option PoolCert → List ℕ
 part_lines plan p pool rejection None = []
-part_lines plan p pool rejection (Some part) = bound_line plan pool rejection part.bound ++ (waits_line plan p pool part.blocked ++ pool_submits plan p part.bound)
+part_lines plan p pool rejection (Some part) = bound_line plan p pool rejection part.bound ++ (waits_line plan p pool part.blocked ++ pool_submits plan p pool part.bound)
 
 -- the number of events after which pool p rejects a job; None if it is not known
 abbrev pub rejection_at : List (Option ℕ) → ℕ → Option ℕ
@@ -137,16 +156,17 @@ pool_lines plan cert rejections (p, pool) = part_lines plan p pool (rejection_at
 abbrev pub pools_text : Plan → Cert → List (Option ℕ) → List ℕ
 pools_text plan cert rejections = flat_map (pool_lines plan cert rejections) (enumerate_from 0 plan.pools)
 
-abbrev pub has_no_bound : PoolCert → Bool
-has_no_bound part = is_none part.bound
+-- pool p has no bound and a bounded queue, so it may reject jobs
+abbrev pub may_reject_jobs : Plan → ℕ × PoolCert → Bool
+may_reject_jobs plan (p, part) = is_none part.bound && not (pool_at plan p).unbounded
 
--- what holds for all pools; without a bound, a pool may reject jobs
-abbrev pub safe_words : Cert → List ℕ
-safe_words cert =
-    if list_any has_no_bound cert.pools
+-- what holds for all pools; a pool with a bounded queue and without a bound may reject jobs
+abbrev pub safe_words : Plan → Cert → List ℕ
+safe_words plan cert =
+    if list_any (may_reject_jobs plan) (enumerate_from 0 cert.pools)
     then codes "no submit to another pool is ever refused, and no jobs wait for each other forever"
     else codes "no submit is ever refused, and no jobs wait for each other forever"
 
 -- the lines of each pool, and then what holds for all of them
 abbrev pub safe_text : Plan → Cert → List (Option ℕ) → List ℕ
-safe_text plan cert rejections = pools_text plan cert rejections ++ (safe_words cert ++ 10 ∷ [])
+safe_text plan cert rejections = pools_text plan cert rejections ++ (safe_words plan cert ++ 10 ∷ [])

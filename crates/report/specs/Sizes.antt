@@ -1,5 +1,5 @@
 -- The lines with the sizes of a fitted plan, next to the declared ones.
-use Rattle.std.specs.Prelude.{◌≡◌, ℕ, ◌+◌, ◌==◌, if◌then◌else◌, List, [], ◌∷◌, ◌++◌, codes, decimal}
+use Rattle.std.specs.Prelude.{◌≡◌, ℕ, ◌+◌, ◌==◌, ◌&&◌, if◌then◌else◌, List, [], ◌∷◌, ◌++◌, codes, decimal}
 use Rattle.std.specs.List.{flat_map, sum_by, zip}
 use Rattle.job_bodies.specs.Plan.{Pool, Plan}
 use Rattle.size_search.specs.Widened.{outline}
@@ -8,21 +8,28 @@ use Rattle.size_search.specs.Widened.{outline}
 abbrev pub size_text : ℕ → ℕ → List ℕ
 size_text declared fit = decimal fit ++ (if declared == fit then [] else codes " (now " ++ decimal declared ++ codes ")")
 
+-- the maximum and the queue of a pool; with an unbounded queue the maximum has no effect, and is not shown
+abbrev pub limits_text : Pool → Pool → List ℕ
+limits_text declared fit =
+    if fit.unbounded then codes ", queue unbounded"
+    else codes ", max " ++ size_text declared.max fit.max ++ codes ", queue " ++ size_text declared.queue fit.queue
+
 -- the line of a pool
 abbrev pub pool_text : Pool → Pool → List ℕ
-pool_text declared fit =
-    codes "pool " ++ fit.name
-    ++ codes ": core " ++ size_text declared.core fit.core
-    ++ codes ", max " ++ size_text declared.max fit.max
-    ++ codes ", queue " ++ size_text declared.queue fit.queue ++ 10 ∷ []
+pool_text declared fit = codes "pool " ++ fit.name ++ codes ": core " ++ size_text declared.core fit.core ++ limits_text declared fit ++ 10 ∷ []
 
 -- 1 if the size changes
 abbrev pub changed : ℕ → ℕ → ℕ
 changed declared fit = if declared == fit then 0 else 1
 
--- the number of sizes of the pool that change
+-- 1 if a size of the pool changes
+abbrev pub any_changed : Pool → Pool → ℕ
+any_changed declared fit = if declared.core == fit.core && declared.max == fit.max && declared.queue == fit.queue then 0 else 1
+
+-- the number of sizes of the pool that change; of a pool with an unbounded queue they count as one, because only its core has an effect
 abbrev pub pool_changes : Pool → Pool → ℕ
-pool_changes declared fit = changed declared.core fit.core + changed declared.max fit.max + changed declared.queue fit.queue
+pool_changes declared fit =
+    if fit.unbounded then any_changed declared fit else changed declared.core fit.core + changed declared.max fit.max + changed declared.queue fit.queue
 
 -- each pool as it is declared, and as it is fitted
 abbrev pub both_pools : Plan → Plan → List (Pool × Pool)

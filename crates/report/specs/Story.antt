@@ -158,10 +158,17 @@ steps_text plan steps = lines_text (lines (turns plan steps))
 
 -- ---- pools
 
+-- the most threads that the pool has at one time
+abbrev pub most_threads : PoolView → ℕ
+most_threads pool = if pool.unbounded then pool.core else pool.max
+
+abbrev pub capacity_text : PoolView → List ℕ
+capacity_text pool = if pool.unbounded then codes "unbounded" else decimal pool.capacity
+
 abbrev pub pool_text : List ℕ → PoolView → List ℕ
 pool_text name pool =
-    (codes "pool " ++ name ++ codes ": threads " ++ decimal pool.threads ++ codes " of " ++ decimal pool.max ++ codes ", idle " ++ decimal pool.idle)
-    ++ (codes ", queued " ++ decimal (length pool.queue) ++ codes " of " ++ decimal pool.capacity ++ 10 ∷ [])
+    (codes "pool " ++ name ++ codes ": threads " ++ decimal pool.threads ++ codes " of " ++ decimal (most_threads pool) ++ codes ", idle " ++ decimal pool.idle)
+    ++ (codes ", queued " ++ decimal (length pool.queue) ++ codes " of " ++ capacity_text pool ++ 10 ∷ [])
 
 abbrev pub pool_line : Plan → State → ℕ × PoolSizes → List ℕ
 pool_line plan s (p, pool) = pool_text pool.name (pool_seen plan s p)

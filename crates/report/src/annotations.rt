@@ -136,7 +136,7 @@ pub(crate) fn annotations_of(
         spec.AreRemarks places.now plan.now finding.now warnings.now (remarks_in found.items)) }
 {
     match finding {
-        PlanFinding::Safe(cert, _) => safe(alloc, cert, warnings),
+        PlanFinding::Safe(cert, _) => safe(alloc, plan, cert, warnings),
         PlanFinding::NotSafe(witness, sizes) => {
             not_safe(alloc, places, plan, witness, sizes, warnings)
         }
@@ -144,12 +144,17 @@ pub(crate) fn annotations_of(
     }
 }
 
-fn safe(alloc: Global, cert: &Cert, warnings: &[Warning]) -> Result<Vec<Annotation>, AllocError>
+fn safe(
+    alloc: Global,
+    plan: &Plan,
+    cert: &Cert,
+    warnings: &[Warning],
+) -> Result<Vec<Annotation>, AllocError>
     ensures { IfOk result (λ found.
-        remarks_in found.items ≡ spec.warning_remarks warnings.now ++ spec.safe_remarks cert.now) }
+        remarks_in found.items ≡ spec.warning_remarks warnings.now ++ spec.safe_remarks plan.now cert.now) }
 {
     let mut found = warning_annotations(alloc, warnings)?;
-    push(alloc, &mut found, Rule::Safe, safe_words(cert), None)?;
+    push(alloc, &mut found, Rule::Safe, safe_words(plan, cert), None)?;
     Ok(found)
 }
 

@@ -7,6 +7,7 @@ ghost use Rattle.serde_json.specs.View.{view};
 ghost use Rattle.weights.specs.Vector.{vector_fits};
 ghost use Rattle.report.specs.JsonPools as spec;
 
+use crate::places::bounds_jobs;
 use crate::{Shares, shares_of, total_of};
 use job_bodies::{Plan, Pool};
 use serde_json::{Value, json};
@@ -15,18 +16,19 @@ use weights::{Bound, Vector};
 
 /// Converts a pool's bound to JSON: its kind, its total and the shares in the total. The total is
 /// the maximum number of jobs in the queue at one time (`standing`), or of jobs that are ever
-/// submitted to the pool (`lifetime`). The value is null if there is no bound, or if its vector does
-/// not fit the plan.
+/// submitted to the pool (`lifetime`). The value is null if there is no bound, if its vector does
+/// not fit the plan, or if its total does not bound the jobs in an unbounded queue.
 pub(crate) fn bound_value(
     alloc: Global,
     plan: &Plan,
+    pool: usize,
     bound: &Option<Bound>,
 ) -> Result<Value, AllocError>
-    ensures { IfOk result (λ value. view value ≡ spec.bound_data plan.now bound.now) }
+    ensures { IfOk result (λ value. view value ≡ spec.bound_data plan.now pool bound.now) }
 {
     match bound {
-        Some(bound) => fitting_value(alloc, plan, bound),
-        None => Ok(Value::Null),
+        Some(bound) if bounds_jobs(plan, pool, bound) => fitting_value(alloc, plan, bound),
+        Some(_) | None => Ok(Value::Null),
     }
 }
 

@@ -6,6 +6,7 @@ ghost use Rattle.report.specs.JsonPlan as spec;
 
 use crate::json_bodies::body_value;
 use crate::json_places::{column_value, line_value, name_place, pool_places_at};
+use crate::json_values::queue_value;
 use diagnostics::{BodyPlaces, PlanPlaces, PoolPlaces};
 use job_bodies::{Class, Client, Plan, Pool};
 use plan_text::TextPlace;
@@ -106,7 +107,7 @@ fn rejecting_value(
         "may_reject": true,
         "name": name,
         "prestart": pool.prestart,
-        "queue": pool.queue
+        "queue": queue_value(alloc, pool)?
     })
 }
 
@@ -122,7 +123,7 @@ fn pool_value(alloc: Global, place: Option<TextPlace>, pool: &Pool) -> Result<Va
         "max": pool.max,
         "name": name,
         "prestart": pool.prestart,
-        "queue": pool.queue
+        "queue": queue_value(alloc, pool)?
     })
 }
 

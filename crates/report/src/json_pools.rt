@@ -9,7 +9,9 @@ ghost use Rattle.serde_json.specs.View.{view, items_of};
 ghost use Rattle.report.specs.JsonPools as spec;
 
 use crate::json_bounds::{blocked_value, bound_value};
-use crate::safe::{rejection_at, waited_names};
+use crate::json_values::queue_value;
+use crate::safe::rejection_at;
+use crate::safe_waits::waited_names;
 use cert_text::PoolCert;
 use job_bodies::{Plan, Pool};
 use serde_json::{Value, json};
@@ -86,10 +88,10 @@ fn bounded_value(
     ensures { IfOk result (λ value. view value ≡ spec.sized_pool
         plan.now number pool.now rejection
         (spec.blocked_data plan.now pool.now part.now.blocked)
-        (spec.bound_data plan.now part.now.bound)) }
+        (spec.bound_data plan.now number part.now.bound)) }
 {
     let blocked = blocked_value(alloc, plan, pool, &part.blocked)?;
-    let bound = bound_value(alloc, plan, &part.bound)?;
+    let bound = bound_value(alloc, plan, number, &part.bound)?;
     sized_pool(alloc, plan, number, pool, rejection, blocked, bound)
 }
 
@@ -134,7 +136,7 @@ fn rejecting_object(
         "may_reject": true,
         "name": name,
         "prestart": pool.prestart,
-        "queue": pool.queue,
+        "queue": queue_value(alloc, pool)?,
         "rejects_after": rejects_value(rejection),
         "waits_for": waits_value(alloc, plan, number)?
     })
@@ -171,7 +173,7 @@ fn pool_object(
         "max": pool.max,
         "name": name,
         "prestart": pool.prestart,
-        "queue": pool.queue,
+        "queue": queue_value(alloc, pool)?,
         "waits_for": waits_value(alloc, plan, number)?
     })
 }

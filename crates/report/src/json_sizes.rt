@@ -6,6 +6,7 @@ ghost use Rattle.report.specs.JsonSizes as spec;
 
 use crate::json_cause::cause_value;
 use crate::json_places::{column_value, line_value, pool_places_at};
+use crate::json_values::queue_value;
 use diagnostics::{PlanPlaces, PoolPlaces};
 use job_bodies::{Plan, Pool};
 use plan_text::TextPlace;
@@ -77,7 +78,7 @@ fn size_value(alloc: Global, changes: Vec<Value>, fit: &Pool) -> Result<Value, A
         "core": fit.core,
         "max": fit.max,
         "name": name,
-        "queue": fit.queue
+        "queue": queue_value(alloc, fit)?
     })
 }
 
@@ -110,6 +111,24 @@ fn push_changes(
         ≡ map view values.old.items ++ spec.declared_changes places declared.now fit.now) }
 {
     push_change(alloc, values, "core", places.core, declared.core, fit.core)?;
+    push_limits(alloc, values, places, declared, fit)
+}
+
+/// Appends the changes of the pool's maximum and queue. Appends nothing if its queue is unbounded, so
+/// that neither has an effect.
+fn push_limits(
+    alloc: Global,
+    values: &mut Vec<Value>,
+    places: PoolPlaces,
+    declared: &Pool,
+    fit: &Pool,
+) -> Result<(), AllocError>
+    ensures { OnOk result (map view values.new.items
+        ≡ map view values.old.items ++ spec.limit_changes places declared.now fit.now) }
+{
+    if fit.unbounded {
+        return Ok(());
+    }
     push_change(alloc, values, "max", places.max, declared.max, fit.max)?;
     push_change(
         alloc,

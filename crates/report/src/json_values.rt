@@ -1,9 +1,11 @@
-//! Numbers as JSON.
+//! Numbers and capacities as JSON.
 
 ghost use Rattle.std.specs.Prelude.{◌≡◌, IfOk, map};
 ghost use Rattle.serde_json.specs.View.{view};
 ghost use Rattle.report.specs.JsonEvents as spec;
+ghost use Rattle.report.specs.JsonPlan.{queue_data};
 
+use job_bodies::Pool;
 use serde_json::Value;
 use std::alloc::{AllocError, Global};
 
@@ -14,6 +16,17 @@ pub(crate) fn optional_number(number: Option<usize>) -> Value
     match number {
         Some(number) => Value::from(number),
         None => Value::Null,
+    }
+}
+
+/// Converts the capacity of the pool's queue to JSON: a number, or the string `unbounded`.
+pub(crate) fn queue_value(alloc: Global, pool: &Pool) -> Result<Value, AllocError>
+    ensures { IfOk result (λ value. view value ≡ queue_data pool.now) }
+{
+    if pool.unbounded {
+        Value::try_from_str(alloc, "unbounded")
+    } else {
+        Ok(Value::from(pool.queue))
     }
 }
 

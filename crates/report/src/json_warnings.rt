@@ -59,6 +59,7 @@ fn kind_of(lint: Lint) -> &'static str
         Lint::PoolWithoutJobs(_) => "pool without jobs",
         Lint::UselessMax(_) => "useless max",
         Lint::UselessMayReject(_, _) => "useless may reject",
+        Lint::NeverRejects(_) => "never rejects",
         Lint::QueueFarAbove(_, _) => "queue far above",
         Lint::ClassWithoutJobs(_) => "class without jobs",
         Lint::RunInCaller(_) => "run in caller",
@@ -66,6 +67,7 @@ fn kind_of(lint: Lint) -> &'static str
         Lint::Crowd(_) => "crowd",
         Lint::WorkLikeASize(_, _, _, _) => "work like a size",
         Lint::OpenFuture(_, _, _) => "open future",
+        Lint::QueueMayGrow(_, _, _) => "queue may grow",
         Lint::StaleCertificate => "stale certificate",
     }
 }

@@ -11,7 +11,8 @@ mod edges;
 
 use crate::finding::PlanFinding;
 use crate::picture::edges::{push_class_edges, push_client_edges};
-use crate::safe::{push_most, push_threads, total_of};
+use crate::places::{bounds_jobs, total_of};
+use crate::safe_bound::{push_most, push_queue_size, push_threads};
 use cert_text::PoolCert;
 use job_bodies::{Class, Client, Plan, Pool};
 use std::alloc::{AllocError, Global};
@@ -142,12 +143,12 @@ fn push_start(
     part: Option<&PoolCert>,
 ) -> Result<(), AllocError>
     ensures { Pushes result text.old text.new
-        (spec.box_start number (spec.pool_label plan.now pool.now (option_map (λ part. part.now) part.entry))) }
+        (spec.box_start number (spec.pool_label plan.now number pool.now (option_map (λ part. part.now) part.entry))) }
 {
     write!(text, "  subgraph cluster{number}")?;
     text.push_str(" {\n")?;
     text.push_str("    label=\"")?;
-    push_label(text, plan, pool, part)?;
+    push_label(text, plan, number, pool, part)?;
     text.push_str("\"\n")
 }
 
@@ -164,40 +165,63 @@ fn push_nodes(text: &mut String, classes: &[Class], pool: usize) -> Result<(), A
 fn push_label(
     text: &mut String,
     plan: &Plan,
+    number: usize,
     pool: &Pool,
     part: Option<&PoolCert>,
 ) -> Result<(), AllocError>
     ensures { Pushes result text.old text.new
-        (spec.pool_label plan.now pool.now (option_map (λ part. part.now) part.entry)) }
+        (spec.pool_label plan.now number pool.now (option_map (λ part. part.now) part.entry)) }
 {
     let name = pool.name.as_str();
-    let queue = pool.queue;
     write!(text, "{name}\\n")?;
     push_threads(text, pool)?;
-    write!(text, ", queue {queue}")?;
-    push_bound(text, plan, part)
+    text.push_str(", queue ")?;
+    push_queue_size(text, pool)?;
+    push_bound(text, plan, number, pool, part)
 }
 
 /// Appends the bound of the pool's queue. Appends nothing if the pool has no part of a certificate.
-fn push_bound(text: &mut String, plan: &Plan, part: Option<&PoolCert>) -> Result<(), AllocError>
+fn push_bound(
+    text: &mut String,
+    plan: &Plan,
+    number: usize,
+    pool: &Pool,
+    part: Option<&PoolCert>,
+) -> Result<(), AllocError>
     ensures { Pushes result text.old text.new
-        (spec.bound_part plan.now (option_map (λ part. part.now) part.entry)) }
+        (spec.bound_part plan.now number pool.now (option_map (λ part. part.now) part.entry)) }
 {
     match part {
-        Some(part) => push_bound_of(text, plan, &part.bound),
+        Some(part) => push_bound_of(text, plan, number, pool, &part.bound),
         None => Ok(()),
     }
 }
 
-/// Appends the bound of a queue, or that the pool may reject jobs if there is none. Appends nothing
-/// if the vector of the bound does not fit the plan.
-fn push_bound_of(text: &mut String, plan: &Plan, bound: &Option<Bound>) -> Result<(), AllocError>
-    ensures { Pushes result text.old text.new (spec.bound_of plan.now bound.now) }
+/// Appends the bound of a queue, or, if there is none and the queue is bounded, that the pool may
+/// reject jobs. Appends nothing if the vector of the bound does not fit the plan.
+fn push_bound_of(
+    text: &mut String,
+    plan: &Plan,
+    number: usize,
+    pool: &Pool,
+    bound: &Option<Bound>,
+) -> Result<(), AllocError>
+    ensures { Pushes result text.old text.new
+        (spec.bound_of plan.now number pool.now bound.now) }
 {
     match bound {
-        Some(bound) => push_total(text, bound, total_of(plan, bound.vector())),
-        None => text.push_str("\\nmay reject"),
+        Some(bound) if bounds_jobs(plan, number, bound) => {
+            push_total(text, bound, total_of(plan, bound.vector()))
+        }
+        Some(_) | None => text.push_str(no_bound_words(pool)),
     }
+}
+
+/// Returns what the picture says of a pool without a bound.
+fn no_bound_words(pool: &Pool) -> &'static str
+    ensures { result.now ≡ spec.no_bound_part pool.now }
+{
+    if pool.unbounded { "" } else { "\\nmay reject" }
 }
 
 fn push_total(text: &mut String, bound: &Bound, total: Option<u64>) -> Result<(), AllocError>

@@ -101,6 +101,26 @@ fn push_pool(
     let pool = declared.name.as_str();
     let core = (declared.core, fit.core);
     push_change(alloc, found, rule, places.core, pool, "core", core)?;
+    push_limits(alloc, found, rule, places, declared, fit)
+}
+
+/// Appends the annotations for the pool's maximum and queue. Appends none if its queue is unbounded,
+/// so that neither has an effect.
+fn push_limits(
+    alloc: Global,
+    found: &mut Vec<Annotation>,
+    rule: Rule,
+    places: PoolPlaces,
+    declared: &Pool,
+    fit: &Pool,
+) -> Result<(), AllocError>
+    ensures { Adds result found.old.items found.new.items
+        (spec.limit_remarks rule places declared.now fit.now) }
+{
+    if fit.unbounded {
+        return Ok(());
+    }
+    let pool = declared.name.as_str();
     let max = (declared.max, fit.max);
     push_change(alloc, found, rule, places.max, pool, "max", max)?;
     let queue = (declared.queue, fit.queue);

@@ -34,11 +34,22 @@ fn push_pool(text: &mut String, declared: &Pool, fit: &Pool) -> Result<(), Alloc
     let name = &fit.name;
     write!(text, "pool {name}: core ")?;
     push_size(text, declared.core, fit.core)?;
+    push_limits(text, declared, fit)?;
+    text.push('\n')
+}
+
+/// Appends the maximum and the queue of a pool. If the queue is unbounded, the maximum has no effect
+/// and is omitted.
+fn push_limits(text: &mut String, declared: &Pool, fit: &Pool) -> Result<(), AllocError>
+    ensures { Pushes result text.old text.new (spec.limits_text declared.now fit.now) }
+{
+    if fit.unbounded {
+        return text.push_str(", queue unbounded");
+    }
     text.push_str(", max ")?;
     push_size(text, declared.max, fit.max)?;
     text.push_str(", queue ")?;
-    push_size(text, declared.queue, fit.queue)?;
-    text.push('\n')
+    push_size(text, declared.queue, fit.queue)
 }
 
 fn push_size(text: &mut String, declared: u64, fit: u64) -> Result<(), AllocError>
@@ -51,11 +62,23 @@ fn push_size(text: &mut String, declared: u64, fit: u64) -> Result<(), AllocErro
     }
 }
 
-/// Returns the number of sizes of the pool that change.
+/// Returns the number of sizes of the pool that change. The sizes of a pool with an unbounded queue
+/// count as one, because only its core size has an effect.
 fn pool_changes(declared: &Pool, fit: &Pool) -> u64
     ensures { result ≡ spec.pool_changes declared.now fit.now }
 {
+    if fit.unbounded {
+        return any_changed(declared, fit);
+    }
     u64::from(declared.core != fit.core)
         + u64::from(declared.max != fit.max)
         + u64::from(declared.queue != fit.queue)
+}
+
+/// Returns 1 if a size of the pool changes, and otherwise 0.
+fn any_changed(declared: &Pool, fit: &Pool) -> u64
+    ensures { result ≡ spec.any_changed declared.now fit.now }
+{
+    let same = declared.core == fit.core && declared.max == fit.max && declared.queue == fit.queue;
+    u64::from(!same)
 }

@@ -1,6 +1,6 @@
 //! The lines of a story that show the state of the pools.
 
-ghost use Rattle.std.specs.Prelude.{flat_map};
+ghost use Rattle.std.specs.Prelude.{◌≡◌, flat_map};
 ghost use Rattle.std.specs.List.{enumerate_from};
 ghost use Rattle.support.specs.Pushed.{Pushes};
 ghost use Rattle.interleaving.specs.OfPlan.{IsReachableView};
@@ -12,7 +12,8 @@ use job_bodies::{Plan, Pool};
 use pool_machine::PoolState;
 use std::alloc::AllocError;
 
-/// Appends a line for each pool, such as `pool db: threads 10 of 10, idle 0, queued 190 of 190`.
+/// Appends a line for each pool, such as `pool db: threads 10 of 10, idle 0, queued 190 of 190`. The
+/// line of a pool with an unbounded queue ends with, for example, `queued 190 of unbounded`.
 ///
 /// # Errors
 ///
@@ -37,10 +38,37 @@ fn push_pool(text: &mut String, pool: &Pool, state: &PoolState) -> Result<(), Al
 {
     let name = pool.name.as_str();
     let threads = state.threads();
-    let max = state.max();
+    let most = most_threads(state);
     let idle = state.idle();
     let queued = state.queued();
+    write!(
+        text,
+        "pool {name}: threads {threads} of {most}, idle {idle}"
+    )?;
+    write!(text, ", queued {queued} of ")?;
+    push_capacity(text, state)?;
+    text.push('\n')
+}
+
+/// Returns the most threads that the pool has at one time: core if its queue is unbounded, and
+/// otherwise its maximum.
+fn most_threads(state: &PoolState) -> u64
+    ensures { result ≡ spec.most_threads state.now }
+{
+    if state.is_unbounded() {
+        state.core()
+    } else {
+        state.max()
+    }
+}
+
+/// Appends the capacity of the pool's queue, or `unbounded`.
+fn push_capacity(text: &mut String, state: &PoolState) -> Result<(), AllocError>
+    ensures { Pushes result text.old text.new (spec.capacity_text state.now) }
+{
+    if state.is_unbounded() {
+        return text.push_str("unbounded");
+    }
     let capacity = state.capacity();
-    write!(text, "pool {name}: threads {threads} of {max}, idle {idle}")?;
-    writeln!(text, ", queued {queued} of {capacity}")
+    write!(text, "{capacity}")
 }

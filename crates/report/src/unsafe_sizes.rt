@@ -63,7 +63,7 @@ fn push_core_line(text: &mut String, name: &str, core: u64) -> Result<(), AllocE
 fn push_queue(text: &mut String, declared: &Pool, fit: &Pool) -> Result<(), AllocError>
     ensures { Pushes result text.old text.new (spec.queue_reason declared.now fit.now) }
 {
-    if declared.queue == fit.queue {
+    if fit.unbounded || declared.queue == fit.queue {
         return Ok(());
     }
     let name = declared.name.as_str();

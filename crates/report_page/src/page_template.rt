@@ -62,9 +62,10 @@ if (value !== null && value !== undefined && value !== false) element.setAttribu
 const h = (name, attributes, ...children) => make(name, null, attributes, children);const s = (name, attributes, ...children) => make(name, "http://www.w3.org/2000/svg", attributes, children);
 const text = (x, y, words, kind = "", anchor = "start") =>s("text", {x, y, class: kind || null, "text-anchor": anchor}, String(words));const rect = (x, y, width, height, style, more) =>
 s("rect", {x, y, width: Math.max(width, 0), height, rx: 3, style, ...more});const line = (x1, y1, x2, y2, style) => s("line", {x1, y1, x2, y2, style: style || "stroke:var(--line)"});
-const number = value => value.toLocaleString("en-US");const plural = (count, word) => `${number(count)} ${word}${count === 1 ? "" : "s"}`;const width = words => String(words).length * 6.6;
-function short(words, room) {const most = Math.max(Math.floor(room / 7.2), 2);return words.length <= most ? words : `${words.slice(0, most - 1)}\u2026`;}function someOf(names, most) {
-return names.length <= most + 1 ? names.join(", ") :
+const number = value => value.toLocaleString("en-US");const isUnbounded = pool => pool.queue === "unbounded";const capacity = pool => isUnbounded(pool) ? "unbounded" : number(pool.queue);
+const mostThreads = pool => isUnbounded(pool) ? pool.core : pool.max;const plural = (count, word) => `${number(count)} ${word}${count === 1 ? "" : "s"}`;
+const width = words => String(words).length * 6.6;function short(words, room) {const most = Math.max(Math.floor(room / 7.2), 2);return words.length <= most ? words : `${words.slice(0, most - 1)}\u2026`;}
+function someOf(names, most) {return names.length <= most + 1 ? names.join(", ") :
 `${names.slice(0, most).join(", ")} and ${names.length - most} more`;}function coded(words) { return words.split("`").map((part, at) => at % 2 ? h("code", {}, part) : part); }
 function drawing(height, label, ...parts) {const marks = {viewBox: "0 0 10 10", refX: 9, refY: 5, markerWidth: 7, markerHeight: 7, orient: "auto-start-reverse"};
 const arrow = s("marker", {id: "arrow", ...marks}, s("path", {d: "M0 0L10 5L0 10z", style: "fill:context-stroke"}));const waits =
@@ -139,7 +140,7 @@ style: `fill:none;stroke:var(--${tone});stroke-width:3;stroke-linecap:round;stro
 entries.map(([them, one, many]) => `${number(them.length)} ${them.length === 1 ? one : many}`).join(", ");
 return h("header", {style: `--tone:var(--${tone})`}, h("div", {class: "answer"}, icon, answer.answer),h("div", {}, h("h1", {}, answer.file.split("/").pop()), h("p", {}, verdict(answer)),
 answer.faults.length ? null : h("p", {class: "muted"}, `The plan has ${counts}.`),h("nav", {"aria-label": "Sections"}, ids.map(([id, title]) => h("a", {href: `#${id}`}, title)))));}
-function verdict(answer) {const {witness} = answer;if (answer.answer === "SAFE") {const to = answer.pools.some(pool => !pool.bound) ? "submit to another pool" : "submit";
+function verdict(answer) {const {witness} = answer;if (answer.answer === "SAFE") {const to = answer.pools.some(pool => !pool.bound && !isUnbounded(pool)) ? "submit to another pool" : "submit";
 return `In any order of events, no ${to} is ever refused, and no jobs wait for each other forever. This is proved for the plan.`;}if (answer.answer === "FAULTS")
 return `The text has ${plural(answer.faults.length + answer.omitted, "fault")}, so the sizes were not checked.`;if (!witness)
 return "The search found neither a certificate nor events that show the plan to be wrong. The sizes may be right.";const jobs = plural(witness.ending.jobs.length, "job");
@@ -161,26 +162,29 @@ const words = [`${number(count)} ${label}`, number(count)].find(each => width(ea
 return h("div", {class: "pair"}, h("div", {class: "bar", style: `flex:${whole} 1 0`}, spans),more ? h("div", {class: "bar more", style: `flex:${more} 0 34px`}, `+${number(more)}`) : null);}
 function boundRows(plan, pool) {const {blocked} = pool;const waits = blocked.most ?
 `waits block at most ${plural(blocked.most, "thread")} that other jobs need; ${number(blocked.left)} left` :
-"no wait can block a thread that other jobs need";return [pool.bound ? queueRow(plan, pool) : ["queue", h("div", {}), rejectsWords(pool)],
+"no wait can block a thread that other jobs need";return [pool.bound ? queueRow(plan, pool) : ["queue", h("div", {}), noBoundWords(pool)],
 ["core", bar(pool.core, [{count: blocked.most, color: "var(--c3)", label: "wait"}]), waits],];}function queueRow(plan, pool) {const {bound} = pool;const parts =
 bound.clients.map(each => ({count: each.jobs, color: plan.color("client", each.name), label: each.name}));
-parts.push(...bound.threads.map(each => ({count: each.jobs, color: "var(--c6)", label: `from ${each.name}`})));const isLifetime = bound.kind === "lifetime";
-const capacity = isLifetime ? pool.queue + pool.max - (pool.prestart ? pool.core : 0) : pool.queue;
-const most = isLifetime ? `at most ${plural(bound.total, "job")} in all, and room for ${number(capacity)}` :
-`at most ${number(bound.total)} of ${number(capacity)} places in use`;const never = pool.may_reject ? "never rejects: " : "";
-return [isLifetime ? "queue, max" : "queue", bar(capacity, parts), never + most + listOf(parts)];}function rejectsWords(pool) {
+parts.push(...bound.threads.map(each => ({count: each.jobs, color: "var(--c6)", label: `from ${each.name}`})));const isLifetime = bound.kind === "lifetime";if (isUnbounded(pool)) {
+const most = isLifetime ? `at most ${plural(bound.total, "job")} in all` : `at most ${plural(bound.total, "job")} at once`;
+return ["queue", bar(bound.total, parts), `unbounded: ${most}${listOf(parts)}`];}const room = isLifetime ? pool.queue + pool.max - (pool.prestart ? pool.core : 0) : pool.queue;
+const most = isLifetime ? `at most ${plural(bound.total, "job")} in all, and room for ${number(room)}` :
+`at most ${number(bound.total)} of ${number(room)} places in use`;const never = pool.may_reject ? "never rejects: " : "";
+return [isLifetime ? "queue, max" : "queue", bar(room, parts), never + most + listOf(parts)];}function noBoundWords(pool) {if (isUnbounded(pool)) return "unbounded: no bound is known";
 return pool.rejects_after === null ? "may reject" : `may reject: after ${plural(pool.rejects_after, "event")}`;}function endRows(plan, answer, pool, state) {
-const fit = answer.sizes && answer.sizes.pools.find(each => each.name === pool.name);const more = key => fit ? Math.max(fit[key] - pool[key], 0) : 0;const enough = (...keys) => {
+const fit = answer.sizes && answer.sizes.pools.find(each => each.name === pool.name);const keys = isUnbounded(pool) ? ["core"] : ["core", "max"], most = mostThreads(pool);
+const more = key => fit && !(key === "queue" && isUnbounded(pool)) ? Math.max(fit[key] - pool[key], 0) : 0;const enough = (...keys) => {
 const changed = keys.filter(more).map(key => `${key} ${number(fit[key])}`);return changed.length ? h("b", {style: "color:var(--good)"}, ` Enough: ${changed.join(", ")}.`) : null;};if (!state) {
-const threads = ["core, max", bar(pool.max, [], more("max")), enough("core", "max")];return [threads, ["queue", bar(pool.queue, [], more("queue")), enough("queue")]];}
+const threads = [keys.join(", "), bar(most, [], more(keys.at(-1))), enough(...keys)];
+const places = isUnbounded(pool) ? [h("div", {}), "unbounded"] : [bar(pool.queue, [], more("queue")), enough("queue")];return [threads, ["queue", ...places]];}
 const threads = state.threads.get(pool.name), queue = state.queues.get(pool.name);const idle = threads.filter(job => job === null).length;
 const waiting = threads.filter(job => job !== null && state.waits(state.jobs.get(job))).length;const uses = [{count: threads.length - idle - waiting, color: "var(--c2)", label: "at work"},
-{count: waiting, color: "var(--c3)", label: "wait"},{count: idle, color: "var(--c6)", label: "idle"},];const started = `${number(threads.length)} of ${number(pool.max)} started${listOf(uses)}.`;
+{count: waiting, color: "var(--c3)", label: "wait"},{count: idle, color: "var(--c6)", label: "idle"},];const started = `${number(threads.length)} of ${number(most)} started${listOf(uses)}.`;
 const queued = new Map();for (const job of queue) {const {name} = state.jobs.get(job), part = queued.get(name) || {count: 0, color: plan.color("class", name), label: name};
-queued.set(name, {...part, count: part.count + 1});}const refuses = h("b", {style: "color:var(--bad)"}, " The next submit is refused.");
-const inUse = pool.queue ? `${number(queue.length)} of ${number(pool.queue)} places in use` :
-`${plural(queue.length, "job")} handed to idle threads`;const places = `${inUse}${listOf([...queued.values()])}.`;return [
-["threads", bar(pool.max, uses, more("max")), [started, enough("core", "max")]],["queue", bar(pool.queue || queue.length, [...queued.values()], more("queue")),
+queued.set(name, {...part, count: part.count + 1});}const refuses = h("b", {style: "color:var(--bad)"}, " The next submit is refused.");const room = isUnbounded(pool) ? 0 : pool.queue;
+const inUse = room ? `${number(queue.length)} of ${number(room)} places in use` :
+`${plural(queue.length, "job")} ${isUnbounded(pool) ? "in the unbounded queue" : "handed to idle threads"}`;const places = `${inUse}${listOf([...queued.values()])}.`;return [
+["threads", bar(most, uses, more(keys.at(-1))), [started, enough(...keys)]],["queue", bar(room || queue.length, [...queued.values()], more("queue")),
 [places, answer.witness.ending.pool === pool.name ? refuses : null, enough("queue")]],];}function listOf(parts) {
 const named = parts.filter(each => each.count).map(each => `${number(each.count)} ${each.label}`);return named.length ? `: ${someOf(named, 4)}` : "";}function pools(plan, answer, state) {
 const isSafe = answer.answer === "SAFE";const shown = answer.pools.map(pool => {const changes = answer.sizes && answer.sizes.pools.some(each => each.name === pool.name && each.changes.length);
@@ -190,10 +194,9 @@ const few = shown.length <= MOST_POOLS, first = few ? shown : shown.filter(each 
 "A whole bar is the capacity. The filled part is the most that can be in use at one time, by submitter." :
 "The pools after the last event.";const unused = isSafe || rest.some(each => each.isUsed) ? "" : ", which no event has used";
 return section("pools", "Pools", isSafe || state ? h("p", {class: "muted"}, note) : null, first.map(each => each.row),
-rest.length ? folded(plural(rest.length, "other pool") + unused, false, rest.map(each => each.row)) : null);}function poolRow(pool, rows) {
-const flags = `${pool.prestart ? ", prestarted" : ""}${pool.may_reject ? ", may reject" : ""}`;
-const declared = `core ${number(pool.core)}, max ${number(pool.max)}, queue ${number(pool.queue)}${flags}`;
-const waits = pool.waits_for.length ? h("div", {class: "muted"}, `waits for ${someOf(pool.waits_for, 5)}`) : null;
+rest.length ? folded(plural(rest.length, "other pool") + unused, false, rest.map(each => each.row)) : null);}function poolRow(pool, rows) {const rejects = pool.may_reject && !isUnbounded(pool);
+const flags = `${pool.prestart ? ", prestarted" : ""}${rejects ? ", may reject" : ""}`;const max = isUnbounded(pool) ? "" : `, max ${number(pool.max)}`;
+const declared = `core ${number(pool.core)}${max}, queue ${capacity(pool)}${flags}`;const waits = pool.waits_for.length ? h("div", {class: "muted"}, `waits for ${someOf(pool.waits_for, 5)}`) : null;
 const bars = rows.map(([label, drawn, words]) => [h("div", {class: "label"}, label), drawn, h("div", {}, words)]);return h("div", {class: "pool"},
 h("div", {}, h("div", {class: "name"}, pool.name), h("div", {class: "muted"}, declared), waits),h("div", {class: "bars"}, bars));}function timeline(plan, story) {
 const {columns, shown, clients, lanes} = story;const wide = Math.min(104, (WIDTH - LEFT - 4) / shown.length), x = at => LEFT + at * wide, right = x(shown.length);const parts = [];
@@ -233,15 +236,16 @@ parts.push(rect(left + 2, y + 2, width(label) + 6, 15, `fill:${plan.color("class
 if (shown[at].ends === "refused" && shown[at].events[0].actor.job === runs)
 parts.push(rect(x(at) + wide / 2 - 9, y, 18, 19, "fill:var(--bad-back)"), sign(x(at) + wide / 2, y + 9.5, "refused"));}return parts;}function queueLane(plan, story, x, wide, y, pool, right) {
 const {shown} = story, queue = column => column.state.queues.get(pool.name);const most = Math.max(...shown.map(column => column ? queue(column).length : 0));
-const parts = [text(LEFT - 10, y + 12, `queue of ${number(pool.queue)}`, "small dim", "end")];if (most === 0) return [[...parts, text(x(0) + 2, y + 12, "stays empty", "small dim")], y + 20];
-const limit = pool.queue || most;if (most <= MOST_CELLS) {const places = Math.min(limit, most + 1), tall = places * 17;
-if (places > 1) parts.push(text(LEFT - 10, y + tall - 5, "head", "small dim", "end"));shown.forEach((column, at) => {if (!column) return;for (let place = 0; place < places; place++) {
-const top = y + (places - 1 - place) * 17, job = queue(column)[place];if (job === undefined) {parts.push(rect(x(at) + 2, top + 1, wide - 4, 15, "fill:none;stroke:var(--line)"));continue;}
-const name = story.nameOf(job);const label = [`${name} ${job}`, `${job}`].find(words => width(words) + 8 < wide) || "";parts.push(rect(x(at) + 2, top + 1, wide - 4, 15,
+const label = isUnbounded(pool) ? "unbounded queue" : `queue of ${capacity(pool)}`;const parts = [text(LEFT - 10, y + 12, label, "small dim", "end")];
+if (most === 0) return [[...parts, text(x(0) + 2, y + 12, "stays empty", "small dim")], y + 20];const limit = isUnbounded(pool) ? most + 1 : pool.queue || most;if (most <= MOST_CELLS) {
+const places = Math.min(limit, most + 1), tall = places * 17;if (places > 1) parts.push(text(LEFT - 10, y + tall - 5, "head", "small dim", "end"));shown.forEach((column, at) => {if (!column) return;
+for (let place = 0; place < places; place++) {const top = y + (places - 1 - place) * 17, job = queue(column)[place];if (job === undefined) {
+parts.push(rect(x(at) + 2, top + 1, wide - 4, 15, "fill:none;stroke:var(--line)"));continue;}const name = story.nameOf(job);
+const label = [`${name} ${job}`, `${job}`].find(words => width(words) + 8 < wide) || "";parts.push(rect(x(at) + 2, top + 1, wide - 4, 15,
 `fill:var(--card);stroke:${plan.color("class", name)};stroke-width:1.6`),text(x(at) + wide / 2, top + 12, label, "small", "middle"));}});return [parts, y + tall + 6];}const tall = 64;
-parts.push(line(LEFT, y, right, y, "stroke:var(--bad);stroke-dasharray:5 4"),line(LEFT, y + tall, right, y + tall, "stroke:var(--edge)"),text(LEFT - 10, y + tall, "empty", "small dim", "end"));
-shown.forEach((column, at) => {if (!column || !queue(column).length) return;const count = queue(column).length, high = tall * count / limit;parts.push(rect(
-x(at) + 1.5, y + tall - high, wide - 3, high, `fill:var(--${count === limit ? "bad" : "c1"})`, {rx: 1}));if (width(count) < wide)
+if (!isUnbounded(pool)) parts.push(line(LEFT, y, right, y, "stroke:var(--bad);stroke-dasharray:5 4"));parts.push(line(LEFT, y + tall, right, y + tall, "stroke:var(--edge)"),
+text(LEFT - 10, y + tall, "empty", "small dim", "end"));shown.forEach((column, at) => {if (!column || !queue(column).length) return;const count = queue(column).length, high = tall * count / limit;
+parts.push(rect(x(at) + 1.5, y + tall - high, wide - 3, high, `fill:var(--${count === limit ? "bad" : "c1"})`, {rx: 1}));if (width(count) < wide)
 parts.push(text(x(at) + wide / 2, high < 16 ? y + tall - high - 3 : y + tall - 4, count,high < 16 ? "small" : "small on", "middle"));});return [parts, y + tall + 8];}function sign(x, y, outcome) {
 const ink = "fill:var(--ink);stroke:var(--card);stroke-width:1";if (outcome === "refused")
 return s("path",{d: `M${x - 6} ${y - 6}l12 12m0 -12l-12 12`, style: "stroke:var(--bad);stroke-width:3;stroke-linecap:round"});
@@ -331,9 +335,10 @@ return [...groups.values()].flatMap(names => names.length < 4 ? names.map(name =
 const along = (from, control1, control2, to) =>(1 - at) ** 3 * from + 3 * (1 - at) ** 2 * at * control1 + 3 * (1 - at) * at ** 2 * control2 + at ** 3 * to;
 while (at < .5 && along(x1, x, x, x2) < x1 + 40) at += .01;return [along(x1, x, x, x2), along(y1, y1, y2, y2) - 5];}function graph(plan, rows, depth, levels) {
 const step = Math.min(330, (WIDTH - 230) / levels.length), box = Math.min(205, step - 60), grounds = [], front = [];const places = new Map(), tops = new Map();for (const pool of plan.pools) {
-const level = levels.indexOf(depth.get(pool.name)), x = 270 + level * step, y = tops.get(level) || 4;const boxes = boxesOf(plan, rows, pool), tall = 46 + 31 * Math.max(boxes.length, 1);const threads =
-pool.core === pool.max ? plural(pool.core, "thread") : `${number(pool.core)}\u2013${number(pool.max)} threads`;grounds.push(rect(x, y, box, tall, "fill:var(--inset);stroke:var(--edge)", {rx: 8}));
-front.push(text(x + 12, y + 19, short(pool.name, box - 20), "strong"),text(x + 12, y + 35, short(`${threads}, queue ${number(pool.queue)}`, 1.2 * box), "small dim"));boxes.forEach((names, row) => {
+const level = levels.indexOf(depth.get(pool.name)), x = 270 + level * step, y = tops.get(level) || 4;const boxes = boxesOf(plan, rows, pool), tall = 46 + 31 * Math.max(boxes.length, 1);
+const most = mostThreads(pool);const threads = pool.core === most ? plural(pool.core, "thread") : `${number(pool.core)}\u2013${number(most)} threads`;
+grounds.push(rect(x, y, box, tall, "fill:var(--inset);stroke:var(--edge)", {rx: 8}));front.push(text(x + 12, y + 19, short(pool.name, box - 20), "strong"),
+text(x + 12, y + 35, short(`${threads}, queue ${capacity(pool)}`, 1.2 * box), "small dim"));boxes.forEach((names, row) => {
 const top = y + 43 + row * 31, label = names.length === 1 ? names[0] : `${names[0]} and ${names.length - 1} more`;
 front.push(rect(x + 12, top, box - 24, 25, `fill:${plan.color("class", names[0])}`, {rx: 5}),text(x + box / 2, top + 17, short(label, box - 30), "on", "middle"));
 for (const name of names) places.set(`class ${name}`, [x + 12, x + box - 12, top + 13]);});tops.set(level, y + tall + 20);}let y = 4;for (const kind of plan.clients) {

@@ -1,15 +1,15 @@
 -- The steady certificate is accepted if the sizes are enough.
-use Rattle.std.proofs.Common.{◌≡◌, ℕ, zero, ◌-◌, ◌<◌, ◌≤◌, ⊎_elim, Bool, true, false, ◌&&◌, ltb, List, [], ◌∷◌, ◌++◌, length, map, filter, flat_map, slice_get, Some, refl, sym, ap, subst, ◌∙◌, arith}
+use Rattle.std.proofs.Common.{◌≡◌, ℕ, zero, ◌-◌, ◌<◌, ◌≤◌, ⊎_elim, Bool, true, false, ◌&&◌, ltb, List, [], ◌∷◌, ◌++◌, length, map, filter, flat_map, slice_get, Some, cond, refl, sym, ap, subst, ◌∙◌, append_assoc, arith}
 use Rattle.std.specs.Prelude.{◌==◌}
 use Rattle.std.specs.List.{enumerate_from}
-use Rattle.std.proofs.lemmas.Bool.{le-ltb, false≢true}
+use Rattle.std.proofs.lemmas.Bool.{le-ltb, false≢true, or_parts}
 use Rattle.std.proofs.lemmas.List.{get_or-map}
 use Rattle.std.proofs.lemmas.Option.{slice_get_within, get_or_from_slice_get}
 use Rattle.support.specs.In.{In}
 use Rattle.support.proofs.Members.{not_In_nil, In-append_cases, In-push_cases, In-map, In-map_from, In-flat_map_from, In-filter_from}
 use Rattle.job_bodies.specs.declared.action.Action.{Action}
 use Rattle.job_bodies.specs.declared.action.Action.TheVariants.{Submit}
-use Rattle.job_bodies.specs.Plan.{Pool, Class, Plan, no_pool, no_class, pool_at, class_at, submitted_class}
+use Rattle.job_bodies.specs.Plan.{Pool, Class, Plan, no_pool, no_class, pool_at, class_at, needs_no_bound, submitted_class}
 use Rattle.job_bodies.specs.WellFormed.{IsWellFormed}
 use Rattle.job_bodies.proofs.Bodies.{HasValidBodies, ordered}
 use Rattle.weights.specs.declared.get_return.GetReturn.TheVariants.{DoneWeight}
@@ -19,6 +19,7 @@ use Rattle.weights.specs.declared.row.Rule.TheVariants.{S1, S2, B1, B2}
 use Rattle.weights.specs.Row.{row, AllHold}
 use Rattle.weights.specs.Vector.{Vector, queued_weight, job_weight, total, has_small_numbers}
 use Rattle.weights.specs.Rows.{rows, classes_of}
+use Rattle.weights.specs.Standing.{standing_rows}
 use Rattle.soundness.proofs.BoundLaws.{PoolBoundLaws}
 use Rattle.weights.specs.Blocked.{is_get, counted_rows, blocked_rows}
 use Rattle.weights.specs.Ranks.{is_counted, rank_rows}
@@ -57,6 +58,21 @@ steady_ranks_laws plan is_ordered free = record {
 
 abbrev standing_body : Plan → ℕ → Vector → List Row
 standing_body plan p v = rows DoneWeight plan v ++ map (λ (entry : ℕ × Class). row S1 (place.Class entry.0) 1 (queued_weight v entry.0)) (classes_of plan p)
+
+abbrev standing_total : Plan → ℕ → Vector → Row
+standing_total plan p v = row S2 place.Total (total plan v) (pool_at plan p).queue
+
+-- a pool that needs a bound has a bounded queue
+has_bounded_queue : (pool : Pool) → needs_no_bound pool ≡ false → pool.unbounded ≡ false
+has_bounded_queue pool needs = (or_parts pool.may_reject pool.unbounded needs).1
+
+-- the rows of a standing vector of such a pool
+standing_rows-split : (plan : Plan) (p : ℕ) (v : Vector) → needs_no_bound (pool_at plan p) ≡ false → standing_rows plan p v ≡ standing_body plan p v ++ standing_total plan p v ∷ []
+standing_rows-split plan p v needs =
+    let of_classes = map (λ (entry : ℕ × Class). row S1 (place.Class entry.0) 1 (queued_weight v entry.0)) (classes_of plan p) in
+    let last = standing_total plan p v ∷ [] in
+    ap (λ (unbounded : Bool). rows DoneWeight plan v ++ cond unbounded [] (of_classes ++ last)) (has_bounded_queue (pool_at plan p) needs)
+    ∙ sym (append_assoc (rows DoneWeight plan v) of_classes last)
 
 abbrev blocked_body : Plan → ℕ → (ℕ → ℕ → Bool) → Vector → List Row
 blocked_body plan p counted v = rows DoneWeight plan v ++ flat_map (λ (entry : ℕ × Class). counted_rows counted v entry.0 entry.1) (classes_of plan p)
@@ -114,21 +130,24 @@ fails_at_total part rows t n hold of_total wrong at =
     (In-push_cases rows t found.1)
 
 -- only the total of the steady vector can fail as a condition of the bound
-of_bound : (plan : Plan) (p : ℕ) (n : Note) (may_reject : Bool) → HasValidBodies plan → IsAllGot plan → ltb n.right n.left ≡ true → In n (bound_conditions plan p (bound_of (steady_vector plan) may_reject)) → n.place ≡ place.Total
-of_bound plan p n true is_ordered free wrong at = absurd (not_In_nil at)
-of_bound plan p n false is_ordered free wrong at =
+of_bound : (plan : Plan) (p : ℕ) (n : Note) (boundless : Bool) → needs_no_bound (pool_at plan p) ≡ boundless → HasValidBodies plan → IsAllGot plan → ltb n.right n.left ≡ true
+    → In n (bound_conditions plan p (bound_of (steady_vector plan) boundless)) → n.place ≡ place.Total
+of_bound plan p n true none is_ordered free wrong at = absurd (not_In_nil at)
+of_bound plan p n false needs is_ordered free wrong at =
     let v = steady_vector plan in
-    fails_at_total (section.Standing p) (standing_body plan p v) (row S2 place.Total (total plan v) (pool_at plan p).queue) n (standing_holds plan p is_ordered free) refl wrong at
+    let part = section.Standing p in
+    fails_at_total part (standing_body plan p v) (standing_total plan p v) n (standing_holds plan p is_ordered free) refl wrong
+    (subst (λ (all : List Row). In n (in_section part all)) (standing_rows-split plan p v needs) at)
 
 of_pool : (plan : Plan) (p : ℕ) (n : Note) → HasValidBodies plan → IsAllGot plan → p < length plan.pools → ltb n.right n.left ≡ true → In n (pool_conditions plan (steady_cert plan) p) → n.place ≡ place.Total
 of_pool plan p n is_ordered free inside wrong at =
     let v = steady_vector plan in
     let counted = is_counted plan (steady_ranks plan) in
-    let bound = bound_of v (pool_at plan p).may_reject in
+    let bound = bound_of v (needs_no_bound (pool_at plan p)) in
     let here : In n (bound_conditions plan p bound ++ in_section (section.Blocked p) (blocked_rows plan p counted v)) =
     subst (λ (pool : PoolCert). In n (bound_conditions plan p pool.bound ++ in_section (section.Blocked p) (blocked_rows plan p counted pool.blocked))) (pool_part plan p inside) at in
     ⊎_elim
-    (λ first. of_bound plan p n (pool_at plan p).may_reject is_ordered free wrong first)
+    (λ first. of_bound plan p n (needs_no_bound (pool_at plan p)) refl is_ordered free wrong first)
     (λ second. fails_at_total (section.Blocked p) (blocked_body plan p counted v) (row B2 place.Total (total plan v) ((pool_at plan p).core - 1)) n (blocked_holds plan p counted is_ordered free) refl wrong second)
     (In-append_cases (bound_conditions plan p bound) (in_section (section.Blocked p) (blocked_rows plan p counted v)) here)
 
@@ -150,11 +169,12 @@ only_totals plan is_ordered free n at =
 hold_with : (rows : List Row) (t : Row) → AllHold rows → t.left ≤ t.right → AllHold (rows ++ t ∷ [])
 hold_with rows t hold within x at = ⊎_elim (λ before. hold x before) (λ (final : x ≡ t). subst (λ (y : Row). y.left ≤ y.right) (sym final) within) (In-push_cases rows t at)
 
-bound_rows_hold : (plan : Plan) (p : ℕ) (may_reject : Bool) → HasValidBodies plan → IsAllGot plan → (may_reject ≡ false → total plan (steady_vector plan) ≤ (pool_at plan p).queue) → BoundRowsHold plan p (bound_of (steady_vector plan) may_reject)
-bound_rows_hold plan p true is_ordered free enough = tt
-bound_rows_hold plan p false is_ordered free enough =
+bound_rows_hold : (plan : Plan) (p : ℕ) (boundless : Bool) → needs_no_bound (pool_at plan p) ≡ boundless → HasValidBodies plan → IsAllGot plan → (boundless ≡ false → total plan (steady_vector plan) ≤ (pool_at plan p).queue)
+    → BoundRowsHold plan p (bound_of (steady_vector plan) boundless)
+bound_rows_hold plan p true none is_ordered free enough = tt
+bound_rows_hold plan p false needs is_ordered free enough =
     let v = steady_vector plan in
-    hold_with (standing_body plan p v) (row S2 place.Total (total plan v) (pool_at plan p).queue) (standing_holds plan p is_ordered free) (enough refl)
+    subst AllHold (sym (standing_rows-split plan p v needs)) (hold_with (standing_body plan p v) (standing_total plan p v) (standing_holds plan p is_ordered free) (enough refl))
 
 accepted_where_enough : (plan : Plan) → IsWellFormed plan → IsAllGot plan → has_small_numbers (steady_vector plan) ≡ true → AreEnough plan → accepted plan (steady_cert plan) ≡ true
 accepted_where_enough plan well free small enough =
@@ -163,22 +183,23 @@ accepted_where_enough plan well free small enough =
     let counted = is_counted plan (steady_ranks plan) in
     accepted_from_parts plan (steady_cert plan) (cert_is_fit plan well free.no_circle small) (rank_rows_hold plan (steady_ranks plan) (steady_ranks_laws plan is_ordered free))
     (λ p inside.
-    subst (λ (pool : PoolCert). BoundRowsHold plan p pool.bound) (sym (pool_part plan p inside)) (bound_rows_hold plan p (pool_at plan p).may_reject is_ordered free (enough p inside).0))
+    subst (λ (pool : PoolCert). BoundRowsHold plan p pool.bound) (sym (pool_part plan p inside)) (bound_rows_hold plan p (needs_no_bound (pool_at plan p)) refl is_ordered free (enough p inside).0))
     (λ p inside.
     let of_core = (enough p inside).1 in
     subst (λ (pool : PoolCert). AllHold (blocked_rows plan p counted pool.blocked)) (sym (pool_part plan p inside))
     (hold_with (blocked_body plan p counted v) (row B2 place.Total (total plan v) ((pool_at plan p).core - 1)) (blocked_holds plan p counted is_ordered free) (omega (arith, of_core))))
 
-within_where_bound : (plan : Plan) (p : ℕ) (may_reject : Bool) → PoolBoundLaws plan p (bound_of (steady_vector plan) may_reject) → may_reject ≡ false → total plan (steady_vector plan) ≤ (pool_at plan p).queue
-within_where_bound plan p true laws must = absurd (false≢true (sym must))
-within_where_bound plan p false laws must = laws.within
+within_where_bound : (plan : Plan) (p : ℕ) (boundless : Bool) → needs_no_bound (pool_at plan p) ≡ boundless → PoolBoundLaws plan p (bound_of (steady_vector plan) boundless) → boundless ≡ false
+    → total plan (steady_vector plan) ≤ (pool_at plan p).queue
+within_where_bound plan p true is laws needs = absurd (false≢true (sym needs))
+within_where_bound plan p false is laws needs = laws.within (has_bounded_queue (pool_at plan p) is)
 
 enough_where_accepted : (plan : Plan) → IsWellFormed plan → accepted plan (steady_cert plan) ≡ true → AreEnough plan
 enough_where_accepted plan well is_accepted p inside =
     let laws = cert_laws plan (steady_cert plan) is_accepted in
     let bound = subst (λ (pool : PoolCert). PoolBoundLaws plan p pool.bound) (pool_part plan p inside) (laws.bound p inside) in
     let blocked = subst (λ (pool : PoolCert). BlockedLaws plan (is_counted plan (steady_ranks plan)) p pool.blocked) (pool_part plan p inside) (laws.blocked p inside) in
-    (within_where_bound plan p (pool_at plan p).may_reject bound, omega (arith, blocked.within, (ordered plan well).core p inside))
+    (within_where_bound plan p (needs_no_bound (pool_at plan p)) refl bound, omega (arith, blocked.within, (ordered plan well).core p inside))
 
 pub accepting : SteadyCertificatesAccept
 accepting plan well free small = record {

@@ -1,9 +1,9 @@
 -- No sizes are enough for a plan with a cause: the conditions of a certificate exclude the cause, and the cause does not depend on sizes.
 use Rattle.std.proofs.Common.{◌≡◌, ℕ, ◌<◌, ◌≤◌, true, false, List, [], ◌∷◌, length, map, filter, get_or, slice_get, Option, Some, None, IsTrue, subst, sym, ap, ◌∙◌, arith, refl}
-use Rattle.std.proofs.lemmas.Bool.{false≢true}
+use Rattle.std.proofs.lemmas.Bool.{false≢true, or_parts}
 use Rattle.job_bodies.specs.declared.action.Action.{Action}
 use Rattle.job_bodies.specs.declared.action.Action.TheVariants.{Submit}
-use Rattle.job_bodies.specs.Plan.{Pool, Class, Client, Plan, no_class, no_client, pool_at, class_at, client_at, submitted_class, class_of_submit}
+use Rattle.job_bodies.specs.Plan.{Pool, Class, Client, Plan, no_class, no_client, pool_at, class_at, client_at, needs_no_bound, submitted_class, class_of_submit}
 use Rattle.job_bodies.specs.WellFormed.{IsWellFormed}
 use Rattle.job_bodies.proofs.Bodies.{ordered}
 use Rattle.weights.specs.declared.bound.Bound.{Bound}
@@ -14,7 +14,7 @@ use Rattle.cert_text.specs.Cert.{Cert, pool_cert_at}
 use Rattle.soundness.proofs.BoundLaws.{BoundLaws, PoolBoundLaws, bound_vector_laws}
 use Rattle.soundness.specs.Accepted.{accepted}
 use Rattle.soundness.proofs.CertLaws.{cert_laws}
-use Rattle.size_search.specs.Submitted.{IsSubmitted, IsNeverGot, LostByClients, LostByJobs, may_be_rejected, repeated_bodies}
+use Rattle.size_search.specs.Submitted.{IsSubmitted, IsNeverGot, LostByClients, LostByJobs, goes_without_bound, repeated_bodies}
 use Rattle.size_search.specs.Widened.{outline}
 use Rattle.size_search.specs.NoSizesHelp.{IsBeyondSizes, NoSizesHelp}
 use Rattle.size_search.proofs.Changes.{pool_at-outline}
@@ -32,18 +32,18 @@ circle plan k submitted other cert well same is_accepted =
 
 -- ---- the conditions of an accepted certificate on the jobs of a class
 
-queued_weighs : (plan : Plan) (p : ℕ) (bound : Bound) → BoundLaws plan p bound → (k : ℕ) → k < length plan.classes → (class_at plan k).pool ≡ p → 1 ≤ queued_weight (bound_vector bound) k
+queued_weighs : (plan : Plan) (p : ℕ) (bound : Bound) → BoundLaws plan p bound → (pool_at plan p).unbounded ≡ false → (k : ℕ) → k < length plan.classes → (class_at plan k).pool ≡ p → 1 ≤ queued_weight (bound_vector bound) k
 queued_weighs plan p (Standing v) laws = laws.queued
 queued_weighs plan p (Lifetime v) laws = laws.queued
 
--- a pool that must not reject jobs has a bound
+-- a pool that needs a bound has one
 record IsBound (plan : Plan) (p : ℕ) : Type 0 where
   bound : Bound
   laws : BoundLaws plan p bound
 
-must_have_bound : (plan : Plan) (p : ℕ) (bound : Option Bound) → PoolBoundLaws plan p bound → (pool_at plan p).may_reject ≡ false → IsBound plan p
-must_have_bound plan p None may must = absurd (false≢true (sym must ∙ may))
-must_have_bound plan p (Some bound) laws must = record { bound = bound; laws = laws }
+must_have_bound : (plan : Plan) (p : ℕ) (bound : Option Bound) → PoolBoundLaws plan p bound → needs_no_bound (pool_at plan p) ≡ false → IsBound plan p
+must_have_bound plan p None none needs = absurd (false≢true (sym needs ∙ none))
+must_have_bound plan p (Some bound) laws needs = record { bound = bound; laws = laws }
 
 -- the consequences of the bound of class k's pool: no action makes an actor heavier, and a queued job of class k has weight
 record IsBounded (plan : Plan) (cert : Cert) (k : ℕ) : Type 0 where
@@ -51,23 +51,25 @@ record IsBounded (plan : Plan) (cert : Cert) (k : ℕ) : Type 0 where
   weighed : IsWeighed (bound_get_return bound) plan (bound_vector bound) cert.ranks
   weighs : 1 ≤ queued_weight (bound_vector bound) k
 
-bounded : (plan : Plan) (cert : Cert) (k : ℕ) → IsWellFormed plan → IsTrue (accepted plan cert) → k < length plan.classes → (pool_at plan (class_at plan k).pool).may_reject ≡ false → IsBounded plan cert k
-bounded plan cert k well is_accepted inside must =
+bounded : (plan : Plan) (cert : Cert) (k : ℕ) → IsWellFormed plan → IsTrue (accepted plan cert) → k < length plan.classes → needs_no_bound (pool_at plan (class_at plan k).pool) ≡ false → IsBounded plan cert k
+bounded plan cert k well is_accepted inside needs =
     let p = (class_at plan k).pool in
     let is_ordered = ordered plan well in
     let laws = cert_laws plan cert is_accepted in
-    let has = must_have_bound plan p (pool_cert_at cert p).bound (laws.bound p (is_ordered.pools k inside)) must in
+    let has = must_have_bound plan p (pool_cert_at cert p).bound (laws.bound p (is_ordered.pools k inside)) needs in
+    let pool = pool_at plan p in
+    let bounded_queue = (or_parts pool.may_reject pool.unbounded needs).1 in
     record {
       bound = has.bound;
       weighed = record { ordered = is_ordered; vector = bound_vector_laws plan p has.bound has.laws; levels = laws.ranks };
-      weighs = queued_weighs plan p has.bound has.laws k inside refl;
+      weighs = queued_weighs plan p has.bound has.laws bounded_queue k inside refl;
     }
 
 -- ---- clients with a submit that is never got
 
 -- the class that a submit submits
-class_of : (plan : Plan) (body : List Action) (i k : ℕ) → slice_get body i ≡ Some (Submit k) → may_be_rejected plan body i ≡ false → (pool_at plan (class_at plan k).pool).may_reject ≡ false
-class_of plan body i k at must = ap (λ (x : Option Action). (pool_at plan (class_at plan (class_of_submit x)).pool).may_reject) (sym at) ∙ must
+class_of : (plan : Plan) (body : List Action) (i k : ℕ) → slice_get body i ≡ Some (Submit k) → goes_without_bound plan body i ≡ false → needs_no_bound (pool_at plan (class_at plan k).pool) ≡ false
+class_of plan body i k at needs = ap (λ (x : Option Action). needs_no_bound (pool_at plan (class_at plan (class_of_submit x)).pool)) (sym at) ∙ needs
 
 no_client_does : (plan : Plan) (cert : Cert) (c i : ℕ) → IsWellFormed plan → IsTrue (accepted plan cert) → LostByClients plan false c i → ⊥
 no_client_does plan cert c i well is_accepted lost =
@@ -77,15 +79,15 @@ no_client_does plan cert c i well is_accepted lost =
     let facts = bounded plan cert k well is_accepted (((ordered plan well).clients c).submit i k submitted.1) (class_of plan (client_at plan c).body i k submitted.1 lost.of_pool) in
     repeats_with_gets (bound_get_return facts.bound) plan (bound_vector facts.bound) cert.ranks c i k facts.weighed cause.repeats submitted.1 cause.never_got.not_got facts.weighs
 
--- whether a job that a body submits may be rejected does not depend on sizes
-same_pools : (plan other : Plan) (body : List Action) (i : ℕ) → outline other ≡ outline plan → may_be_rejected other body i ≡ may_be_rejected plan body i
+-- whether a submit goes to a pool that needs no bound does not depend on sizes
+same_pools : (plan other : Plan) (body : List Action) (i : ℕ) → outline other ≡ outline plan → goes_without_bound other body i ≡ goes_without_bound plan body i
 same_pools plan other body i same =
     let class : class_at other (submitted_class body i) ≡ class_at plan (submitted_class body i) = ap (λ (any : Plan). get_or any.classes (submitted_class body i) no_class) same in
     let p = (class_at plan (submitted_class body i)).pool in
-    ap (λ (any : Class). (pool_at other any.pool).may_reject) class
-    ∙ (sym (ap (λ (pool : Pool). pool.may_reject) (pool_at-outline other p))
-    ∙ (ap (λ (any : Plan). (pool_at any p).may_reject) same
-    ∙ ap (λ (pool : Pool). pool.may_reject) (pool_at-outline plan p)))
+    ap (λ (any : Class). needs_no_bound (pool_at other any.pool)) class
+    ∙ (sym (ap needs_no_bound (pool_at-outline other p))
+    ∙ (ap (λ (any : Plan). needs_no_bound (pool_at any p)) same
+    ∙ ap needs_no_bound (pool_at-outline plan p)))
 
 client_never_gets : (plan : Plan) (c i : ℕ) → LostByClients plan false c i → IsBeyondSizes plan
 client_never_gets plan c i lost other cert well same is_accepted =
@@ -94,7 +96,7 @@ client_never_gets plan c i lost other cert well same is_accepted =
     no_client_does other cert c i well is_accepted
     (record {
       never_got = record { repeats = subst (λ (any : Client). any.repeat ≡ true) client cause.repeats; never_got = subst (λ (any : Client). IsNeverGot any.body i) client cause.never_got };
-      of_pool = ap (λ (any : Client). may_be_rejected other any.body i) (sym client) ∙ (same_pools plan other (client_at plan c).body i same ∙ lost.of_pool);
+      of_pool = ap (λ (any : Client). goes_without_bound other any.body i) (sym client) ∙ (same_pools plan other (client_at plan c).body i same ∙ lost.of_pool);
     })
 
 -- ---- jobs with a submit that is never got
@@ -123,7 +125,7 @@ class_never_gets plan k i lost other cert well same is_accepted =
         submitted = subst (λ (bodies : List (List Action)). IsSubmitted other bodies k) (repeated_in plan other clients) (submitted_in plan other (repeated_bodies plan) classes cause.submitted);
         never_got = subst (λ (any : Class). IsNeverGot any.body i) class cause.never_got;
       };
-      of_pool = ap (λ (any : Class). may_be_rejected other any.body i) (sym class) ∙ (same_pools plan other (class_at plan k).body i same ∙ lost.of_pool);
+      of_pool = ap (λ (any : Class). goes_without_bound other any.body i) (sym class) ∙ (same_pools plan other (class_at plan k).body i same ∙ lost.of_pool);
     })
 
 pub no_sizes_help : NoSizesHelp

@@ -8,7 +8,7 @@ use Rattle.std.proofs.lemmas.Option.{slice_get_within, get_or_from_slice_get}
 use Rattle.std.proofs.lemmas.List.{length-append}
 use Rattle.support.specs.In.{In}
 use Rattle.support.proofs.Members.{list_all_from_In}
-use Rattle.job_bodies.specs.Plan.{Pool, Class, Client, Plan, no_pool, pool_at, no_class, no_client, class_at, client_at}
+use Rattle.job_bodies.specs.Plan.{Pool, Class, Client, Plan, no_pool, pool_at, needs_no_bound, no_class, no_client, class_at, client_at}
 use Rattle.job_bodies.specs.WellFormed.{IsWellFormed}
 use Rattle.job_bodies.proofs.Bodies.{HasValidBodies, ordered}
 use Rattle.job_bodies.specs.declared.limits.TheConstants.{MAX_WEIGHT}
@@ -108,13 +108,13 @@ ranks_are_fit plan well none =
 
 -- ---- the certificate
 
-bound_is_fit : (plan : Plan) (p : ℕ) (may_reject : Bool) → (pool_at plan p).may_reject ≡ may_reject → vector_fits plan (steady_vector plan) ≡ true → bound_fits plan p (bound_of (steady_vector plan) may_reject) ≡ true
-bound_is_fit plan p true may fit = may
-bound_is_fit plan p false may fit = fit
+bound_is_fit : (plan : Plan) (p : ℕ) (boundless : Bool) → needs_no_bound (pool_at plan p) ≡ boundless → vector_fits plan (steady_vector plan) ≡ true → bound_fits plan p (bound_of (steady_vector plan) boundless) ≡ true
+bound_is_fit plan p true none fit = none
+bound_is_fit plan p false none fit = fit
 
 pub pool_is_fit : (plan : Plan) (p : ℕ) → vector_fits plan (steady_vector plan) ≡ true → pool_cert_fits plan p (steady_pool plan (pool_at plan p)) ≡ true
 pool_is_fit plan p fit =
-    and_from (bound_fits plan p (steady_pool plan (pool_at plan p)).bound) (vector_fits plan (steady_vector plan)) (bound_is_fit plan p (pool_at plan p).may_reject refl fit) fit
+    and_from (bound_fits plan p (steady_pool plan (pool_at plan p)).bound) (vector_fits plan (steady_vector plan)) (bound_is_fit plan p (needs_no_bound (pool_at plan p)) refl fit) fit
 
 -- the part at each place of the certificate is that of the pool at the same place
 pub part_at : (plan : Plan) (entry : ℕ × PoolCert) → In entry (enumerate_from 0 (steady_cert plan).pools) → steady_pool plan (pool_at plan entry.0) ≡ entry.1

@@ -6,7 +6,7 @@ use Rattle.std.proofs.lemmas.List.{get_or_past}
 use Rattle.std.proofs.lemmas.List.Sums.{sum_by-cons}
 use Rattle.std.proofs.Math.Nat.{mul-le-mul_left}
 use Rattle.job_bodies.specs.declared.limits.TheConstants.{MAX_SIZE}
-use Rattle.job_bodies.specs.Plan.{Pool, Client, Plan, no_pool, pool_at}
+use Rattle.job_bodies.specs.Plan.{Pool, Client, Plan, no_pool, pool_at, needs_no_bound}
 use Rattle.weights.specs.Vector.{Vector, workers_weight, client_weight, total}
 use Rattle.cert_text.specs.Cert.{Cert, pool_cert_at, cert_fits}
 use Rattle.soundness.specs.Conditions.{failing}
@@ -133,9 +133,9 @@ length-widened plan cert = length-numbered (λ (entry : ℕ × Pool). with_max p
 -- the certificate fits the plan if it accepts a plan that differs only in sizes
 pub wide_fit_fits : (plan other : Plan) (cert : Cert) → IsWideFit plan cert other → cert_fits plan cert ≡ true
 wide_fit_fits plan other cert fits =
-    sym (cert_fits-pools plan (outline plan).pools cert (length-outline plan) (λ p. ap (λ (pool : Pool). pool.may_reject) (pool_at-outline plan p)))
+    sym (cert_fits-pools plan (outline plan).pools cert (length-outline plan) (λ p. ap needs_no_bound (pool_at-outline plan p)))
     ∙ (sym (ap (λ (any : Plan). cert_fits any cert) fits.same_outline)
-    ∙ (cert_fits-pools other (outline other).pools cert (length-outline other) (λ p. ap (λ (pool : Pool). pool.may_reject) (pool_at-outline other p)) ∙ (and_parts (cert_fits other cert) (is_nil (failing other cert)) fits.accepts).0))
+    ∙ (cert_fits-pools other (outline other).pools cert (length-outline other) (λ p. ap needs_no_bound (pool_at-outline other p)) ∙ (and_parts (cert_fits other cert) (is_nil (failing other cert)) fits.accepts).0))
 
 -- if some plan satisfies `IsWideFit`, no maximum of the widened plan is above the limit
 pub wide_fit_has_room : (plan other : Plan) (cert : Cert) (p : ℕ) → IsWideFit plan cert other → p < length (widened plan cert).pools → (pool_at (widened plan cert) p).max ≤ MAX_SIZE

@@ -1,12 +1,12 @@
 -- Fitted plans have the least cores and queues with which the certificate accepts them.
-use Rattle.std.proofs.Common.{◌≡◌, ℕ, ◌+◌, ◌-◌, ◌<◌, ◌≤◌, max, inl, inr, Bool, true, false, cond, not, ltb, ◌&&◌, List, length, Option, Some, None, refl, ap, ap₂, sym, subst, ◌∙◌, arith, zero-add}
+use Rattle.std.proofs.Common.{◌≡◌, ℕ, ◌+◌, ◌-◌, ◌<◌, ◌≤◌, max, inl, inr, Bool, true, false, cond, not, ltb, ◌&&◌, ◌||◌, List, length, Option, Some, None, refl, ap, ap₂, sym, subst, ◌∙◌, arith, zero-add}
 use Rattle.std.specs.List.{list_all, enumerate_from}
 use Rattle.std.proofs.lemmas.Bool.{and_parts, and_from, cases_lt, not-true, ltb-false, le-ltb}
 use Rattle.std.proofs.lemmas.List.{get_or_past}
 use Rattle.std.proofs.lemmas.Option.{same_Some, slice_get-get_or, get_or_from_slice_get}
 use Rattle.support.specs.In.{In}
 use Rattle.support.proofs.Members.{In-enumerate_from, list_all_at_In, list_all_from_In}
-use Rattle.job_bodies.specs.Plan.{Pool, Plan, no_pool, pool_at, first_workers}
+use Rattle.job_bodies.specs.Plan.{Pool, Plan, no_pool, pool_at, needs_no_bound, first_workers}
 use Rattle.job_bodies.specs.WellFormed.{least_queue, has_valid_sizes, IsWellFormed}
 use Rattle.weights.specs.declared.bound.Bound.{Bound}
 use Rattle.weights.specs.declared.bound.Bound.TheVariants.{Standing, Lifetime}
@@ -16,7 +16,7 @@ use Rattle.cert_text.specs.Cert.{PoolCert, Cert, pool_cert_at, cert_fits}
 use Rattle.soundness.specs.Conditions.{failing}
 use Rattle.soundness.specs.Accepted.{is_nil, accepted}
 use Rattle.soundness.proofs.Faults.{pool_numbers}
-use Rattle.size_search.specs.Fitted.{queue_needed, with_core, raised_pool, raised, has_queue, have_queues, fails_only_at_totals, fitted, shape, KeepsQueues, IsNoSmaller, IsResized, IsFit, IsLeastFit, NoneFits, FittedSizesAreLeast, AcceptedPlansFit, limit_of, LargerSizesAreAccepted, smallest_pool, smallest, SmallestFitIsLeast}
+use Rattle.size_search.specs.Fitted.{queue_of_bound, queue_needed, with_core, raised_pool, raised, has_queue, have_queues, fails_only_at_totals, fitted, shape, KeepsQueues, IsNoSmaller, IsResized, IsFit, IsLeastFit, NoneFits, FittedSizesAreLeast, AcceptedPlansFit, limit_of, LargerSizesAreAccepted, smallest_pool, smallest, SmallestFitIsLeast}
 use Rattle.size_search.proofs.Shapes.{bare, length-changed, pool_at-shape, length-shape, total-shape, total_of, cert_fits-shape}
 use Rattle.size_search.proofs.Holding.{at_number}
 use Rattle.size_search.proofs.Numbered.{numbered_at, numbered_past, map-numbered, numbered_same, map-twice, changed_at}
@@ -28,6 +28,8 @@ use Rattle.size_search.proofs.Changes.{least_queue_kept, well_formed_changed, ou
 -- plans of the same shape have equally many pools, the same totals, and pools that differ only in core and queue
 pub record HasShape (plan other : Plan) : Type 0 where
   pub may_reject : (p : ℕ) → (pool_at other p).may_reject ≡ (pool_at plan p).may_reject
+  pub unbounded : (p : ℕ) → (pool_at other p).unbounded ≡ (pool_at plan p).unbounded
+  pub boundless : (p : ℕ) → needs_no_bound (pool_at other p) ≡ needs_no_bound (pool_at plan p)
   pub as_many : length other.pools ≡ length plan.pools
   pub total : (v : Vector) → total other v ≡ total plan v
   pub max : (p : ℕ) → (pool_at other p).max ≡ (pool_at plan p).max
@@ -36,6 +38,8 @@ pub record HasShape (plan other : Plan) : Type 0 where
 pub has_shape : (plan other : Plan) → shape other ≡ shape plan → HasShape plan other
 has_shape plan other same = record {
   may_reject = λ p. same_in_shape (λ (any : Plan). (pool_at any p).may_reject) plan other (λ any. ap (λ (pool : Pool). pool.may_reject) (pool_at-shape any p)) same;
+  unbounded = λ p. same_in_shape (λ (any : Plan). (pool_at any p).unbounded) plan other (λ any. ap (λ (pool : Pool). pool.unbounded) (pool_at-shape any p)) same;
+  boundless = λ p. same_in_shape (λ (any : Plan). needs_no_bound (pool_at any p)) plan other (λ any. ap needs_no_bound (pool_at-shape any p)) same;
   as_many = same_in_shape (λ (any : Plan). length any.pools) plan other length-shape same;
   total = λ v. same_in_shape (λ (any : Plan). total any v) plan other (λ any. total-shape any v) same;
   max = λ p. same_in_shape (λ (any : Plan). (pool_at any p).max) plan other (λ any. ap (λ (pool : Pool). pool.max) (pool_at-shape any p)) same;
@@ -57,7 +61,7 @@ pub raised_past : (plan : Plan) (cert : Cert) (p : ℕ) → length plan.pools �
 raised_past plan cert p past =
     numbered_past (λ (entry : ℕ × Pool). raised_pool plan (pool_cert_at cert entry.0) entry.1) 0 plan.pools p no_pool past ∙ sym (get_or_past plan.pools p no_pool past)
 
--- the queue of a raised pool is no smaller than the pool's queue, and that of a pool that may reject jobs is the same
+-- the queue of a raised pool is no smaller than the pool's queue, and that of a pool that needs no bound is the same
 kept_or_raised : (b : Bool) (q needed : ℕ) → q ≤ cond b q (max q needed)
 kept_or_raised true q needed = omega arith
 kept_or_raised false q needed = omega arith
@@ -71,23 +75,23 @@ raised_no_smaller plan cert = record { core = λ p. (at_pool p).0; queue = λ p.
       | inl inside ↦ let is = raised_at plan cert p inside in
           let core = ap (λ (pool : Pool). pool.core) is in
           let queue = ap (λ (pool : Pool). pool.queue) is in
-          (omega arith, omega (arith, kept_or_raised (pool_at plan p).may_reject (pool_at plan p).queue (queue_needed plan (pool_cert_at cert p).bound (with_core plan (pool_cert_at cert p).blocked (pool_at plan p)))))
+          (omega arith, omega (arith, kept_or_raised (needs_no_bound (pool_at plan p)) (pool_at plan p).queue (queue_needed plan (pool_cert_at cert p).bound (with_core plan (pool_cert_at cert p).blocked (pool_at plan p)))))
       | inr past ↦ let is = raised_past plan cert p past in
           let core = ap (λ (pool : Pool). pool.core) is in
           let queue = ap (λ (pool : Pool). pool.queue) is in
           (omega arith, omega arith)
     ]
 
--- the queue of a pool that may reject jobs stays unchanged in the raised plan
+-- the queue of a pool that needs no bound stays unchanged in the raised plan
 pub raised_keeps_queues : (plan : Plan) (cert : Cert) → KeepsQueues plan (raised plan cert)
 raised_keeps_queues plan cert = record { same_queue = at_pool }
   where
-    at_pool : (p : ℕ) → (pool_at plan p).may_reject ≡ true → (pool_at (raised plan cert) p).queue ≡ (pool_at plan p).queue
-    at_pool p may = elim (cases_lt p (length plan.pools)) [
+    at_pool : (p : ℕ) → needs_no_bound (pool_at plan p) ≡ true → (pool_at (raised plan cert) p).queue ≡ (pool_at plan p).queue
+    at_pool p none = elim (cases_lt p (length plan.pools)) [
       | inl inside ↦
           let pool = pool_at plan p in
           let needed = queue_needed plan (pool_cert_at cert p).bound (with_core plan (pool_cert_at cert p).blocked pool) in
-          ap (λ (any : Pool). any.queue) (raised_at plan cert p inside) ∙ ap (λ (b : Bool). cond b pool.queue (max pool.queue needed)) may
+          ap (λ (any : Pool). any.queue) (raised_at plan cert p inside) ∙ ap (λ (b : Bool). cond b pool.queue (max pool.queue needed)) none
       | inr past ↦ ap (λ (pool : Pool). pool.queue) (raised_past plan cert p past)
     ]
 
@@ -110,11 +114,15 @@ same_total plan other None same = refl
 same_total plan other (Some (Standing v)) same = same v
 same_total plan other (Some (Lifetime v)) same = same v
 
--- a pool whose queue is as large as its bound requires has room for the total of the bound
-bound_has_room : (plan : Plan) (bound : Option Bound) (pool : Pool) → queue_needed plan bound pool ≤ pool.queue → total_of plan bound ≤ pool_limit bound pool
-bound_has_room plan None pool enough = omega arith
-bound_has_room plan (Some (Standing v)) pool enough = enough
-bound_has_room plan (Some (Lifetime v)) pool enough = omega arith
+-- a bound requires a queue of a pool whose queue is not unbounded
+needed_if_bounded : (plan : Plan) (bound : Bound) (pool : Pool) → pool.unbounded ≡ false → queue_needed plan (Some bound) pool ≡ queue_of_bound plan bound pool
+needed_if_bounded plan bound pool bounded = ap (λ (b : Bool). cond b 0 (queue_of_bound plan bound pool)) bounded
+
+-- a pool whose queue is as large as its bound requires, and not unbounded, has room for the total of the bound
+bound_has_room : (plan : Plan) (bound : Option Bound) (pool : Pool) → pool.unbounded ≡ false → queue_needed plan bound pool ≤ pool.queue → total_of plan bound ≤ pool_limit bound pool
+bound_has_room plan None pool bounded enough = omega arith
+bound_has_room plan (Some (Standing v)) pool bounded enough = omega (arith, needed_if_bounded plan (Standing v) pool bounded, enough)
+bound_has_room plan (Some (Lifetime v)) pool bounded enough = omega (arith, needed_if_bounded plan (Lifetime v) pool bounded, enough)
 
 -- a queue is as large as its bound requires if the test says so
 has_queue_means : (plan : Plan) (bound : Option Bound) (pool : Pool) → has_queue plan bound pool ≡ true → queue_needed plan bound pool ≤ pool.queue
@@ -134,10 +142,10 @@ raised_totals : (plan : Plan) (cert : Cert) → have_queues plan cert ≡ true �
 raised_totals plan cert enough =
     let alike = has_shape plan (raised plan cert) (raised-shape plan cert) in
     record {
-      bounds = λ p inside.
+      bounds = λ p inside bounded.
           let bound = (pool_cert_at cert p).bound in
           let pool = pool_at (raised plan cert) p in
-          omega (arith, limit_of-pool (raised plan cert) p bound, same_total plan (raised plan cert) bound alike.total, bound_has_room plan bound pool (queues_enough plan cert enough p inside));
+          omega (arith, limit_of-pool (raised plan cert) p bound, same_total plan (raised plan cert) bound alike.total, bound_has_room plan bound pool bounded (queues_enough plan cert enough p inside));
       blocked = λ p inside.
           let pool_cert = pool_cert_at cert p in
           let core = ap (λ (pool : Pool). pool.core) (raised_at plan cert p (omega (arith, alike.as_many))) in
@@ -148,12 +156,13 @@ raised_totals plan cert enough =
 
 -- the other pool's core and queue are no smaller than this pool's, and it has room for the totals
 record HasRoom (plan : Plan) (cert : PoolCert) (pool other : Pool) : Type 0 where
+  unbounded : other.unbounded ≡ pool.unbounded
   max : other.max ≡ pool.max
   prestart : other.prestart ≡ pool.prestart
   core : pool.core ≤ other.core
   queue : pool.queue ≤ other.queue
   sizes : HasSizes other
-  bound : total_of plan cert.bound ≤ pool_limit cert.bound other
+  bound : other.unbounded ≡ false → total_of plan cert.bound ≤ pool_limit cert.bound other
   blocked : total plan cert.blocked ≤ other.core - 1
 
 -- the number of prestarted threads grows with the core, and is at most the core
@@ -167,12 +176,19 @@ pub cond-le-self : (b : Bool) (n : ℕ) → cond b n 0 ≤ n
 cond-le-self true n = omega arith
 cond-le-self false n = omega arith
 
+-- an unbounded queue requires nothing
+none_or_needed : (unbounded : Bool) (needed q : ℕ) → (unbounded ≡ false → needed ≤ q) → cond unbounded 0 needed ≤ q
+none_or_needed true needed q enough = omega arith
+none_or_needed false needed q enough = enough refl
+
 -- the queue that a bound requires of a pool is at most the queue of another pool that has room for the total
-needed_le : (plan : Plan) (bound : Option Bound) (pool other : Pool) → other.max ≡ pool.max → first_workers pool ≤ first_workers other → first_workers other ≤ other.max
-    → total_of plan bound ≤ pool_limit bound other → queue_needed plan bound pool ≤ other.queue
-needed_le plan None pool other max more within room = omega arith
-needed_le plan (Some (Standing v)) pool other max more within room = room
-needed_le plan (Some (Lifetime v)) pool other max more within room = omega arith
+needed_le : (plan : Plan) (bound : Option Bound) (pool other : Pool) → other.unbounded ≡ pool.unbounded → other.max ≡ pool.max → first_workers pool ≤ first_workers other → first_workers other ≤ other.max
+    → (other.unbounded ≡ false → total_of plan bound ≤ pool_limit bound other) → queue_needed plan bound pool ≤ other.queue
+needed_le plan None pool other same max more within room = omega arith
+needed_le plan (Some (Standing v)) pool other same max more within room =
+    none_or_needed pool.unbounded (queue_of_bound plan (Standing v) pool) other.queue (λ bounded. room (same ∙ bounded))
+needed_le plan (Some (Lifetime v)) pool other same max more within room =
+    none_or_needed pool.unbounded (queue_of_bound plan (Lifetime v) pool) other.queue (λ bounded. omega (arith, room (same ∙ bounded), max, more, within))
 
 -- a queue that stays unchanged or is raised to what is needed is no larger than another one that is no smaller than both
 kept_or_raised-le : (b : Bool) (q needed q' : ℕ) → q ≤ q' → needed ≤ q' → cond b q (max q needed) ≤ q'
@@ -186,12 +202,12 @@ least_core plan cert pool other room = omega (arith, room.core, room.blocked, ro
 least_needed : (plan : Plan) (cert : PoolCert) (pool other : Pool) → HasRoom plan cert pool other → queue_needed plan cert.bound (with_core plan cert.blocked pool) ≤ other.queue
 least_needed plan cert pool other room =
     let within = cond-le-self other.prestart other.core in
-    needed_le plan cert.bound (with_core plan cert.blocked pool) other room.max (cond-le pool.prestart other.prestart (with_core plan cert.blocked pool).core other.core room.prestart (least_core plan cert pool other room))
+    needed_le plan cert.bound (with_core plan cert.blocked pool) other room.unbounded room.max (cond-le pool.prestart other.prestart (with_core plan cert.blocked pool).core other.core room.prestart (least_core plan cert pool other room))
     (omega (arith, within, room.sizes.max)) room.bound
 
 least_pool : (plan : Plan) (cert : PoolCert) (pool other : Pool) → HasRoom plan cert pool other → (raised_pool plan cert pool).queue ≤ other.queue
 least_pool plan cert pool other room =
-    kept_or_raised-le pool.may_reject pool.queue (queue_needed plan cert.bound (with_core plan cert.blocked pool)) other.queue room.queue (least_needed plan cert pool other room)
+    kept_or_raised-le (needs_no_bound pool) pool.queue (queue_needed plan cert.bound (with_core plan cert.blocked pool)) other.queue room.queue (least_needed plan cert pool other room)
 
 -- the queue that a bound requires does not depend on the queue that there is
 needed_of_raised : (plan : Plan) (cert : PoolCert) (bound : Option Bound) (pool : Pool) → cert.bound ≡ bound → queue_needed plan bound (raised_pool plan cert pool) ≡ queue_needed plan bound (with_core plan cert.blocked pool)
@@ -212,12 +228,13 @@ has_room plan other cert p fits inside =
     let there : p < length other.pools = omega (arith, alike.as_many) in
     let pool_cert = pool_cert_at cert p in
     record {
+      unbounded = alike.unbounded p;
       max = alike.max p;
       prestart = alike.prestart p;
       core = fits.no_smaller.core p;
       queue = fits.no_smaller.queue p;
       sizes = sizes_at other p fits.resized.well_formed there;
-      bound = omega (arith, totals.bounds p there, limit_of-pool other p pool_cert.bound, same_total plan other pool_cert.bound alike.total);
+      bound = λ bounded. omega (arith, totals.bounds p there bounded, limit_of-pool other p pool_cert.bound, same_total plan other pool_cert.bound alike.total);
       blocked = omega (arith, totals.blocked p there, alike.total pool_cert.blocked);
     }
 
@@ -253,7 +270,7 @@ have_queues_where_fit plan other cert fits =
         let pool = pool_at plan p in
         let room = has_room plan other cert p fits inside in
         let needed = queue_needed plan part.bound (with_core plan part.blocked pool) in
-        let enough = kept_or_enough pool.may_reject pool.queue needed (λ may. let same = fits.resized.keeps_queues.same_queue p may in omega (arith, same, least_needed plan part pool (pool_at other p) room)) in
+        let enough = kept_or_enough (needs_no_bound pool) pool.queue needed (λ none. let same = fits.resized.keeps_queues.same_queue p none in omega (arith, same, least_needed plan part pool (pool_at other p) room)) in
         omega (arith, enough, needed_of_raised plan part part.bound pool refl)
 
     each : (entry : ℕ × Pool) → In entry (enumerate_from 0 (raised plan cert).pools) → has_queue plan (pool_cert_at cert entry.0).bound entry.1 ≡ true
@@ -358,13 +375,13 @@ least_fit plan fit cert well e = record { fits = fitted_fits plan fit cert well 
 stays : (plan : Plan) (cert : PoolCert) (pool : Pool) → HasRoom plan cert pool pool → raised_pool plan cert pool ≡ pool
 stays plan cert pool room =
     let core : (raised_pool plan cert pool).core ≡ pool.core = omega (arith, least_core plan cert pool pool room) in
-    let queue : (raised_pool plan cert pool).queue ≡ pool.queue = omega (arith, least_pool plan cert pool pool room, kept_or_raised pool.may_reject pool.queue (queue_needed plan cert.bound (with_core plan cert.blocked pool))) in
+    let queue : (raised_pool plan cert pool).queue ≡ pool.queue = omega (arith, least_pool plan cert pool pool room, kept_or_raised (needs_no_bound pool) pool.queue (queue_needed plan cert.bound (with_core plan cert.blocked pool))) in
     ap₂ (λ (c q : ℕ). record pool { core = c; queue = q }) core queue
 
 pub accepted_plans_fit : AcceptedPlansFit
 accepted_plans_fit plan cert well is_accepted =
     let itself : IsFit plan cert plan = record {
-      resized = record { well_formed = well; same_shape = refl; keeps_queues = record { same_queue = λ p may. refl } };
+      resized = record { well_formed = well; same_shape = refl; keeps_queues = record { same_queue = λ p none. refl } };
       no_smaller = record { core = λ p. omega arith; queue = λ p. omega arith };
       accepts = is_accepted;
     } in
@@ -379,20 +396,24 @@ larger_sizes_are_accepted plan other cert same is_accepted cores limits =
     let totals = totals_where_accepted plan cert is_accepted in
     accepted_from_totals other cert (hold_in_shape plan other cert same (hold_but_totals plan cert (at_totals_where_accepted plan cert is_accepted)))
     (record {
-      bounds = λ p there. omega (arith, totals.bounds p (omega (arith, alike.as_many)), limits p, same_total plan other (pool_cert_at cert p).bound alike.total);
+      bounds = λ p there is_bounded.
+          let bounded = sym (alike.unbounded p) ∙ is_bounded in
+          omega (arith, totals.bounds p (omega (arith, alike.as_many)) bounded, limits p bounded, same_total plan other (pool_cert_at cert p).bound alike.total);
       blocked = λ p there. omega (arith, totals.blocked p (omega (arith, alike.as_many)), cores p, alike.total (pool_cert_at cert p).blocked);
     })
 
 -- ---- the smallest plan
 
 -- a queue that stays unchanged or is 1 is a valid queue, and no larger than any other queue
-kept_or_one : (b : Bool) (q : ℕ) → cond b 0 1 ≤ q → (cond b 0 1 ≤ cond b q 1) × (cond b q 1 ≤ q)
-kept_or_one true q valid = (valid, omega arith)
-kept_or_one false q valid = (omega arith, valid)
+kept_or_one : (may_reject unbounded : Bool) (q : ℕ) → cond may_reject 0 1 ≤ q → (cond may_reject 0 1 ≤ cond (may_reject || unbounded) q 1) × (cond (may_reject || unbounded) q 1 ≤ q)
+kept_or_one true unbounded q valid = (valid, omega arith)
+kept_or_one false true q valid = (valid, omega arith)
+kept_or_one false false q valid = (omega arith, valid)
 
-kept_or_one-le : (b : Bool) (q q' : ℕ) → (b ≡ true → q ≤ q') → cond b 0 1 ≤ q' → cond b q 1 ≤ q'
-kept_or_one-le true q q' if_kept valid = if_kept refl
-kept_or_one-le false q q' if_kept valid = valid
+kept_or_one-le : (may_reject unbounded : Bool) (q q' : ℕ) → ((may_reject || unbounded) ≡ true → q ≤ q') → cond may_reject 0 1 ≤ q' → cond (may_reject || unbounded) q 1 ≤ q'
+kept_or_one-le true unbounded q q' if_kept valid = if_kept refl
+kept_or_one-le false true q q' if_kept valid = if_kept refl
+kept_or_one-le false false q q' if_kept valid = valid
 
 smallest-shape : (plan : Plan) → shape (smallest plan) ≡ shape plan
 smallest-shape plan = ap (λ (pools : List Pool). record plan { pools = pools }) (map-twice bare smallest_pool plan.pools)
@@ -411,8 +432,8 @@ smallest_is_well_formed plan well = well_formed_changed plan (smallest plan) wel
         let core = ap (λ (pool : Pool). pool.core) is in
         let max = ap (λ (pool : Pool). pool.max) is in
         let queue = ap (λ (pool : Pool). pool.queue) is in
-        let kept : (least_queue (pool_at plan p) ≤ cond (pool_at plan p).may_reject (pool_at plan p).queue 1) × (cond (pool_at plan p).may_reject (pool_at plan p).queue 1 ≤ (pool_at plan p).queue) =
-        kept_or_one (pool_at plan p).may_reject (pool_at plan p).queue declared.queue in
+        let pool = pool_at plan p in
+        let kept : (least_queue pool ≤ cond (needs_no_bound pool) pool.queue 1) × (cond (needs_no_bound pool) pool.queue 1 ≤ pool.queue) = kept_or_one pool.may_reject pool.unbounded pool.queue declared.queue in
         record {
           core = omega arith;
           max = omega (arith, declared.core, declared.max);
@@ -421,13 +442,13 @@ smallest_is_well_formed plan well = well_formed_changed plan (smallest plan) wel
           most_queue = omega (arith, kept.1, declared.most_queue);
         }
 
--- the smallest plan has the queues of pools that may reject jobs
+-- the smallest plan has the queues of pools that need no bound
 smallest_keeps_queues : (plan : Plan) → KeepsQueues plan (smallest plan)
 smallest_keeps_queues plan = record { same_queue = at_pool }
   where
-    at_pool : (p : ℕ) → (pool_at plan p).may_reject ≡ true → (pool_at (smallest plan) p).queue ≡ (pool_at plan p).queue
-    at_pool p may = elim (cases_lt p (length plan.pools)) [
-      | inl inside ↦ ap (λ (pool : Pool). pool.queue) (smallest_at plan p inside) ∙ ap (λ (b : Bool). cond b (pool_at plan p).queue 1) may
+    at_pool : (p : ℕ) → needs_no_bound (pool_at plan p) ≡ true → (pool_at (smallest plan) p).queue ≡ (pool_at plan p).queue
+    at_pool p none = elim (cases_lt p (length plan.pools)) [
+      | inl inside ↦ ap (λ (pool : Pool). pool.queue) (smallest_at plan p inside) ∙ ap (λ (b : Bool). cond b (pool_at plan p).queue 1) none
       | inr past ↦
           ap (λ (pool : Pool). pool.queue) (get_or_past (smallest plan).pools p no_pool (omega (arith, length-changed smallest_pool plan.pools)))
           ∙ ap (λ (pool : Pool). pool.queue) (sym (get_or_past plan.pools p no_pool past))
@@ -440,9 +461,9 @@ fits_smallest plan other cert resized is_accepted = record {
     well_formed = resized.well_formed;
     same_shape = resized.same_shape ∙ sym (smallest-shape plan);
     keeps_queues = record {
-      same_queue = λ p may.
-          let may_reject = sym ((has_shape plan (smallest plan) (smallest-shape plan)).may_reject p) ∙ may in
-          resized.keeps_queues.same_queue p may_reject ∙ sym ((smallest_keeps_queues plan).same_queue p may_reject);
+      same_queue = λ p of_smallest.
+          let none = sym ((has_shape plan (smallest plan) (smallest-shape plan)).boundless p) ∙ of_smallest in
+          resized.keeps_queues.same_queue p none ∙ sym ((smallest_keeps_queues plan).same_queue p none);
     };
   };
   no_smaller = record { core = λ p. (at_pool p).0; queue = λ p. (at_pool p).1 };
@@ -455,7 +476,7 @@ fits_smallest plan other cert resized is_accepted = record {
           let core = ap (λ (pool : Pool). pool.core) is in
           let queue = ap (λ (pool : Pool). pool.queue) is in
           let sizes = sizes_at other p resized.well_formed (omega (arith, (has_shape plan other resized.same_shape).as_many)) in
-          let least = kept_or_one-le (pool_at plan p).may_reject (pool_at plan p).queue (pool_at other p).queue (λ may. let same = resized.keeps_queues.same_queue p may in omega (arith, same))
+          let least = kept_or_one-le (pool_at plan p).may_reject (pool_at plan p).unbounded (pool_at plan p).queue (pool_at other p).queue (λ none. let same = resized.keeps_queues.same_queue p none in omega (arith, same))
           (least_queue_kept (pool_at other p) (pool_at plan p) (pool_at other p).queue (sym ((has_shape plan other resized.same_shape).may_reject p)) sizes.queue) in
           (omega (arith, sizes.core), omega (arith, least))
       | inr past ↦ let is = get_or_past (smallest plan).pools p no_pool (omega (arith, length-changed smallest_pool plan.pools)) in
@@ -469,8 +490,8 @@ smallest_fit_is_least = record {
   fits = λ plan fit cert well e.
       let fits = fitted_fits (smallest plan) fit cert (smallest_is_well_formed plan well) e in
       let keeps : KeepsQueues plan fit = record {
-        same_queue = λ p may.
-            fits.resized.keeps_queues.same_queue p ((has_shape plan (smallest plan) (smallest-shape plan)).may_reject p ∙ may) ∙ (smallest_keeps_queues plan).same_queue p may;
+        same_queue = λ p none.
+            fits.resized.keeps_queues.same_queue p ((has_shape plan (smallest plan) (smallest-shape plan)).boundless p ∙ none) ∙ (smallest_keeps_queues plan).same_queue p none;
       } in
       (record { well_formed = fits.resized.well_formed; same_shape = fits.resized.same_shape ∙ smallest-shape plan; keeps_queues = keeps }, fits.accepts);
   least = λ plan fit other cert e resized is_accepted. fitted_is_least (smallest plan) fit other cert e (fits_smallest plan other cert resized is_accepted);

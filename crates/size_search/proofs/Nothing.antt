@@ -27,14 +27,14 @@ no_circle_past plan k past submitted =
 never_got_in_nothing : (i : ℕ) → IsNeverGot [] i → ⊥
 never_got_in_nothing i cause = false≢true cause.is_submit
 
-pub no_job_past : (plan : Plan) (may_reject : Bool) (k i : ℕ) → length plan.classes ≤ k → LostByJobs plan may_reject k i → ⊥
-no_job_past plan may_reject k i past lost =
+pub no_job_past : (plan : Plan) (without_bound : Bool) (k i : ℕ) → length plan.classes ≤ k → LostByJobs plan without_bound k i → ⊥
+no_job_past plan without_bound k i past lost =
     let cause = lost.never_got in
     let none : (class_at plan k).body ≡ [] = ap (λ (class : Class). class.body) (get_or_past plan.classes k no_class past) in
     never_got_in_nothing i (subst (λ (body : List Action). IsNeverGot body i) none cause.never_got)
 
-pub no_client_past : (plan : Plan) (may_reject : Bool) (c i : ℕ) → length plan.clients ≤ c → LostByClients plan may_reject c i → ⊥
-no_client_past plan may_reject c i past lost =
+pub no_client_past : (plan : Plan) (without_bound : Bool) (c i : ℕ) → length plan.clients ≤ c → LostByClients plan without_bound c i → ⊥
+no_client_past plan without_bound c i past lost =
     let cause = lost.never_got in
     let none : (client_at plan c).repeat ≡ false = ap (λ (client : Client). client.repeat) (get_or_past plan.clients c no_client past) in
     false≢true (sym none ∙ cause.repeats)

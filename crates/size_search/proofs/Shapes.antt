@@ -1,9 +1,9 @@
 -- The properties of a plan that do not depend on its cores and queues, so that the plan's shape has them too.
-use Rattle.std.proofs.Common.{◌≡◌, ℕ, ◌+◌, ◌*◌, zero, suc, Bool, ◌&&◌, List, [], ◌∷◌, ◌++◌, length, get_or, map, flat_map, sum_by, Option, Some, None, refl, ap, ap₂, ◌∙◌}
+use Rattle.std.proofs.Common.{◌≡◌, ℕ, ◌+◌, ◌*◌, zero, suc, Bool, true, false, cond, ◌&&◌, List, [], ◌∷◌, ◌++◌, length, get_or, map, flat_map, sum_by, Option, Some, None, refl, ap, ap₂, ◌∙◌}
 use Rattle.std.specs.Prelude.{◌==◌}
 use Rattle.std.specs.List.{enumerate_from, list_all}
 use Rattle.support.proofs.Sums.{sum_by-map}
-use Rattle.job_bodies.specs.Plan.{Pool, Plan, no_pool, pool_at}
+use Rattle.job_bodies.specs.Plan.{Pool, Plan, no_pool, pool_at, needs_no_bound}
 use Rattle.weights.specs.declared.get_return.GetReturn.{GetReturn}
 use Rattle.weights.specs.declared.get_return.GetReturn.TheVariants.{DoneWeight, NoWeight}
 use Rattle.weights.specs.declared.bound.Bound.{Bound}
@@ -81,19 +81,31 @@ rows-shape NoWeight plan v = refl
 
 -- ---- the bound of a pool, without the total
 
+-- S1 of each class of pool p
+abbrev pub queued_rows : Plan → ℕ → Vector → List Row
+queued_rows plan p v = map (λ entry. row S1 (place.Class entry.0) 1 (queued_weight v entry.0)) (classes_of plan p)
+
+-- L1 of each pool, and the rows of bodies of a lifetime vector
+abbrev pub lifetime_body : Plan → Vector → List Row
+lifetime_body plan v = map (λ entry. row L1 (place.Worker entry.0) (workers_weight v entry.0) 0) (enumerate_from 0 plan.pools) ++ rows NoWeight plan v
+
+-- L2 of each weight of each class of pool p
+abbrev pub done_rows : Plan → ℕ → Vector → List Row
+done_rows plan p v = flat_map (λ entry. map (λ weight. row L2 (place.Class entry.0) 1 weight) (class_weights v entry.0)) (classes_of plan p)
+
+-- an unbounded queue has no rows S1 and L2
 abbrev pub bound_body : Plan → ℕ → Bound → List Row
-bound_body plan p (Standing v) = rows DoneWeight plan v ++ map (λ entry. row S1 (place.Class entry.0) 1 (queued_weight v entry.0)) (classes_of plan p)
-bound_body plan p (Lifetime v) =
-    map (λ entry. row L1 (place.Worker entry.0) (workers_weight v entry.0) 0) (enumerate_from 0 plan.pools)
-    ++ rows NoWeight plan v
-    ++ flat_map (λ entry. map (λ weight. row L2 (place.Class entry.0) 1 weight) (class_weights v entry.0)) (classes_of plan p)
+bound_body plan p (Standing v) = rows DoneWeight plan v ++ cond (pool_at plan p).unbounded [] (queued_rows plan p v)
+bound_body plan p (Lifetime v) = lifetime_body plan v ++ cond (pool_at plan p).unbounded [] (done_rows plan p v)
 
 pub bound_body-shape : (plan : Plan) (p : ℕ) (bound : Bound) → bound_body (shape plan) p bound ≡ bound_body plan p bound
-bound_body-shape plan p (Standing v) = refl
+bound_body-shape plan p (Standing v) =
+    ap (λ (unbounded : Bool). rows DoneWeight plan v ++ cond unbounded [] (queued_rows plan p v)) (ap (λ (pool : Pool). pool.unbounded) (pool_at-shape plan p))
 bound_body-shape plan p (Lifetime v) =
-    ap
-    (λ (workers : List Row). workers ++ rows NoWeight plan v ++ flat_map (λ entry. map (λ weight. row L2 (place.Class entry.0) 1 weight) (class_weights v entry.0)) (classes_of plan p))
+    ap₂
+    (λ (workers : List Row) (unbounded : Bool). workers ++ rows NoWeight plan v ++ cond unbounded [] (done_rows plan p v))
     (numbers-map (λ q. row L1 (place.Worker q) (workers_weight v q) 0) bare 0 plan.pools)
+    (ap (λ (pool : Pool). pool.unbounded) (pool_at-shape plan p))
 
 -- the rows of a pool's bound, without the total; there are none if the pool has no bound
 abbrev pub optional_body : Plan → ℕ → Option Bound → List Row
@@ -122,14 +134,14 @@ blocked_body-shape plan ranks p v = refl
 vector_fits-pools : (plan : Plan) (pools : List Pool) (v : Vector) → length pools ≡ length plan.pools → vector_fits (record plan { pools = pools }) v ≡ vector_fits plan v
 vector_fits-pools plan pools v as_many = rw as_many refl
 
--- whether a bound fits pool p depends on the number of pools, and on whether pool p may reject jobs
-bound_fits-pools : (plan : Plan) (pools : List Pool) (p : ℕ) (bound : Option Bound) → length pools ≡ length plan.pools → (get_or pools p no_pool).may_reject ≡ (pool_at plan p).may_reject
+-- whether a bound fits pool p depends on the number of pools, and on whether pool p needs a bound
+bound_fits-pools : (plan : Plan) (pools : List Pool) (p : ℕ) (bound : Option Bound) → length pools ≡ length plan.pools → needs_no_bound (get_or pools p no_pool) ≡ needs_no_bound (pool_at plan p)
     → bound_fits (record plan { pools = pools }) p bound ≡ bound_fits plan p bound
 bound_fits-pools plan pools p None as_many same = same
 bound_fits-pools plan pools p (Some bound) as_many same = vector_fits-pools plan pools (bound_vector bound) as_many
 
--- whether a certificate fits a plan depends on the number of its pools, on which of them may reject jobs, and on no other property of them
-pub cert_fits-pools : (plan : Plan) (pools : List Pool) (cert : Cert) → length pools ≡ length plan.pools → ((p : ℕ) → (get_or pools p no_pool).may_reject ≡ (pool_at plan p).may_reject)
+-- whether a certificate fits a plan depends on the number of its pools, on which of them need a bound, and on no other property of them
+pub cert_fits-pools : (plan : Plan) (pools : List Pool) (cert : Cert) → length pools ≡ length plan.pools → ((p : ℕ) → needs_no_bound (get_or pools p no_pool) ≡ needs_no_bound (pool_at plan p))
     → cert_fits (record plan { pools = pools }) cert ≡ cert_fits plan cert
 cert_fits-pools plan pools cert as_many same =
     let other = record plan { pools = pools } in
@@ -140,4 +152,4 @@ cert_fits-pools plan pools cert as_many same =
     ∙ rw as_many refl
 
 pub cert_fits-shape : (plan : Plan) (cert : Cert) → cert_fits (shape plan) cert ≡ cert_fits plan cert
-cert_fits-shape plan cert = cert_fits-pools plan (shape plan).pools cert (length-shape plan) (λ p. ap (λ (pool : Pool). pool.may_reject) (pool_at-shape plan p))
+cert_fits-shape plan cert = cert_fits-pools plan (shape plan).pools cert (length-shape plan) (λ p. ap needs_no_bound (pool_at-shape plan p))

@@ -13,7 +13,7 @@ use Rattle.weights.specs.Vector.{Vector, queued_weight, done_weight, workers_wei
 use Rattle.size_search.specs.Widened.{outline}
 use Rattle.size_search.proofs.Numbered.{map-twice}
 use Rattle.size_search.proofs.Changes.{nameplate, at_least_queue, well_formed_changed}
-use Rattle.size_search.specs.Submitted.{IsAllGot, IsWithoutCause, LosesRejected, by_client, by_job, may_be_rejected, repeated_bodies}
+use Rattle.size_search.specs.Submitted.{IsAllGot, IsWithoutCause, LosesWithoutBound, by_client, by_job, goes_without_bound, repeated_bodies}
 use Rattle.size_search.specs.Steady.{weight_at, weights_from, job_end, class_row, client_end, client_row, jobs_within, jobs, steady_vector, steady_total, steady_cert}
 use Rattle.size_search.proofs.Accepting.{accepting}
 use Rattle.size_search.specs.NoSizesHelp.{HasSizes, SizesExist}
@@ -98,19 +98,19 @@ free-pools plan pools free = record {
   jobs_get = λ k i cause. free.jobs_get k i (record { submitted = submitted_in (with_pools plan pools) plan (repeated_bodies plan) refl cause.submitted; never_got = cause.never_got });
 }
 
--- a job is of a pool that may reject jobs, or of one that must not
+-- a job is of a pool that needs no bound, or of one that needs a bound
 either_pool : (b : Bool) → (b ≡ false → ⊥) → (b ≡ true → ⊥) → ⊥
-either_pool true must may = may refl
-either_pool false must may = must refl
+either_pool true needs none = none refl
+either_pool false needs none = needs refl
 
--- if no cause holds, and no submit to a pool that may reject jobs is made forever and never got, no submit at all is
-pub all_got : (plan : Plan) → IsWithoutCause plan → ¬ LosesRejected plan → IsAllGot plan
+-- if no cause holds, and no submit to a pool that needs no bound is made forever and never got, no submit at all is
+pub all_got : (plan : Plan) → IsWithoutCause plan → ¬ LosesWithoutBound plan → IsAllGot plan
 all_got plan free none = record {
   no_circle = free.no_circle;
   clients_get = λ c i cause.
-      either_pool (may_be_rejected plan (client_at plan c).body i) (λ must. free.clients_get c i (record { never_got = cause; of_pool = must })) (λ may. none (by_client (record { never_got = cause; of_pool = may })));
+      either_pool (goes_without_bound plan (client_at plan c).body i) (λ needs. free.clients_get c i (record { never_got = cause; of_pool = needs })) (λ none_needed. none (by_client (record { never_got = cause; of_pool = none_needed })));
   jobs_get = λ k i cause.
-      either_pool (may_be_rejected plan (class_at plan k).body i) (λ must. free.jobs_get k i (record { never_got = cause; of_pool = must })) (λ may. none (by_job (record { never_got = cause; of_pool = may })));
+      either_pool (goes_without_bound plan (class_at plan k).body i) (λ needs. free.jobs_get k i (record { never_got = cause; of_pool = needs })) (λ none_needed. none (by_job (record { never_got = cause; of_pool = none_needed })));
 }
 
 -- ---- sizes above the total
@@ -142,7 +142,7 @@ sizes_where_free plan well small low free =
           let pool : pool_at other p ≡ sized n (pool_at plan p) = get_or-map (sized n) plan.pools p no_pool no_pool known in
           let queue = ap (λ (any : Pool). any.queue) pool in
           let core = ap (λ (any : Pool). any.core) pool in
-          (λ must. omega (arith, queue, total-pools plan pools), omega (arith, core, total-pools plan pools)));
+          (λ needs. omega (arith, queue, total-pools plan pools), omega (arith, core, total-pools plan pools)));
     }
 
 pub free_where_sizes : (plan : Plan) → HasSizes plan → IsWithoutCause plan

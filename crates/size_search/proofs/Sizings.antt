@@ -3,7 +3,7 @@ use Rattle.std.proofs.Common.{◌≡◌, ◌≤◌, ◌<◌, ℕ, inl, inr, List
 use Rattle.std.specs.Prelude.{IsTrue}
 use Rattle.std.proofs.lemmas.Bool.{cases_lt}
 use Rattle.std.proofs.lemmas.List.{get_or_past}
-use Rattle.job_bodies.specs.Plan.{Pool, Plan, no_pool, pool_at}
+use Rattle.job_bodies.specs.Plan.{Pool, Plan, no_pool, pool_at, needs_no_bound}
 use Rattle.job_bodies.specs.WellFormed.{IsWellFormed}
 use Rattle.cert_text.specs.Cert.{Cert, pool_cert_at}
 use Rattle.soundness.specs.Accepted.{accepted}
@@ -72,14 +72,14 @@ sized_where_fitted plan wide fit cert widest found cores = record {
     core = λ p. omega (arith, found.fits.no_smaller.core p, ap (λ (pool : Pool). pool.core) (wider_pool plan wide p widest.wider));
     queue = λ p. omega (arith, found.fits.no_smaller.queue p, ap (λ (pool : Pool). pool.queue) (wider_pool plan wide p widest.wider));
   };
-  keeps_queues = record { same_queue = λ p may. found.fits.resized.keeps_queues.same_queue p (wide_may p ∙ may) ∙ wide_queue p };
+  keeps_queues = record { same_queue = λ p none. found.fits.resized.keeps_queues.same_queue p (wide_boundless p ∙ none) ∙ wide_queue p };
   least = λ other resized larger accepts. found.least other (record {
     resized = record {
       well_formed = resized.well_formed;
       same_shape = resized.same_shape ∙ found.fits.resized.same_shape;
       keeps_queues = record {
-        same_queue = λ p may.
-            resized.keeps_queues.same_queue p ((has_shape wide fit found.fits.resized.same_shape).may_reject p ∙ may) ∙ found.fits.resized.keeps_queues.same_queue p may;
+        same_queue = λ p none.
+            resized.keeps_queues.same_queue p ((has_shape wide fit found.fits.resized.same_shape).boundless p ∙ none) ∙ found.fits.resized.keeps_queues.same_queue p none;
       };
     };
     no_smaller = no_smaller_than_wider plan wide other widest.wider larger;
@@ -93,8 +93,8 @@ sized_where_fitted plan wide fit cert widest found cores = record {
     wide_queue : (p : ℕ) → (pool_at wide p).queue ≡ (pool_at plan p).queue
     wide_queue p = ap (λ (pool : Pool). pool.queue) (wider_pool plan wide p widest.wider)
 
-    wide_may : (p : ℕ) → (pool_at wide p).may_reject ≡ (pool_at plan p).may_reject
-    wide_may p = ap (λ (pool : Pool). pool.may_reject) (wider_pool plan wide p widest.wider)
+    wide_boundless : (p : ℕ) → needs_no_bound (pool_at wide p) ≡ needs_no_bound (pool_at plan p)
+    wide_boundless p = ap needs_no_bound (wider_pool plan wide p widest.wider)
 
     maxes : (p : ℕ) → (pool_at fit p).max ≡ (pool_at wide p).max
     maxes p = (has_shape wide fit found.fits.resized.same_shape).max p
@@ -115,7 +115,7 @@ pub sized_where_accepted : (plan : Plan) (cert : Cert) → IsWellFormed plan →
 sized_where_accepted plan cert well accepts = record {
   fits = record { well_formed = well; same_outline = refl; no_smaller_max = λ p. omega arith; accepts = accepts };
   no_smaller = record { core = λ p. omega arith; queue = λ p. omega arith };
-  keeps_queues = record { same_queue = λ p may. refl };
+  keeps_queues = record { same_queue = λ p none. refl };
   least = λ other resized larger accepted. larger;
   least_maxes = λ other fits p. fits.no_smaller_max p;
   least_cores = λ other fits larger p. larger.core p;

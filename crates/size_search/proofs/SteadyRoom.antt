@@ -3,7 +3,7 @@ use Rattle.std.proofs.Common.{◌≡◌, ℕ, zero, suc, ◌+◌, ◌<◌, ◌�
 use Rattle.std.proofs.lemmas.Bool.{cases_lt}
 use Rattle.std.proofs.lemmas.List.{length-map, get_or-map, get_or_past}
 use Rattle.job_bodies.specs.declared.limits.TheConstants.{MAX_SIZE}
-use Rattle.job_bodies.specs.Plan.{Pool, Class, Plan, no_pool, pool_at}
+use Rattle.job_bodies.specs.Plan.{Pool, Class, Plan, no_pool, pool_at, needs_no_bound}
 use Rattle.job_bodies.specs.WellFormed.{IsWellFormed}
 use Rattle.weights.specs.Vector.{Vector, has_small_numbers, total}
 use Rattle.cert_text.specs.Cert.{PoolCert, Cert, no_pool_cert}
@@ -40,9 +40,9 @@ vector-pools : (plan : Plan) (pools : List Pool) → length pools ≡ length pla
 vector-pools plan pools as_many =
     by_rows _ _ _ _ _ _ (constants zero pools plan.pools as_many) (ap (λ (v : Vector). v.classes) (jobs_within-pools plan pools (length plan.classes))) (clients-pools plan pools)
 
--- the part of a pool that may reject jobs, or must not
+-- the part of a pool that needs no bound, or needs one
 abbrev part_of : Vector → Bool → PoolCert
-part_of v may_reject = record { bound = bound_of v may_reject; blocked = v }
+part_of v boundless = record { bound = bound_of v boundless; blocked = v }
 
 abbrev cert_of : List PoolCert → List ℕ → List ℕ → List ℕ → Cert
 cert_of pools ranks reach levels = record { pools = pools; ranks = record { pools = ranks; reach = reach; levels = levels } }
@@ -50,8 +50,8 @@ cert_of pools ranks reach levels = record { pools = pools; ranks = record { pool
 by_parts : (p p' : List PoolCert) (r r' h l l' : List ℕ) → p' ≡ p → r' ≡ r → l' ≡ l → cert_of p' r' h l' ≡ cert_of p r h l
 by_parts p p' r r' h l l' pools ranks levels = rw (pools, ranks, levels) refl
 
--- pools of which the same may reject jobs have the same parts
-same_parts : (v : Vector) (pools others : List Pool) → length pools ≡ length others → ((p : ℕ) → p < length pools → (get_or pools p no_pool).may_reject ≡ (get_or others p no_pool).may_reject) → map (pool_of v) pools ≡ map (pool_of v) others
+-- pools of which the same need a bound have the same parts
+same_parts : (v : Vector) (pools others : List Pool) → length pools ≡ length others → ((p : ℕ) → p < length pools → needs_no_bound (get_or pools p no_pool) ≡ needs_no_bound (get_or others p no_pool)) → map (pool_of v) pools ≡ map (pool_of v) others
 same_parts v [] [] long same = refl
 same_parts v [] (other ∷ others) long same = absurd (omega (arith, long))
 same_parts v (pool ∷ pools) [] long same = absurd (omega (arith, long))
@@ -59,7 +59,7 @@ same_parts v (pool ∷ pools) (other ∷ others) long same =
     let first : pool_of v pool ≡ pool_of v other = ap (λ (b : Bool). part_of v b) (same 0 (omega arith)) in
     ap₂ (λ (part : PoolCert) (parts : List PoolCert). part ∷ parts) first (same_parts v pools others (omega (arith, long)) (λ p inside. same (suc p) (omega (arith, inside))))
 
-pub cert-pools : (plan : Plan) (pools : List Pool) → length pools ≡ length plan.pools → ((p : ℕ) → p < length pools → (get_or pools p no_pool).may_reject ≡ (pool_at plan p).may_reject)
+pub cert-pools : (plan : Plan) (pools : List Pool) → length pools ≡ length plan.pools → ((p : ℕ) → p < length pools → needs_no_bound (get_or pools p no_pool) ≡ needs_no_bound (pool_at plan p))
     → steady_cert (with_pools plan pools) ≡ steady_cert plan
 cert-pools plan pools as_many same =
     by_parts _ _ _ _ _ _ _
@@ -70,8 +70,8 @@ cert-pools plan pools as_many same =
 -- ---- the steady certificate accepts the plan with all sizes that are enough
 
 pub accepts_with : (plan : Plan) (pools : List Pool) → IsWellFormed (with_pools plan pools) → IsAllGot plan → IsTrue (has_small_numbers (steady_vector plan)) → length pools ≡ length plan.pools
-    → ((p : ℕ) → p < length pools → (get_or pools p no_pool).may_reject ≡ (pool_at plan p).may_reject)
-    → ((p : ℕ) → p < length pools → ((get_or pools p no_pool).may_reject ≡ false → steady_total plan ≤ (get_or pools p no_pool).queue) × (steady_total plan < (get_or pools p no_pool).core))
+    → ((p : ℕ) → p < length pools → needs_no_bound (get_or pools p no_pool) ≡ needs_no_bound (pool_at plan p))
+    → ((p : ℕ) → p < length pools → (needs_no_bound (get_or pools p no_pool) ≡ false → steady_total plan ≤ (get_or pools p no_pool).queue) × (steady_total plan < (get_or pools p no_pool).core))
     → IsTrue (accepted (with_pools plan pools) (steady_cert plan))
 accepts_with plan pools well free small as_many alike enough =
     let other = with_pools plan pools in
@@ -80,7 +80,7 @@ accepts_with plan pools well free small as_many alike enough =
     subst (λ (cert : Cert). IsTrue (accepted other cert)) (cert-pools plan pools as_many alike)
     (steady.is_accepted.1 (λ p inside.
     let of_pool = enough p inside in
-    (λ must. omega (arith, same, of_pool.0 must), omega (arith, same, of_pool.1))))
+    (λ needs. omega (arith, same, of_pool.0 needs), omega (arith, same, of_pool.1))))
 
 -- ---- sizes that are enough exist below the limit
 
@@ -130,14 +130,14 @@ some_fit_wide plan well free small low none = none other (record { well_formed =
         ]
 
     accepts : IsTrue (accepted other (steady_cert plan))
-    accepts = accepts_with plan pools well' free small (length-map plan.pools (roomy n)) (λ p inside. ap (λ (pool : Pool). pool.may_reject) (at p inside).0) (λ p inside.
+    accepts = accepts_with plan pools well' free small (length-map plan.pools (roomy n)) (λ p inside. ap needs_no_bound (at p inside).0) (λ p inside.
         let there = at p inside in
-        (λ must. omega (arith, ap (λ (pool : Pool). pool.queue) there.0), omega (arith, ap (λ (pool : Pool). pool.core) there.0)))
+        (λ needs. omega (arith, ap (λ (pool : Pool). pool.queue) there.0), omega (arith, ap (λ (pool : Pool). pool.core) there.0)))
 
 -- ---- a plan that was widened for the steady certificate has room for its cores
 
 abbrev filled : ℕ → Pool → Pool
-filled n pool = record pool { core = max pool.core n; queue = cond pool.may_reject pool.queue (max pool.queue n) }
+filled n pool = record pool { core = max pool.core n; queue = cond (needs_no_bound pool) pool.queue (max pool.queue n) }
 
 -- a queue that stays unchanged or is raised is a valid queue
 kept_or_filled : (b : Bool) (q n m : ℕ) → q ≤ m → n ≤ m → (q ≤ cond b q (max q n)) × (cond b q (max q n) ≤ m)
@@ -146,7 +146,7 @@ kept_or_filled false q n m low also = (omega arith, omega arith)
 
 -- if each maximum of these pools is above the total, some plan fits the plan with these pools
 room_is_left : (plan : Plan) (pools : List Pool) → IsWellFormed (with_pools plan pools) → IsAllGot plan → IsTrue (has_small_numbers (steady_vector plan)) → length pools ≡ length plan.pools
-    → ((p : ℕ) → p < length pools → (get_or pools p no_pool).may_reject ≡ (pool_at plan p).may_reject) → ((p : ℕ) → p < length pools → steady_total plan < (get_or pools p no_pool).max) → NoneFits (with_pools plan pools) (steady_cert plan) → ⊥
+    → ((p : ℕ) → p < length pools → needs_no_bound (get_or pools p no_pool) ≡ needs_no_bound (pool_at plan p)) → ((p : ℕ) → p < length pools → steady_total plan < (get_or pools p no_pool).max) → NoneFits (with_pools plan pools) (steady_cert plan) → ⊥
 room_is_left plan pools well free small as_many alike room none =
     none other (record { resized = record { well_formed = well'; same_shape = same; keeps_queues = record { same_queue = same_queue } }; no_smaller = record { core = λ p. (larger p).0; queue = λ p. (larger p).1 }; accepts = accepts })
   where
@@ -168,7 +168,7 @@ room_is_left plan pools well free small as_many alike room none =
     filled_queue p inside =
         let pool = get_or pools p no_pool in
         let sizes = sizes_at (with_pools plan pools) p well inside in
-        kept_or_filled pool.may_reject pool.queue n MAX_SIZE sizes.most_queue (omega (arith, room p inside, sizes.most_max))
+        kept_or_filled (needs_no_bound pool) pool.queue n MAX_SIZE sizes.most_queue (omega (arith, room p inside, sizes.most_max))
 
     valid : (p : ℕ) → p < length grown → HasSizes (get_or grown p no_pool)
     valid p inside =
@@ -189,12 +189,12 @@ room_is_left plan pools well free small as_many alike room none =
     same : shape other ≡ shape (with_pools plan pools)
     same = ap (with_pools plan) (map-twice (λ (pool : Pool). record pool { core = 0; queue = 0 }) (filled n) pools)
 
-    same_queue : (p : ℕ) → (get_or pools p no_pool).may_reject ≡ true → (get_or grown p no_pool).queue ≡ (get_or pools p no_pool).queue
-    same_queue p may =
+    same_queue : (p : ℕ) → needs_no_bound (get_or pools p no_pool) ≡ true → (get_or grown p no_pool).queue ≡ (get_or pools p no_pool).queue
+    same_queue p none =
         elim (cases_lt p (length pools)) [
           | inl inside ↦
               let pool = get_or pools p no_pool in
-              ap (λ (any : Pool). any.queue) (get_or-map (filled n) pools p no_pool no_pool inside) ∙ ap (λ (b : Bool). cond b pool.queue (max pool.queue n)) may
+              ap (λ (any : Pool). any.queue) (get_or-map (filled n) pools p no_pool no_pool inside) ∙ ap (λ (b : Bool). cond b pool.queue (max pool.queue n)) none
           | inr past ↦
               ap (λ (pool : Pool). pool.queue) (get_or_past grown p no_pool (omega (arith, past, length-map pools (filled n))))
               ∙ ap (λ (pool : Pool). pool.queue) (sym (get_or_past pools p no_pool past))
@@ -212,12 +212,12 @@ room_is_left plan pools well free small as_many alike room none =
         ]
 
     accepts : IsTrue (accepted other (steady_cert plan))
-    accepts = accepts_with plan grown well' free small (length-map pools (filled n) ∙ as_many) (λ p inside. ap (λ (pool : Pool). pool.may_reject) (at p inside).0 ∙ alike p (at p inside).1) (λ p inside.
+    accepts = accepts_with plan grown well' free small (length-map pools (filled n) ∙ as_many) (λ p inside. ap needs_no_bound (at p inside).0 ∙ alike p (at p inside).1) (λ p inside.
         let there = at p inside in
         let pool = get_or pools p no_pool in
-        let may : (get_or grown p no_pool).may_reject ≡ pool.may_reject = ap (λ (any : Pool). any.may_reject) there.0 in (
-          λ must.
-              let queue : (get_or grown p no_pool).queue ≡ max pool.queue n = ap (λ (any : Pool). any.queue) there.0 ∙ ap (λ (b : Bool). cond b pool.queue (max pool.queue n)) (sym may ∙ must) in
+        let boundless : needs_no_bound (get_or grown p no_pool) ≡ needs_no_bound pool = ap needs_no_bound there.0 in (
+          λ needs.
+              let queue : (get_or grown p no_pool).queue ≡ max pool.queue n = ap (λ (any : Pool). any.queue) there.0 ∙ ap (λ (b : Bool). cond b pool.queue (max pool.queue n)) (sym boundless ∙ needs) in
               omega (arith, queue),
           omega (arith, ap (λ (any : Pool). any.core) there.0),
         ))
@@ -240,8 +240,8 @@ some_fit_widened plan well free small low none = room_is_left plan pools well' f
         widened_at plan cert p known
         ∙ ap (λ (part : PoolCert). with_max plan part.blocked (pool_at plan p)) (get_or-map (steady_pool plan) plan.pools p no_pool no_pool_cert known)
 
-    alike : (p : ℕ) → p < length pools → (get_or pools p no_pool).may_reject ≡ (pool_at plan p).may_reject
-    alike p inside = ap (λ (pool : Pool). pool.may_reject) (at p (omega (arith, inside, as_many)))
+    alike : (p : ℕ) → p < length pools → needs_no_bound (get_or pools p no_pool) ≡ needs_no_bound (pool_at plan p)
+    alike p inside = ap needs_no_bound (at p (omega (arith, inside, as_many)))
 
     valid : (p : ℕ) → p < length pools → HasSizes (get_or pools p no_pool)
     valid p inside =

@@ -1,10 +1,11 @@
 -- The conditions of a certificate, divided into its totals and the others.
-use Rattle.std.proofs.Common.{◌≡◌, ℕ, ◌<◌, ◌≤◌, ◌-◌, ⊎_elim, Bool, true, false, cond, not, ◌&&◌, ltb, List, [], ◌∷◌, ◌++◌, length, map, filter, flat_map, Option, Some, None, refl, ap, ap₂, sym, subst, ◌∙◌, arith}
+use Rattle.std.proofs.Common.{◌≡◌, ℕ, ◌<◌, ◌≤◌, ◌-◌, ⊎_elim, Bool, true, false, cond, not, ◌&&◌, ltb, List, [], ◌∷◌, ◌++◌, length, map, filter, flat_map, Option, Some, None, refl, ap, ap₂, sym, subst, ◌∙◌, append_assoc, arith}
 use Rattle.std.specs.List.{enumerate_from, list_all}
 use Rattle.std.proofs.lemmas.Bool.{and_parts, and_from, ltb-false, le-ltb, cases_Bool, false≢true}
+use Rattle.std.proofs.lemmas.List.{append-nil}
 use Rattle.std.proofs.lemmas.List.Folds.{list_all-append}
 use Rattle.support.specs.In.{In, here}
-use Rattle.support.proofs.Members.{not_In_nil, In-append_left, In-append_right, In-append_cases, In-push_cases, In-map, In-map_from, In-flat_map_from, In-filter, In-filter_from, list_all_at_In, list_all_from_In}
+use Rattle.support.proofs.Members.{not_In_nil, In-append_left, In-append_right, In-append_cases, In-cons_cases, In-push_cases, In-map, In-map_from, In-flat_map_from, In-filter, In-filter_from, list_all_at_In, list_all_from_In}
 use Rattle.job_bodies.specs.declared.action.Action.{Action}
 use Rattle.job_bodies.specs.declared.action.Action.TheVariants.{Work, Submit, Get}
 use Rattle.job_bodies.specs.Plan.{Pool, Class, Client, Plan, pool_at}
@@ -32,7 +33,7 @@ use Rattle.soundness.specs.Accepted.{is_nil, accepted}
 use Rattle.soundness.proofs.CertLaws.{is_nil_means, section_holds, pool_inside}
 use Rattle.soundness.proofs.Faults.{BoundRowsHold, pool_numbers, accepted_from_parts}
 use Rattle.size_search.specs.Fitted.{is_total, fails_only_at_totals, shape, limit_of}
-use Rattle.size_search.proofs.Shapes.{length-shape, bound_body, optional_body, optional_body-shape, total_of, blocked_body, blocked_body-shape, cert_fits-shape}
+use Rattle.size_search.proofs.Shapes.{length-shape, queued_rows, lifetime_body, done_rows, bound_body, optional_body, optional_body-shape, total_of, blocked_body, blocked_body-shape, cert_fits-shape}
 
 -- ---- rows that are not totals
 
@@ -43,6 +44,11 @@ OfNoTotal rows = list_all (λ x. not (is_total x.place)) rows ≡ true
 of_no_total-append : (xs ys : List Row) → OfNoTotal xs → OfNoTotal ys → OfNoTotal (xs ++ ys)
 of_no_total-append xs ys first second =
     list_all-append (λ x. not (is_total x.place)) xs ys ∙ ap₂ (λ a b. a && b) first second
+
+-- if the rows are no totals, nor are they if a queue that is unbounded has none of them
+of_no_total-cond : (unbounded : Bool) (xs : List Row) → OfNoTotal xs → OfNoTotal (cond unbounded [] xs)
+of_no_total-cond true xs all = refl
+of_no_total-cond false xs all = all
 
 of_no_total-map : {X : Type 0} (f : X → Row) (xs : List X) → ((x : X) → is_total (f x).place ≡ false) → OfNoTotal (map f xs)
 of_no_total-map f [] each = refl
@@ -84,13 +90,15 @@ of_rows get_return plan v =
 -- the rows of a bound, without its total, are not totals
 of_bound : (plan : Plan) (p : ℕ) (bound : Bound) → OfNoTotal (bound_body plan p bound)
 of_bound plan p (Standing v) =
-    of_no_total-append (rows DoneWeight plan v) _ (of_rows DoneWeight plan v) (of_no_total-map (λ (entry : ℕ × Class). row S1 (place.Class entry.0) 1 (queued_weight v entry.0)) (classes_of plan p) (λ entry. refl))
+    of_no_total-append (rows DoneWeight plan v) _ (of_rows DoneWeight plan v)
+    (of_no_total-cond (pool_at plan p).unbounded (queued_rows plan p v) (of_no_total-map (λ (entry : ℕ × Class). row S1 (place.Class entry.0) 1 (queued_weight v entry.0)) (classes_of plan p) (λ entry. refl)))
 of_bound plan p (Lifetime v) =
     let workers = map (λ (entry : ℕ × Pool). row L1 (place.Worker entry.0) (workers_weight v entry.0) 0) (enumerate_from 0 plan.pools) in
-    of_no_total-append (workers ++ rows NoWeight plan v) _
+    of_no_total-append (lifetime_body plan v) _
     (of_no_total-append workers (rows NoWeight plan v) (of_no_total-map (λ (entry : ℕ × Pool). row L1 (place.Worker entry.0) (workers_weight v entry.0) 0) (enumerate_from 0 plan.pools) (λ entry. refl)) (of_rows NoWeight plan v))
+    (of_no_total-cond (pool_at plan p).unbounded (done_rows plan p v)
     (of_no_total-flat_map (λ (entry : ℕ × Class). map (λ weight. row L2 (place.Class entry.0) 1 weight) (class_weights v entry.0)) (classes_of plan p)
-    (λ entry. of_no_total-map (λ weight. row L2 (place.Class entry.0) 1 weight) (class_weights v entry.0) (λ weight. refl)))
+    (λ entry. of_no_total-map (λ weight. row L2 (place.Class entry.0) 1 weight) (class_weights v entry.0) (λ weight. refl))))
 
 -- the rows of a blocked vector, without its total, are not totals
 of_blocked : (plan : Plan) (ranks : Ranks) (p : ℕ) (v : Vector) → OfNoTotal (blocked_body plan ranks p v)
@@ -117,9 +125,30 @@ abbrev bound_total : Plan → ℕ → Bound → Row
 bound_total plan p (Standing v) = row S2 place.Total (total plan v) (pool_at plan p).queue
 bound_total plan p (Lifetime v) = row L3 place.Total (total plan v) (lifetime_limit (pool_at plan p))
 
-bound_rows-split : (plan : Plan) (p : ℕ) (bound : Bound) → bound_rows plan p bound ≡ bound_body plan p bound ++ bound_total plan p bound ∷ []
-bound_rows-split plan p (Standing v) = refl
-bound_rows-split plan p (Lifetime v) = refl
+-- an unbounded queue has no total
+abbrev bound_totals : Plan → ℕ → Bound → List Row
+bound_totals plan p bound = cond (pool_at plan p).unbounded [] (bound_total plan p bound ∷ [])
+
+split-cond : (unbounded : Bool) (xs ys zs : List Row) → xs ++ cond unbounded [] (ys ++ zs) ≡ xs ++ cond unbounded [] ys ++ cond unbounded [] zs
+split-cond true xs ys zs = sym (append-nil (xs ++ []))
+split-cond false xs ys zs = sym (append_assoc xs ys zs)
+
+bound_rows-split : (plan : Plan) (p : ℕ) (bound : Bound) → bound_rows plan p bound ≡ bound_body plan p bound ++ bound_totals plan p bound
+bound_rows-split plan p (Standing v) = split-cond (pool_at plan p).unbounded (rows DoneWeight plan v) (queued_rows plan p v) (bound_total plan p (Standing v) ∷ [])
+bound_rows-split plan p (Lifetime v) = split-cond (pool_at plan p).unbounded (lifetime_body plan v) (done_rows plan p v) (bound_total plan p (Lifetime v) ∷ [])
+
+-- the row is the total of a bound, whose queue is not unbounded
+record IsTotal (t x : Row) (unbounded : Bool) : Type 0 where
+  is : x ≡ t
+  bounded : unbounded ≡ false
+
+among_totals : (unbounded : Bool) (t x : Row) → In x (cond unbounded [] (t ∷ [])) → IsTotal t x unbounded
+among_totals true t x i = absurd (not_In_nil i)
+among_totals false t x i = record { is = ⊎_elim (λ (same : x ≡ t). same) (λ none. absurd (not_In_nil none)) (In-cons_cases i); bounded = refl }
+
+total_among : (unbounded : Bool) (t : Row) → unbounded ≡ false → In t (cond unbounded [] (t ∷ []))
+total_among true t bounded = absurd (false≢true (sym bounded))
+total_among false t bounded = here
 
 bound_total-place : (plan : Plan) (p : ℕ) (bound : Bound) → is_total (bound_total plan p bound).place ≡ true
 bound_total-place plan p (Standing v) = refl
@@ -146,7 +175,7 @@ pub record HoldButTotals (plan : Plan) (cert : Cert) : Type 0 where
   pub blocked : (p : ℕ) → p < length plan.pools → AllHold (blocked_body plan cert.ranks p (pool_cert_at cert p).blocked)
 
 pub record TotalsHold (plan : Plan) (cert : Cert) : Type 0 where
-  pub bounds : (p : ℕ) → p < length plan.pools → total_of plan (pool_cert_at cert p).bound ≤ limit_of plan p (pool_cert_at cert p).bound
+  pub bounds : (p : ℕ) → p < length plan.pools → (pool_at plan p).unbounded ≡ false → total_of plan (pool_cert_at cert p).bound ≤ limit_of plan p (pool_cert_at cert p).bound
   pub blocked : (p : ℕ) → p < length plan.pools → total plan (pool_cert_at cert p).blocked ≤ (pool_at plan p).core - 1
 
 -- ---- conditions of which only totals fail
@@ -164,7 +193,7 @@ hold_elsewhere plan cert part rows only_totals of_none among x i =
     (cases_Bool (ltb x.right x.left))
 
 in_bound_rows : (plan : Plan) (p : ℕ) (bound : Bound) (x : Row) → In x (bound_body plan p bound) → In x (bound_rows plan p bound)
-in_bound_rows plan p bound x i = subst (In x) (sym (bound_rows-split plan p bound)) (In-append_left (bound_total plan p bound ∷ []) i)
+in_bound_rows plan p bound x i = subst (In x) (sym (bound_rows-split plan p bound)) (In-append_left (bound_totals plan p bound) i)
 
 -- if only totals fail, the rows of a bound that are not totals hold
 bound_holds_elsewhere : (plan : Plan) (cert : Cert) (p : ℕ) (bound : Option Bound) → list_all (λ note. is_total note.place) (failing plan cert) ≡ true
@@ -214,7 +243,13 @@ bound_fails_at_total : (plan : Plan) (p : ℕ) (bound : Option Bound) (n : Note)
 bound_fails_at_total plan p None n hold wrong i = absurd (not_In_nil i)
 bound_fails_at_total plan p (Some bound) n hold wrong i =
     let part = bound_section p bound in
-    fails_at_total part (bound_body plan p bound) (bound_total plan p bound) n hold (bound_total-place plan p bound) wrong (subst (λ (xs : List Row). In n (in_section part xs)) (bound_rows-split plan p bound) i)
+    let found = In-map_from (note part) (bound_body plan p bound ++ bound_totals plan p bound) (subst (λ (xs : List Row). In n (in_section part xs)) (bound_rows-split plan p bound) i) in
+    ⊎_elim
+    (λ before. fails_not part (bound_body plan p bound) n hold wrong (subst (λ (y : Note). In y (in_section part (bound_body plan p bound))) found.2 (In-map (note part) before)))
+    (λ last.
+    let total = among_totals (pool_at plan p).unbounded (bound_total plan p bound) found.0 last in
+    ap (λ (y : Note). is_total y.place) (sym found.2) ∙ (ap (λ (x : Row). is_total x.place) total.is ∙ bound_total-place plan p bound))
+    (In-append_cases (bound_body plan p bound) (bound_totals plan p bound) found.1)
 
 pub fails_only_at_totals_from : (plan : Plan) (cert : Cert) → HoldButTotals plan cert → fails_only_at_totals plan cert ≡ true
 fails_only_at_totals_from plan cert hold =
@@ -252,12 +287,14 @@ at_totals_where_accepted plan cert is_accepted =
     and_from (cert_fits plan cert) (list_all (λ note. is_total note.place) (failing plan cert)) parts.0
     (ap (list_all (λ (n : Note). is_total n.place)) (is_nil_means (failing plan cert) parts.1))
 
--- if no condition fails, the total of a bound is within its limit
-bound_within : (plan : Plan) (cert : Cert) (p : ℕ) (bound : Option Bound) → failing plan cert ≡ [] → ((x : Note) → In x (bound_conditions plan p bound) → In x (conditions plan cert)) → total_of plan bound ≤ limit_of plan p bound
-bound_within plan cert p None none among = omega arith
-bound_within plan cert p (Some bound) none among =
+-- if no condition fails, the total of a bound is within its limit, unless the queue is unbounded
+bound_within : (plan : Plan) (cert : Cert) (p : ℕ) (bound : Option Bound) → failing plan cert ≡ [] → ((x : Note) → In x (bound_conditions plan p bound) → In x (conditions plan cert)) → (pool_at plan p).unbounded ≡ false
+    → total_of plan bound ≤ limit_of plan p bound
+bound_within plan cert p None none among bounded = omega arith
+bound_within plan cert p (Some bound) none among bounded =
     let hold = section_holds plan cert (bound_section p bound) (bound_rows plan p bound) none among in
-    let last : In (bound_total plan p bound) (bound_body plan p bound ++ bound_total plan p bound ∷ []) = In-append_right (bound_body plan p bound) here in
+    let last : In (bound_total plan p bound) (bound_body plan p bound ++ bound_totals plan p bound) =
+    In-append_right (bound_body plan p bound) (total_among (pool_at plan p).unbounded (bound_total plan p bound) bounded) in
     total_within plan p bound (hold (bound_total plan p bound) (subst (In (bound_total plan p bound)) (sym (bound_rows-split plan p bound)) last))
 
 pub totals_where_accepted : (plan : Plan) (cert : Cert) → accepted plan cert ≡ true → TotalsHold plan cert
@@ -265,10 +302,10 @@ totals_where_accepted plan cert is_accepted =
     let parts = and_parts (cert_fits plan cert) (is_nil (failing plan cert)) is_accepted in
     let none = is_nil_means (failing plan cert) parts.1 in
     record {
-      bounds = λ p inside.
+      bounds = λ p inside bounded.
           let pool = pool_cert_at cert p in
           let of_blocked = in_section (section.Blocked p) (blocked_rows plan p (is_counted plan cert.ranks) pool.blocked) in
-          bound_within plan cert p pool.bound none (λ x i. pool_inside plan cert p x inside (In-append_left of_blocked i));
+          bound_within plan cert p pool.bound none (λ x i. pool_inside plan cert p x inside (In-append_left of_blocked i)) bounded;
       blocked = λ p inside.
           let pool = pool_cert_at cert p in
           let of_bound = bound_conditions plan p pool.bound in
@@ -280,11 +317,19 @@ totals_where_accepted plan cert is_accepted =
 hold_with : (rows : List Row) (t : Row) → AllHold rows → t.left ≤ t.right → AllHold (rows ++ t ∷ [])
 hold_with rows t hold within x i = ⊎_elim (λ before. hold x before) (λ (last : x ≡ t). subst (λ (y : Row). y.left ≤ y.right) (sym last) within) (In-push_cases rows t i)
 
--- the rows of a bound hold if its total is within its limit and the others hold
-bound_rows_hold : (plan : Plan) (p : ℕ) (bound : Option Bound) → AllHold (optional_body plan p bound) → total_of plan bound ≤ limit_of plan p bound → BoundRowsHold plan p bound
+-- the rows of a bound hold if its total is within its limit, or its queue is unbounded, and the others hold
+bound_rows_hold : (plan : Plan) (p : ℕ) (bound : Option Bound) → AllHold (optional_body plan p bound) → ((pool_at plan p).unbounded ≡ false → total_of plan bound ≤ limit_of plan p bound) → BoundRowsHold plan p bound
 bound_rows_hold plan p None hold within = tt
-bound_rows_hold plan p (Some bound) hold within =
-    subst AllHold (sym (bound_rows-split plan p bound)) (hold_with (bound_body plan p bound) (bound_total plan p bound) hold (total_holds plan p bound within))
+bound_rows_hold plan p (Some bound) hold within = subst AllHold (sym (bound_rows-split plan p bound)) each
+  where
+    each : AllHold (bound_body plan p bound ++ bound_totals plan p bound)
+    each x i =
+        ⊎_elim
+        (λ before. hold x before)
+        (λ last.
+        let total = among_totals (pool_at plan p).unbounded (bound_total plan p bound) x last in
+        subst (λ (y : Row). y.left ≤ y.right) (sym total.is) (total_holds plan p bound (within total.bounded)))
+        (In-append_cases (bound_body plan p bound) (bound_totals plan p bound) i)
 
 pub accepted_from_totals : (plan : Plan) (cert : Cert) → HoldButTotals plan cert → TotalsHold plan cert → accepted plan cert ≡ true
 accepted_from_totals plan cert hold totals =

@@ -17,7 +17,7 @@ use Rattle.cert_text.proofs.Fitting.{parts_fit}
 use Rattle.soundness.specs.Conditions.{failing}
 use Rattle.soundness.specs.Accepted.{accepted, is_nil}
 use Rattle.size_search.specs.Steady.{sum_below, greatest_upto, submitted_weight, awaited_weight, open_weight, most, weight_at, weights_from, client_end, client_row, steady_vector, steady_total, steady_pool, steady_cert}
-use Rattle.size_search.specs.Submitted.{IsNeverGot, LosesRejected, by_client, by_job}
+use Rattle.size_search.specs.Submitted.{IsNeverGot, LosesWithoutBound, by_client, by_job}
 use Rattle.size_search.specs.Sized.{IsSteadyTooLarge, IsTooLarge}
 use Rattle.size_search.proofs.Losses.{class_submitted}
 
@@ -138,7 +138,7 @@ submit_to_a_pool plan body i well valid never_got =
     let of_class = (ordered plan well).pools submitted.0 (valid.submit i submitted.0 submitted.1) in
     omega (arith, of_class)
 
-lost_to_a_pool : (plan : Plan) → IsWellFormed plan → LosesRejected plan → 0 < length plan.pools
+lost_to_a_pool : (plan : Plan) → IsWellFormed plan → LosesWithoutBound plan → 0 < length plan.pools
 lost_to_a_pool plan well (by_client {c = c} {i = i} lost) = submit_to_a_pool plan (client_at plan c).body i well ((ordered plan well).clients c) lost.never_got.never_got
 lost_to_a_pool plan well (by_job {k = k} {i = i} lost) = submit_to_a_pool plan (class_at plan k).body i well ((ordered plan well).classes k) lost.never_got.never_got
 

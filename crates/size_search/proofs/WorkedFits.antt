@@ -8,7 +8,7 @@ use Rattle.weights.specs.Row.{row}
 use Rattle.cert_text.specs.Cert.{Cert}
 use Rattle.soundness.specs.declared.note.Section.TheVariants as section
 use Rattle.soundness.specs.Conditions.{note, failing}
-use Rattle.cert_check.proofs.WorkedPlans.{a_pool, a_class, clients, asks, works, one_pool, one_pool_once, rejecting, forgetting, nested, nested_rejecting, fan_out, two_pools, weighing, pool_cert, pair_of_ones, one_of_ones, one_of_zeros, standing_cert, unbounded_cert, lifetime_cert, forgetting_cert, lends, nested_ranks, nested_cert, nested_unbounded_cert, fan_out_cert, two_pools_cert}
+use Rattle.cert_check.proofs.WorkedPlans.{a_pool, a_class, clients, asks, works, one_pool, one_pool_once, rejecting, forgetting, unbounded_queue, nested, nested_rejecting, nested_unbounded, fan_out, two_pools, weighing, pool_cert, pair_of_ones, one_of_ones, one_of_zeros, standing_cert, cert_without_bound, lifetime_cert, forgetting_cert, lends, nested_ranks, nested_cert, nested_cert_without_bound, fan_out_cert, two_pools_cert}
 use Rattle.size_search.specs.declared.unfit.Unfit.TheVariants.{Shape, Condition, Core, Queue}
 use Rattle.size_search.specs.Fitted.{fitted, smallest}
 use Rattle.size_search.specs.Widened.{widened}
@@ -83,7 +83,7 @@ cross_pools_widened = refl
 -- ---- pools that may reject jobs
 
 -- without a bound, a queue of any size is enough
-pub rejecting_queue : fitted (rejecting 1 1 1 2) unbounded_cert ≡ Some (rejecting 1 1 1 2)
+pub rejecting_queue : fitted (rejecting 1 1 1 2) cert_without_bound ≡ Some (rejecting 1 1 1 2)
 rejecting_queue = refl
 
 -- the queue is not raised to what a bound requires
@@ -102,11 +102,24 @@ pub rejecting_smallest : fitted (smallest (rejecting 2 2 9 2)) (standing_cert 1)
 rejecting_smallest = refl
 
 -- the blocked bound can need a larger core, and a larger maximum with it
-pub rejecting_core : why_unfit (nested_rejecting 1) nested_unbounded_cert ≡ Some (Core 0)
+pub rejecting_core : why_unfit (nested_rejecting 1) nested_cert_without_bound ≡ Some (Core 0)
 rejecting_core = refl
 
-pub rejecting_widened : fitted (widened (nested_rejecting 1) nested_unbounded_cert) nested_unbounded_cert ≡ Some (nested_rejecting 2)
+pub rejecting_widened : fitted (widened (nested_rejecting 1) nested_cert_without_bound) nested_cert_without_bound ≡ Some (nested_rejecting 2)
 rejecting_widened = refl
+
+-- ---- pools with an unbounded queue
+
+-- a bound requires no queue, whatever its total is
+pub unbounded_bound : fitted (unbounded_queue 1 1000000) (standing_cert 1000000000) ≡ Some (unbounded_queue 1 1000000)
+unbounded_bound = refl
+
+-- the blocked bound can need a larger core, and the maximum stays equal to it
+pub unbounded_core : why_unfit (nested_unbounded 1) nested_cert_without_bound ≡ Some (Core 0)
+unbounded_core = refl
+
+pub unbounded_widened : fitted (widened (nested_unbounded 1) nested_cert_without_bound) nested_cert_without_bound ≡ Some (nested_unbounded 2)
+unbounded_widened = refl
 
 -- ---- lifetime vectors
 

@@ -1,7 +1,7 @@
 -- The least cores and queues with which a certificate accepts a plan.
-use Rattle.std.specs.Prelude.{◌≡◌, ◌≤◌, ℕ, ◌+◌, ◌-◌, max, Bool, true, false, ◌&&◌, not, nat_lt, if◌then◌else◌, map, Option, Some, None, IsTrue}
+use Rattle.std.specs.Prelude.{◌≡◌, ◌≤◌, ℕ, ◌+◌, ◌-◌, max, Bool, true, false, ◌&&◌, not, nat_lt, if◌then◌else◌, map, Option, Some, None, IsTrue, IsFalse}
 use Rattle.std.specs.List.{list_all, enumerate_from}
-use Rattle.job_bodies.specs.Plan.{Pool, Plan, pool_at, first_workers}
+use Rattle.job_bodies.specs.Plan.{Pool, Plan, pool_at, needs_no_bound, first_workers}
 use Rattle.job_bodies.specs.WellFormed.{IsWellFormed, has_valid_sizes}
 use Rattle.weights.specs.declared.row.Place.{Place}
 use Rattle.weights.specs.declared.row.Place.TheVariants.{Total}
@@ -24,26 +24,26 @@ abbrev pub queue_of_bound : Plan → Bound → Pool → ℕ
 queue_of_bound plan (Standing v) pool = total plan v
 queue_of_bound plan (Lifetime v) pool = total plan v + first_workers pool - pool.max
 
--- the queue that the bound of a pool requires; 0 if there is no bound
+-- the queue that the bound of a pool requires; 0 if there is no bound, or if the queue is unbounded
 abbrev pub queue_needed : Plan → Option Bound → Pool → ℕ
 queue_needed plan None pool = 0
-queue_needed plan (Some bound) pool = queue_of_bound plan bound pool
+queue_needed plan (Some bound) pool = if pool.unbounded then 0 else queue_of_bound plan bound pool
 
 -- ---- the plan with raised sizes
 
 abbrev pub with_core : Plan → Vector → Pool → Pool
 with_core plan v pool = record pool { core = max pool.core (core_needed plan v) }
 
--- the queue of a pool that may reject jobs stays unchanged
+-- the queue of a pool that needs no bound, because it may reject jobs or its queue is unbounded, stays unchanged
 abbrev pub with_queue : Plan → Option Bound → Pool → Pool
-with_queue plan bound pool = record pool { queue = if pool.may_reject then pool.queue else max pool.queue (queue_needed plan bound pool) }
+with_queue plan bound pool = record pool { queue = if needs_no_bound pool then pool.queue else max pool.queue (queue_needed plan bound pool) }
 
 -- the pool with its core raised, and then its queue: a prestarted pool with a larger core can need a larger queue
 abbrev pub raised_pool : Plan → PoolCert → Pool → Pool
 raised_pool plan cert pool = with_queue plan cert.bound (with_core plan cert.blocked pool)
 
 -- the plan with each core and each queue raised to what the certificate needs, unless it is already that large; the queue of a pool that
--- may reject jobs stays unchanged
+-- needs no bound stays unchanged
 abbrev pub raised : Plan → Cert → Plan
 raised plan cert = record plan { pools = map (λ entry. raised_pool plan (pool_cert_at cert entry.0) entry.1) (enumerate_from 0 plan.pools) }
 
@@ -78,23 +78,22 @@ fitted plan cert =
 abbrev pub shape : Plan → Plan
 shape plan = record plan { pools = map (λ (pool : Pool). record pool { core = 0; queue = 0 }) plan.pools }
 
--- each pool that may reject jobs has the same queue in the other plan
+-- each pool that needs no bound, because it may reject jobs or its queue is unbounded, has the same queue in the other plan
 pub record KeepsQueues (plan other : Plan) : Type 0 where
-  pub same_queue : (p : ℕ) → IsTrue (pool_at plan p).may_reject → (pool_at other p).queue ≡ (pool_at plan p).queue
+  pub same_queue : (p : ℕ) → IsTrue (needs_no_bound (pool_at plan p)) → (pool_at other p).queue ≡ (pool_at plan p).queue
 
 -- no core and no queue of the other plan is smaller than in this one
 pub record IsNoSmaller (other plan : Plan) : Type 0 where
   pub core : (p : ℕ) → (pool_at plan p).core ≤ (pool_at other p).core
   pub queue : (p : ℕ) → (pool_at plan p).queue ≤ (pool_at other p).queue
 
--- the other plan differs from this one only in cores and in the queues of pools that must not reject jobs
+-- the other plan differs from this one only in cores and in the queues of pools that need a bound
 pub record IsResized (plan other : Plan) : Type 0 where
   pub well_formed : IsWellFormed other
   pub same_shape : shape other ≡ shape plan
   pub keeps_queues : KeepsQueues plan other
 
--- the certificate accepts the other plan, which differs from this one only in larger cores and larger queues of pools that must not reject
--- jobs
+-- the certificate accepts the other plan, which differs from this one only in larger cores and larger queues of pools that need a bound
 pub record IsFit (plan : Plan) (cert : Cert) (other : Plan) : Type 0 where
   pub resized : IsResized plan other
   pub no_smaller : IsNoSmaller other plan
@@ -106,7 +105,7 @@ pub record IsLeastFit (plan : Plan) (cert : Cert) (fit : Plan) : Type 0 where
   pub least : (other : Plan) → IsFit plan cert other → IsNoSmaller other fit
 
 -- no plan fits (`IsFit`): the certificate accepts no plan that differs from this one only in larger cores and larger queues of pools that
--- must not reject jobs
+-- need a bound
 abbrev pub NoneFits : Plan → Cert → Type 0
 NoneFits plan cert = (other : Plan) → ¬ IsFit plan cert other
 
@@ -120,23 +119,24 @@ pub record FittedSizesAreLeast : Type 0 where
 abbrev pub AcceptedPlansFit : Type 0
 AcceptedPlansFit = (plan : Plan) (cert : Cert) → IsWellFormed plan → IsTrue (accepted plan cert) → fitted plan cert ≡ Some plan
 
--- the limit of the total of the bound of pool p; 0 if there is no bound
+-- the limit of the total of the bound of pool p, unless its queue is unbounded; 0 if there is no bound
 abbrev pub limit_of : Plan → ℕ → Option Bound → ℕ
 limit_of plan p None = 0
 limit_of plan p (Some bound) = bound_limit plan p bound
 
--- a certificate that accepts a plan also accepts it with other cores and queues, if no core and no limit of a bound is smaller
+-- a certificate that accepts a plan also accepts it with other cores and queues, if no core and no limit of a bound is smaller; the limit
+-- of the bound of an unbounded queue does not matter
 abbrev pub LargerSizesAreAccepted : Type 0
 LargerSizesAreAccepted = (plan other : Plan) (cert : Cert) → shape other ≡ shape plan → IsTrue (accepted plan cert) → ((p : ℕ) → (pool_at plan p).core ≤ (pool_at other p).core)
-    → ((p : ℕ) → limit_of plan p (pool_cert_at cert p).bound ≤ limit_of other p (pool_cert_at cert p).bound) → IsTrue (accepted other cert)
+    → ((p : ℕ) → IsFalse (pool_at plan p).unbounded → limit_of plan p (pool_cert_at cert p).bound ≤ limit_of other p (pool_cert_at cert p).bound) → IsTrue (accepted other cert)
 
 -- ---- the least sizes, whatever sizes the plan declares
 
--- the pool with a core of 1, and a queue of 1 unless it may reject jobs
+-- the pool with a core of 1, and a queue of 1 unless it needs no bound
 abbrev pub smallest_pool : Pool → Pool
-smallest_pool pool = record pool { core = 1; queue = if pool.may_reject then pool.queue else 1 }
+smallest_pool pool = record pool { core = 1; queue = if needs_no_bound pool then pool.queue else 1 }
 
--- the plan with cores and queues of 1; the queue of a pool that may reject jobs stays unchanged
+-- the plan with cores and queues of 1; the queue of a pool that needs no bound stays unchanged
 abbrev pub smallest : Plan → Plan
 smallest plan = record plan { pools = map smallest_pool plan.pools }
 

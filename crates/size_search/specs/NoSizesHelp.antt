@@ -7,7 +7,7 @@ use Rattle.weights.specs.Vector.{has_small_numbers}
 use Rattle.cert_text.specs.Cert.{Cert}
 use Rattle.soundness.specs.Accepted.{accepted}
 use Rattle.size_search.specs.Widened.{outline}
-use Rattle.size_search.specs.Submitted.{IsWithoutCause, LosesRejected}
+use Rattle.size_search.specs.Submitted.{IsWithoutCause, LosesWithoutBound}
 use Rattle.size_search.specs.Steady.{steady_vector, steady_total}
 use Rattle.size_search.specs.declared.cause.Cause.TheVariants.{Circle, ClientNeverGets, ClassNeverGets}
 use Rattle.size_search.specs.Causes.{IsCause}
@@ -20,9 +20,9 @@ IsBeyondSizes plan = (other : Plan) (cert : Cert) → IsWellFormed other → out
 pub record NoSizesHelp : Type 0 where
   -- a class submits itself, directly or through other classes
   pub circle : (plan : Plan) (k : ℕ) → IsCause plan (Circle k) → IsBeyondSizes plan
-  -- clients of a kind that repeats never get a job that they submit to a pool that must not reject jobs
+  -- clients of a kind that repeats never get a job that they submit to a pool that needs a bound
   pub client_never_gets : (plan : Plan) (c i : ℕ) → IsCause plan (ClientNeverGets c i) → IsBeyondSizes plan
-  -- jobs that repeating clients cause never get a job that they submit to a pool that must not reject jobs
+  -- jobs that repeating clients cause never get a job that they submit to a pool that needs a bound
   pub class_never_gets : (plan : Plan) (k i : ℕ) → IsCause plan (ClassNeverGets k i) → IsBeyondSizes plan
 
 -- ---- plans without a cause
@@ -37,6 +37,6 @@ pub record HasSizes (plan : Plan) : Type 0 where
 
 -- for a plan whose steady weights are within their limit, and whose steady total is below the limit of sizes: sizes with
 -- which some certificate accepts the plan exist exactly when the plan has no cause. This is said only of plans in which no repeating
--- client causes a submit that is never got, to a pool that may reject jobs; without such a pool, it is said of every plan.
+-- client causes a submit that is never got, to a pool that needs no bound; without such a pool, it is said of every plan.
 abbrev pub SizesExist : Type 0
-SizesExist = (plan : Plan) → IsWellFormed plan → IsTrue (has_small_numbers (steady_vector plan)) → steady_total plan < MAX_SIZE → ¬ LosesRejected plan → HasSizes plan ↔ IsWithoutCause plan
+SizesExist = (plan : Plan) → IsWellFormed plan → IsTrue (has_small_numbers (steady_vector plan)) → steady_total plan < MAX_SIZE → ¬ LosesWithoutBound plan → HasSizes plan ↔ IsWithoutCause plan

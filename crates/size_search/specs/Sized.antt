@@ -8,7 +8,7 @@ use Rattle.soundness.specs.Accepted.{accepted}
 use Rattle.size_search.specs.Fitted.{KeepsQueues, IsResized, IsNoSmaller}
 use Rattle.size_search.specs.Widened.{IsWideFit, HasLeastCores}
 use Rattle.size_search.specs.Steady.{steady_vector, steady_total}
-use Rattle.size_search.specs.Submitted.{LosesRejected}
+use Rattle.size_search.specs.Submitted.{LosesWithoutBound}
 use Rattle.size_search.specs.Causes.{IsCause}
 use Rattle.size_search.specs.declared.found.NoSizes.TheVariants.{Cause, TooLarge}
 use Rattle.size_search.specs.declared.found.SizesFound.{SizesFound}
@@ -18,7 +18,7 @@ use Rattle.size_search.specs.declared.found.SizesFound.TheVariants.{Found, NotFo
 -- it. No larger plan that the certificate accepts has a smaller maximum or a smaller core, and none that has the fit's maximums has a
 -- smaller queue. With larger maximums a smaller queue can be enough: in a lifetime bound, each thread that is not prestarted starts with a
 -- job, which needs no place in the queue. A maximum of the fit that is larger than the plan's equals the core of its pool. The queue of a
--- pool that may reject jobs stays unchanged.
+-- pool that may reject jobs or has an unbounded queue stays unchanged.
 pub record IsSized (plan : Plan) (cert : Cert) (fit : Plan) : Type 0 where
   pub fits : IsWideFit plan cert fit
   pub no_smaller : IsNoSmaller fit plan
@@ -32,10 +32,10 @@ pub record IsSized (plan : Plan) (cert : Cert) (fit : Plan) : Type 0 where
 abbrev pub IsSteadyTooLarge : Plan → Type 0
 IsSteadyTooLarge plan = (has_small_numbers (steady_vector plan) ≡ false) ⊎ (MAX_SIZE ≤ steady_total plan)
 
--- the steady certificate is too large, or no size is enough for it, because a submit to a pool that may reject jobs is made forever and never
--- got
+-- the steady certificate is too large, or no size is enough for it, because a submit to a pool that needs no bound is made forever and
+-- never got
 abbrev pub IsTooLarge : Plan → Type 0
-IsTooLarge plan = IsSteadyTooLarge plan ⊎ LosesRejected plan
+IsTooLarge plan = IsSteadyTooLarge plan ⊎ LosesWithoutBound plan
 
 -- the result is true of the plan: the sizes that were found are `IsSized`, or the cause that was found holds, or the steady certificate is
 -- too large (`IsTooLarge`) and the pool that is named exists

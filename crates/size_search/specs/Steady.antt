@@ -1,10 +1,10 @@
--- The steady certificate of a plan: one vector, which is the standing and the blocked vector of every pool. A pool that may reject jobs has
--- no standing vector. In this vector an actor ends with enough weight for all jobs that it has open at once, and a get returns the weight of
--- the done job.
+-- The steady certificate of a plan: one vector, which is the standing and the blocked vector of every pool. A pool that may reject jobs or
+-- has an unbounded queue has no standing vector, since it needs none. In this vector an actor ends with enough weight for all jobs that it
+-- has open at once, and a get returns the weight of the done job.
 use Rattle.std.specs.Prelude.{ℕ, zero, suc, ◌+◌, ◌-◌, max, Bool, true, false, if◌then◌else◌, List, [], ◌∷◌, ◌++◌, length, map, drop, Option, Some, None, slice_get, slice_index}
 use Rattle.job_bodies.specs.declared.action.Action.{Action}
 use Rattle.job_bodies.specs.declared.action.Action.TheVariants.{Work, Submit, Get}
-use Rattle.job_bodies.specs.Plan.{Pool, Class, Client, Plan, has_get_of, submitted_class}
+use Rattle.job_bodies.specs.Plan.{Pool, Class, Client, Plan, needs_no_bound, has_get_of, submitted_class}
 use Rattle.weights.specs.declared.bound.Bound.{Bound}
 use Rattle.weights.specs.declared.bound.Bound.TheVariants.{Standing}
 use Rattle.weights.specs.Vector.{Vector, queued_weight, done_weight, total}
@@ -117,14 +117,14 @@ steady_levels plan = levels_within plan (length plan.classes)
 
 -- ---- the certificate
 
--- the vector as the bound of a pool that must not reject jobs; none for another pool
+-- the vector as the bound of a pool that needs a bound; none for another pool
 abbrev pub bound_of : Vector → Bool → Option Bound
 bound_of v true = None
 bound_of v false = Some (Standing v)
 
 -- the part of a pool, in which the vector is both the bound and the blocked vector
 abbrev pub pool_of : Vector → Pool → PoolCert
-pool_of v pool = record { bound = bound_of v pool.may_reject; blocked = v }
+pool_of v pool = record { bound = bound_of v (needs_no_bound pool); blocked = v }
 
 abbrev pub steady_pool : Plan → Pool → PoolCert
 steady_pool plan pool = pool_of (steady_vector plan) pool

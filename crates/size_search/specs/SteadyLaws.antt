@@ -1,7 +1,7 @@
 -- The acceptance of steady certificates.
 use Rattle.std.specs.Prelude.{◌≡◌, ◌≤◌, ◌<◌, ◌↔◌, ℕ, length, IsTrue, IsFalse}
 use Rattle.support.specs.In.{In}
-use Rattle.job_bodies.specs.Plan.{Plan, pool_at}
+use Rattle.job_bodies.specs.Plan.{Plan, pool_at, needs_no_bound}
 use Rattle.job_bodies.specs.WellFormed.{IsWellFormed}
 use Rattle.weights.specs.declared.row.Place.TheVariants.{Total}
 use Rattle.weights.specs.Vector.{has_small_numbers}
@@ -12,9 +12,10 @@ use Rattle.soundness.specs.Accepted.{accepted}
 use Rattle.size_search.specs.Submitted.{IsAllGot}
 use Rattle.size_search.specs.Steady.{steady_vector, steady_total, steady_cert}
 
--- the queue of every pool that must not reject jobs is at least the total, and every core is larger than the total
+-- the queue of every pool that needs a bound is at least the total, and every core is larger than the total. A pool needs none if it may
+-- reject jobs or its queue is unbounded.
 abbrev pub AreEnough : Plan → Type 0
-AreEnough plan = (p : ℕ) → p < length plan.pools → (IsFalse (pool_at plan p).may_reject → steady_total plan ≤ (pool_at plan p).queue) × (steady_total plan < (pool_at plan p).core)
+AreEnough plan = (p : ℕ) → p < length plan.pools → (IsFalse (needs_no_bound (pool_at plan p)) → steady_total plan ≤ (pool_at plan p).queue) × (steady_total plan < (pool_at plan p).core)
 
 -- the steady certificate fits the plan, only conditions on its total can fail, and it is accepted exactly when the sizes are enough
 pub record IsSteadyAccepted (plan : Plan) : Type 0 where

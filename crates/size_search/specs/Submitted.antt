@@ -3,7 +3,7 @@ use Rattle.std.specs.Prelude.{◌≡◌, ℕ, Bool, List, [], ◌∷◌, map, fi
 use Rattle.support.specs.In.{In}
 use Rattle.job_bodies.specs.declared.action.Action.{Action}
 use Rattle.job_bodies.specs.declared.action.Action.TheVariants.{Submit}
-use Rattle.job_bodies.specs.Plan.{Client, Plan, pool_at, class_at, client_at, submits, submitted_class, has_get_of}
+use Rattle.job_bodies.specs.Plan.{Client, Plan, pool_at, class_at, client_at, needs_no_bound, submits, submitted_class, has_get_of}
 
 -- the class is submitted: by one of the bodies, or by the body of a class that is itself submitted
 pub data IsSubmitted (plan : Plan) (bodies : List (List Action)) : ℕ → Type 0 where
@@ -43,27 +43,28 @@ pub record IsAllGot (plan : Plan) : Type 0 where
 
 -- ---- the pools of the jobs that are never got
 
--- whether the pool to which the submit at position i of the body goes may reject jobs
-abbrev pub may_be_rejected : Plan → List Action → ℕ → Bool
-may_be_rejected plan body i = (pool_at plan (class_at plan (submitted_class body i)).pool).may_reject
+-- whether the pool to which the submit at position i of the body goes needs no bound in a certificate, because it may reject jobs or its
+-- queue is unbounded
+abbrev pub goes_without_bound : Plan → List Action → ℕ → Bool
+goes_without_bound plan body i = needs_no_bound (pool_at plan (class_at plan (submitted_class body i)).pool)
 
--- clients of a kind that repeats never get the job that they submit at position i, and its pool may reject jobs, or must not
-pub record LostByClients (plan : Plan) (may_reject : Bool) (c i : ℕ) : Type 0 where
+-- clients of a kind that repeats never get the job that they submit at position i, and its pool needs no bound, or needs one
+pub record LostByClients (plan : Plan) (without_bound : Bool) (c i : ℕ) : Type 0 where
   pub never_got : NeverGotByClients plan c i
-  pub of_pool : may_be_rejected plan (client_at plan c).body i ≡ may_reject
+  pub of_pool : goes_without_bound plan (client_at plan c).body i ≡ without_bound
 
--- jobs that repeating clients cause never get the job that they submit at position i, and its pool may reject jobs, or must not
-pub record LostByJobs (plan : Plan) (may_reject : Bool) (k i : ℕ) : Type 0 where
+-- jobs that repeating clients cause never get the job that they submit at position i, and its pool needs no bound, or needs one
+pub record LostByJobs (plan : Plan) (without_bound : Bool) (k i : ℕ) : Type 0 where
   pub never_got : NeverGotByJobs plan k i
-  pub of_pool : may_be_rejected plan (class_at plan k).body i ≡ may_reject
+  pub of_pool : goes_without_bound plan (class_at plan k).body i ≡ without_bound
 
--- no class submits itself, and no repeating client causes a submit that is never got, to a pool that must not reject jobs
+-- no class submits itself, and no repeating client causes a submit that is never got, to a pool that needs a bound
 pub record IsWithoutCause (plan : Plan) : Type 0 where
   pub no_circle : NoCircle plan
   pub clients_get : (c i : ℕ) → ¬ LostByClients plan false c i
   pub jobs_get : (k i : ℕ) → ¬ LostByJobs plan false k i
 
--- a repeating client causes a submit that is never got, to a pool that may reject jobs
-pub data LosesRejected (plan : Plan) : Type 0 where
-  by_client : {c i : ℕ} → LostByClients plan true c i → LosesRejected plan
-  by_job : {k i : ℕ} → LostByJobs plan true k i → LosesRejected plan
+-- a repeating client causes a submit that is never got, to a pool that needs no bound
+pub data LosesWithoutBound (plan : Plan) : Type 0 where
+  by_client : {c i : ℕ} → LostByClients plan true c i → LosesWithoutBound plan
+  by_job : {k i : ℕ} → LostByJobs plan true k i → LosesWithoutBound plan

@@ -49,17 +49,14 @@ pub(crate) fn attempt_from(
     }
 }
 
-/// Returns the sum of the increases of all cores, maximums and queues from the plan to `fit`.
+/// Returns the sum of the increases of all cores, maximums and queues from the plan to `fit`. The
+/// maximum of a pool with an unbounded queue does not count, because it has no effect.
 pub(crate) fn growth(plan: &Plan, fit: &Plan) -> u64 {
     let mut growth = 0u64;
     for (pool, fit) in plan.pools().iter().zip(fit.pools()) {
-        for (before, after) in [
-            (pool.core, fit.core),
-            (pool.max, fit.max),
-            (pool.queue, fit.queue),
-        ] {
-            growth = growth.saturating_add(after.saturating_sub(before));
-        }
+        let threads = PoolThreads::of(fit).growth(PoolThreads::of(pool));
+        let queue = fit.queue.saturating_sub(pool.queue);
+        growth = growth.saturating_add(threads).saturating_add(queue);
     }
     growth
 }

@@ -10,9 +10,10 @@ use std::alloc::Global;
 use weights::Bound;
 
 /// Returns the vector that bounds the pool's queue, or `None` if the pool may reject jobs and the
-/// search finds no vector that its queue is large enough for. `pool_threads` has the current core
-/// and maximum of this pool, and `maxes` has the current maximums of all pools. Returns this pool as
-/// the obstacle if it must not reject jobs and the search finds no vector.
+/// search finds no vector that its queue is large enough for, or if the queue is unbounded and the
+/// search finds no standing vector. `pool_threads` has the current core and maximum of this pool,
+/// and `maxes` has the current maximums of all pools. Returns this pool as the obstacle if it needs
+/// a bound and the search finds no vector.
 pub(crate) fn bound_of(
     alloc: Global,
     cache: &mut VectorCache,
@@ -21,12 +22,15 @@ pub(crate) fn bound_of(
     pool_threads: PoolThreads,
     maxes: &[u64],
 ) -> Result<Option<Bound>, AttemptError> {
+    if pool.unbounded {
+        return standing_bound(alloc, cache, number, maxes);
+    }
     if pool.may_reject {
         // The final maximum can be smaller than the current one, but not than the declared one. A
         // lifetime vector must fit the queue with each of them, because the queue stays unchanged.
         let least_threads = PoolThreads {
-            core: pool_threads.core,
             max: pool.max,
+            ..pool_threads
         };
         let bound = least_bound(alloc, cache, number, pool, least_threads, maxes)?;
         return Ok(match bound {
@@ -38,6 +42,24 @@ pub(crate) fn bound_of(
         Some(least) => Ok(Some(least.bound)),
         None => Err(AttemptError::Obstacle(Obstacle::Pool(number))),
     }
+}
+
+/// Returns the standing vector of the pool with the smallest total that the search finds, or `None`
+/// if it finds none.
+fn standing_bound(
+    alloc: Global,
+    cache: &mut VectorCache,
+    number: usize,
+    maxes: &[u64],
+) -> Result<Option<Bound>, AttemptError> {
+    let hit = cache.lightest(alloc, number, Kind::Standing, maxes, 0)?;
+    let Some(workers) = cache.workers_at(hit) else {
+        return Ok(None);
+    };
+    let vector = cache
+        .resized_plan(maxes)
+        .vector(alloc, number, Kind::Standing, workers)?;
+    Ok(vector.map(Bound::Standing))
 }
 
 /// A vector that bounds a pool's queue.

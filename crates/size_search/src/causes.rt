@@ -1,9 +1,9 @@
 //! The search for a cause: a reason why no certificate accepts a plan, whatever its sizes.
 
 ghost use Rattle.std.specs.Prelude.{◌≡◌, ◌<◌, ◌↔◌, ℕ, [], ◌∷◌, false, true, IfOk, IfSome, IfNone, length};
-ghost use Rattle.job_bodies.specs.Plan.{class_at, pool_at};
+ghost use Rattle.job_bodies.specs.Plan.{class_at, needs_no_bound, pool_at};
 ghost use Rattle.job_bodies.specs.WellFormed.{IsWellFormed};
-ghost use Rattle.size_search.specs.Submitted.{IsSubmitted, IsNeverGot, NoCircle, LostByClients, LostByJobs, IsAllGot, IsWithoutCause, LosesRejected, may_be_rejected, repeated_bodies};
+ghost use Rattle.size_search.specs.Submitted.{IsSubmitted, IsNeverGot, NoCircle, LostByClients, LostByJobs, IsAllGot, IsWithoutCause, LosesWithoutBound, goes_without_bound, repeated_bodies};
 ghost use Rattle.size_search.specs.Reaching.{Has};
 ghost use Rattle.size_search.specs.Causes.{IsCause};
 
@@ -38,12 +38,12 @@ pub fn cause_of(alloc: Global, plan: &Plan) -> Result<Option<Cause>, AllocError>
     Ok(None)
 }
 
-/// Returns whether a repeating client causes a submit that is never got, to a pool that may reject
-/// jobs. This is not a cause, but then no sizes are enough for the plan's steady certificate.
+/// Returns whether a repeating client causes a submit that is never got, to a pool that needs no
+/// bound. This is not a cause, but then no sizes are enough for the plan's steady certificate.
 /// [`cause_of`] must have found no cause.
-pub(crate) fn loses_rejected(alloc: Global, plan: &Plan) -> Result<bool, AllocError>
+pub(crate) fn loses_without_bound(alloc: Global, plan: &Plan) -> Result<bool, AllocError>
     requires { IsWithoutCause plan.now }
-    ensures loses { IfOk result (λ loses. loses ≡ true → LosesRejected plan.now) }
+    ensures loses { IfOk result (λ loses. loses ≡ true → LosesWithoutBound plan.now) }
     ensures none { IfOk result (λ loses. loses ≡ false → IsAllGot plan.now) }
 {
     if let Some(_lost) = lost_by_clients(plan, true) {
@@ -85,17 +85,17 @@ fn submits_itself(alloc: Global, plan: &Plan, number: usize) -> Result<bool, All
 }
 
 /// Returns the first submit without a get in the body of a client kind that repeats, as the number
-/// of the client kind and the position of the submit. Considers only submits to pools that may
-/// reject jobs or, if `may_reject` is false, only those to other pools. Returns `None` if there is
+/// of the client kind and the position of the submit. Considers only submits to pools that need no
+/// bound or, if `without_bound` is false, only those to other pools. Returns `None` if there is
 /// none.
-fn lost_by_clients(plan: &Plan, may_reject: bool) -> Option<(usize, usize)>
-    ensures lost { IfSome result (λ found. LostByClients plan.now may_reject found.0 found.1) }
-    ensures none { IfNone result ((c i : ℕ) → ¬ LostByClients plan.now may_reject c i) }
+fn lost_by_clients(plan: &Plan, without_bound: bool) -> Option<(usize, usize)>
+    ensures lost { IfSome result (λ found. LostByClients plan.now without_bound found.0 found.1) }
+    ensures none { IfNone result ((c i : ℕ) → ¬ LostByClients plan.now without_bound c i) }
 {
     for number in 0..plan.clients().len() {
         let client = &plan.clients()[number];
         if client.repeat {
-            if let Some(action) = submit_without_get(plan, &client.body, may_reject) {
+            if let Some(action) = submit_without_get(plan, &client.body, without_bound) {
                 return Some((number, action));
             }
         }
@@ -105,21 +105,22 @@ fn lost_by_clients(plan: &Plan, may_reject: bool) -> Option<(usize, usize)>
 
 /// Returns the first submit without a get in the body of a class in `submitted_classes`, as the
 /// number of the class and the position of the submit. The set must have the classes that repeating
-/// clients submit, directly or through other jobs. Considers only submits to pools that may reject
-/// jobs or, if `may_reject` is false, only those to other pools. Returns `None` if there is none.
+/// clients submit, directly or through other jobs. Considers only submits to pools that need no
+/// bound or, if `without_bound` is false, only those to other pools. Returns `None` if there is
+/// none.
 fn lost_by_jobs(
     plan: &Plan,
     submitted_classes: &SubmittedClasses,
-    may_reject: bool,
+    without_bound: bool,
 ) -> Option<(usize, usize)>
     requires { (k : ℕ) → Has submitted_classes.now k ↔ IsSubmitted plan.now (repeated_bodies plan.now) k }
-    ensures lost { IfSome result (λ found. LostByJobs plan.now may_reject found.0 found.1) }
-    ensures none { IfNone result ((k i : ℕ) → ¬ LostByJobs plan.now may_reject k i) }
+    ensures lost { IfSome result (λ found. LostByJobs plan.now without_bound found.0 found.1) }
+    ensures none { IfNone result ((k i : ℕ) → ¬ LostByJobs plan.now without_bound k i) }
 {
     for number in 0..plan.classes().len() {
         let class = &plan.classes()[number];
         if submitted_classes.has(number) {
-            if let Some(action) = submit_without_get(plan, &class.body, may_reject) {
+            if let Some(action) = submit_without_get(plan, &class.body, without_bound) {
                 return Some((number, action));
             }
         }
@@ -127,16 +128,19 @@ fn lost_by_jobs(
     None
 }
 
-/// Returns the position of the first submit of the body that has no get and goes to a pool that may
-/// reject jobs or, if `may_reject` is false, to another pool. Returns `None` if there is none.
-fn submit_without_get(plan: &Plan, body: &[Action], may_reject: bool) -> Option<usize>
+/// Returns the position of the first submit of the body that has no get and goes to a pool that
+/// needs no bound or, if `without_bound` is false, to another pool. Returns `None` if there is
+/// none.
+fn submit_without_get(plan: &Plan, body: &[Action], without_bound: bool) -> Option<usize>
     ensures found { IfSome result
-        (λ i. IsNeverGot body.now i × (may_be_rejected plan.now body.now i ≡ may_reject)) }
+        (λ i. IsNeverGot body.now i × (goes_without_bound plan.now body.now i ≡ without_bound)) }
     ensures none { IfNone result
-        ((i : ℕ) → IsNeverGot body.now i → ¬ (may_be_rejected plan.now body.now i ≡ may_reject)) }
+        ((i : ℕ) → IsNeverGot body.now i → ¬ (goes_without_bound plan.now body.now i ≡ without_bound)) }
 {
     for position in 0..body.len() {
-        if is_without_get(body, position) && may_be_rejected(plan, body, position) == may_reject {
+        if is_without_get(body, position)
+            && goes_without_bound(plan, body, position) == without_bound
+        {
             return Some(position);
         }
     }
@@ -151,11 +155,11 @@ fn is_without_get(body: &[Action], position: usize) -> bool
     matches!(body[position], Action::Submit(_)) && !has_get_of(body, position)
 }
 
-/// Returns whether the pool to which the submit at this position goes may reject jobs.
-fn may_be_rejected(plan: &Plan, body: &[Action], position: usize) -> bool
-    ensures { result ≡ may_be_rejected plan.now body.now position }
+/// Returns whether the pool to which the submit at this position goes needs no bound.
+fn goes_without_bound(plan: &Plan, body: &[Action], position: usize) -> bool
+    ensures { result ≡ goes_without_bound plan.now body.now position }
 {
-    may_reject(plan, pool_of(plan, submitted_class(body, position)))
+    needs_no_bound(plan, pool_of(plan, submitted_class(body, position)))
 }
 
 /// Returns the index of the class's pool, or 0 if there is no such class.
@@ -168,11 +172,11 @@ fn pool_of(plan: &Plan, class: usize) -> usize
     }
 }
 
-fn may_reject(plan: &Plan, pool: usize) -> bool
-    ensures { result ≡ (pool_at plan.now pool).may_reject }
+fn needs_no_bound(plan: &Plan, pool: usize) -> bool
+    ensures { result ≡ needs_no_bound (pool_at plan.now pool) }
 {
     match plan.pool_at(pool) {
-        Some(pool) => pool.may_reject,
+        Some(pool) => pool.needs_no_bound(),
         None => false,
     }
 }

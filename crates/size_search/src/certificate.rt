@@ -1,5 +1,6 @@
 //! The steady certificate of a plan: a certificate in which one vector is both the standing vector
-//! and the blocked vector of every pool. A pool that may reject jobs has no standing vector.
+//! and the blocked vector of every pool. A pool that needs no bound, because it may reject jobs or
+//! its queue is unbounded, has no standing vector.
 
 ghost use Rattle.std.specs.Prelude.{◌≡◌, IfOk, IfSome, IfNone, true, false, map};
 ghost use Rattle.weights.specs.Vector.{has_small_numbers};
@@ -64,11 +65,15 @@ fn steady_vector(alloc: Global, plan: &Plan, levels: &[u64]) -> Result<Option<Ve
     }))
 }
 
-/// Returns the vector as the bound of a pool, or `None` if the pool may reject jobs.
-fn bound_of(alloc: Global, vector: &Vector, may_reject: bool) -> Result<Option<Bound>, AllocError>
-    ensures { IfOk result (λ bound. bound ≡ spec.bound_of vector.now may_reject) }
+/// Returns the vector as the bound of a pool, or `None` if the pool needs no bound.
+fn bound_of(
+    alloc: Global,
+    vector: &Vector,
+    needs_no_bound: bool,
+) -> Result<Option<Bound>, AllocError>
+    ensures { IfOk result (λ bound. bound ≡ spec.bound_of vector.now needs_no_bound) }
 {
-    if may_reject {
+    if needs_no_bound {
         return Ok(None);
     }
     let vector = copied(alloc, vector)?;
@@ -80,7 +85,7 @@ fn bound_of(alloc: Global, vector: &Vector, may_reject: bool) -> Result<Option<B
 fn pool_of(alloc: Global, vector: &Vector, pool: &Pool) -> Result<PoolCert, AllocError>
     ensures { IfOk result (λ part. part ≡ spec.pool_of vector.now pool.now) }
 {
-    let bound = bound_of(alloc, vector, pool.may_reject)?;
+    let bound = bound_of(alloc, vector, pool.needs_no_bound())?;
     let blocked = copied(alloc, vector)?;
     Ok(PoolCert { bound, blocked })
 }
@@ -101,7 +106,8 @@ fn pools_of(alloc: Global, plan: &Plan, vector: &Vector) -> Result<Vec<PoolCert>
 /// through other classes.
 ///
 /// With large enough sizes, this certificate accepts the plan if no repeating client causes a
-/// submit that is never got. It does not depend on the queue of a pool that may reject jobs.
+/// submit that is never got. It does not depend on the queue of a pool that may reject jobs, or
+/// that is unbounded.
 ///
 /// # Errors
 ///

@@ -13,8 +13,8 @@ use weights::{Ranks, Vector};
 /// Returns the certificate that results from a [`RankAssignment`] in which every pool has a rank.
 /// The sizes that this certificate needs can be smaller than the sizes of the assignment, so the
 /// caller computes them anew from the plan's sizes. Returns an obstacle as the error if a pool has
-/// no rank, if its blocked vector is not found, or if the bound of a pool that must not reject jobs
-/// is not found.
+/// no rank, if its blocked vector is not found, or if the bound of a pool that needs one is not
+/// found.
 pub(crate) fn cert_of(
     alloc: Global,
     cache: &mut VectorCache,
@@ -35,7 +35,8 @@ pub(crate) fn cert_of(
 }
 
 /// Returns the bound and the blocked vector of each pool. A pool that may reject jobs has a bound
-/// only if its queue is large enough for it.
+/// only if its queue is large enough for it, and a pool with an unbounded queue only if it has a
+/// standing vector.
 fn pool_certs(
     alloc: Global,
     cache: &mut VectorCache,

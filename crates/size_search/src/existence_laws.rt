@@ -1,14 +1,14 @@
 //! Laws about the existence of sizes with which a certificate accepts a plan. Each law is the
 //! contract of a function with an empty body. In the steady certificate of a plan, one vector is
-//! both the standing and the blocked vector of every pool, except that a pool that may reject jobs
-//! has no standing vector.
+//! both the standing and the blocked vector of every pool, except that a pool that needs no bound,
+//! because it may reject jobs or its queue is unbounded, has no standing vector.
 
 ghost use Rattle.size_search.specs.NoSizesHelp.{NoSizesHelp};
 ghost use Rattle.size_search.specs.NoSizesHelp.{SizesExist};
 
 /// States that no certificate accepts a plan with a cause, whatever its sizes. A cause is a class
 /// that submits itself, directly or through other classes, or a submit that is made forever and
-/// never got, to a pool that must not reject jobs.
+/// never got, to a pool that needs a bound.
 pub fn no_sizes_help()
     ensures { NoSizesHelp }
 {}
@@ -16,7 +16,7 @@ pub fn no_sizes_help()
 /// States when a plan has sizes with which some certificate accepts it. Assume that each weight of
 /// its steady certificate is at most `MAX_WEIGHT`, and that the total of its vector is below
 /// `MAX_SIZE`. Assume also that no repeating client causes a submit that is never got, to a pool
-/// that may reject jobs. Then such sizes exist exactly when no class submits itself, directly or
+/// that needs no bound. Then such sizes exist exactly when no class submits itself, directly or
 /// through other classes, and no repeating client causes a submit that is never got.
 pub fn sizes_exist()
     ensures { SizesExist }

@@ -2,7 +2,7 @@
 
 ghost use Rattle.std.specs.Prelude.{◌≡◌, ◌<◌, ◌^◌, if◌then◌else◌, IfOk, IfErr, IsTrue, None, Some, length, max, not, slice_index_or};
 ghost use Rattle.std.specs.List.{enumerate_from, find};
-ghost use Rattle.job_bodies.specs.Plan.{no_pool, pool_at};
+ghost use Rattle.job_bodies.specs.Plan.{needs_no_bound, no_pool, pool_at};
 ghost use Rattle.job_bodies.specs.WellFormed.{IsWellFormed};
 ghost use Rattle.weights.specs.Vector.{vector_fits};
 ghost use Rattle.weights.specs.Bound.{bound_vector};
@@ -49,7 +49,7 @@ fn queue_of_bound(plan: &Plan, bound: &Bound, pool: &Pool) -> u64
 }
 
 /// Returns the queue capacity that pool `number`, with the core and maximum of `pool`, needs for
-/// this bound, or 0 if there is no bound.
+/// this bound, or 0 if there is no bound or the queue is unbounded.
 fn queue_needed(plan: &Plan, bound: &Option<Bound>, number: usize, pool: &Pool) -> u64
     requires well_formed { IsWellFormed plan.now }
     requires fits { IsTrue (bound_fits plan.now number bound.now) }
@@ -57,17 +57,18 @@ fn queue_needed(plan: &Plan, bound: &Option<Bound>, number: usize, pool: &Pool) 
     ensures { result ≡ spec.queue_needed plan.now bound.now pool.now }
 {
     match bound {
-        Some(bound) => queue_of_bound(plan, bound, pool),
-        None => 0,
+        Some(bound) if !pool.unbounded => queue_of_bound(plan, bound, pool),
+        _ => 0,
     }
 }
 
-/// Returns the queue capacity of the pool, raised to `needed`. A pool that may reject jobs keeps its
+/// Returns the queue capacity of the pool, raised to `needed`. A pool that needs no bound keeps its
 /// capacity.
 fn raised_queue(pool: &Pool, needed: u64) -> u64
-    ensures { result ≡ (if pool.now.may_reject then pool.now.queue else max pool.now.queue needed) }
+    ensures { result
+        ≡ (if needs_no_bound pool.now then pool.now.queue else max pool.now.queue needed) }
 {
-    if pool.may_reject {
+    if pool.needs_no_bound() {
         pool.queue
     } else {
         pool.queue.max(needed)
@@ -76,7 +77,7 @@ fn raised_queue(pool: &Pool, needed: u64) -> u64
 
 /// Returns the pool with this number, with its core and then its queue raised to what the
 /// certificate needs. A prestarted pool with a larger core can need a larger queue. The queue of a
-/// pool that may reject jobs stays unchanged.
+/// pool that needs no bound stays unchanged.
 fn raised_pool(alloc: Global, plan: &Plan, cert: &Cert, number: usize) -> Result<Pool, AllocError>
     requires fits { IsTrue (cert_fits plan.now cert.now) }
     requires number { number < length plan.now.pools }
@@ -205,8 +206,9 @@ fn unfit(
 /// maximums would not allow smaller cores. If there are no such cores and queues, returns the plan
 /// and the reason.
 ///
-/// The queue of a pool that may reject jobs stays unchanged. If the certificate has a bound of such
-/// a pool, the queue must be large enough for it.
+/// The queue of a pool that may reject jobs or has an unbounded queue stays unchanged. If the
+/// certificate has a bound of a pool that may reject jobs, the queue must be large enough for it,
+/// unless it is unbounded.
 ///
 /// # Errors
 ///
@@ -239,9 +241,9 @@ pub fn fitted(
 }
 
 fn smallest_queue(pool: &Pool) -> u64
-    ensures { result ≡ (if pool.now.may_reject then pool.now.queue else 1) }
+    ensures { result ≡ (if needs_no_bound pool.now then pool.now.queue else 1) }
 {
-    if pool.may_reject { pool.queue } else { 1 }
+    if pool.needs_no_bound() { pool.queue } else { 1 }
 }
 
 fn smallest_pool(alloc: Global, pool: &Pool) -> Result<Pool, AllocError>
@@ -265,9 +267,9 @@ fn smallest_pools(alloc: Global, plan: &Plan) -> Result<Vec<Pool>, AllocError>
 }
 
 /// Returns the plan with each core and each queue set to 1, except the queues of pools that may
-/// reject jobs, which stay unchanged. [`fitted`] raises the sizes of that plan to the least cores
-/// and queues with which the certificate accepts the plan. These sizes can be smaller than the
-/// declared sizes.
+/// reject jobs and the unbounded queues, which stay unchanged. [`fitted`] raises the sizes of that
+/// plan to the least cores and queues with which the certificate accepts the plan. These sizes can
+/// be smaller than the declared sizes.
 ///
 /// # Errors
 ///

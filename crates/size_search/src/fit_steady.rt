@@ -1,6 +1,6 @@
 //! The least sizes for the steady certificate, in which one vector is both the bound and the
-//! blocked vector of every pool, except that a pool that may reject jobs has no bound. They are
-//! used if the rounds find no sizes.
+//! blocked vector of every pool, except that a pool that may reject jobs or has an unbounded queue
+//! has no bound. They are used if the rounds find no sizes.
 
 ghost use Rattle.std.specs.Prelude.{◌≡◌, ◌≤◌, IfOk, IfSome, IfNone, IsTrue};
 ghost use Rattle.job_bodies.specs.WellFormed.{IsWellFormed};
@@ -12,7 +12,7 @@ ghost use Rattle.size_search.specs.Submitted.{IsAllGot, IsWithoutCause};
 ghost use Rattle.size_search.specs.Steady.{steady_vector, steady_total, steady_cert};
 ghost use Rattle.size_search.specs.Sized.{IsSized, IsFound, IsTooLarge};
 
-use crate::causes::loses_rejected;
+use crate::causes::loses_without_bound;
 use crate::found::{NoSizes, Obstacle, SizesFound};
 use crate::{fitted, steady, widened};
 use cert_text::Cert;
@@ -31,7 +31,7 @@ pub(crate) fn fit_steady(
     requires well_formed { IsWellFormed plan.now }
     ensures found { IfOk result (IsFound plan.now) }
 {
-    let is_lost = loses_rejected(alloc, plan)?;
+    let is_lost = loses_without_bound(alloc, plan)?;
     if is_lost {
         return Ok(too_large(plan, obstacle));
     }

@@ -8,8 +8,8 @@ ghost use Rattle.size_search.specs.Unfit.{ReportedCoresNeedLargerMaxes};
 /// States that the fitted plan is larger, that the certificate accepts it, and that no larger plan
 /// that the certificate accepts has a smaller core or queue. If there is no fitted plan, the
 /// certificate accepts no larger plan. A plan is *larger* here if it differs from the given one
-/// only in cores and queues, none of them is smaller, and each pool that may reject jobs has the
-/// same queue.
+/// only in cores and queues, none of them is smaller, and each pool that may reject jobs or has an
+/// unbounded queue has the same queue.
 pub fn fitted_sizes_are_least()
     ensures { FittedSizesAreLeast }
 {}
@@ -20,14 +20,15 @@ pub fn accepted_plans_fit()
 {}
 
 /// States that a certificate that accepts a plan also accepts it with other cores and queues. This
-/// holds if no core becomes smaller, and if no pool then has a smaller limit on the total of its
-/// bound.
+/// holds if no core becomes smaller, and if no pool whose queue is not unbounded then has a smaller
+/// limit on the total of its bound.
 pub fn larger_sizes_are_accepted()
     ensures { LargerSizesAreAccepted }
 {}
 
 /// States that fitting a plan whose cores and queues are 1 gives the least cores and queues with
-/// which the certificate accepts the plan. The queue of a pool that may reject jobs stays unchanged.
+/// which the certificate accepts the plan. The queue of a pool that may reject jobs or has an
+/// unbounded queue stays unchanged.
 pub fn smallest_fit_is_least()
     ensures { SmallestFitIsLeast }
 {}

@@ -23,8 +23,9 @@ pub enum NoSizes {
     Cause(Cause),
     /// The plan's steady certificate needs sizes above 1,000,000 or has a weight above
     /// [`MAX_WEIGHT`](job_bodies::MAX_WEIGHT), or no size is enough for it, because a submit to a
-    /// pool that may reject jobs is made forever and never got. The first attempt failed at the pool
-    /// with this number. The number is 0 if it failed at no particular pool. Other sizes can exist.
+    /// pool that may reject jobs or has an unbounded queue is made forever and never got. The first
+    /// attempt failed at the pool with this number. The number is 0 if it failed at no particular
+    /// pool. Other sizes can exist.
     TooLarge(usize),
 }
 

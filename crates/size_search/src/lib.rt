@@ -43,6 +43,6 @@ pub use fitted_laws::{
 pub use found::{NoSizes, SizesFound};
 pub use search::search_sizes;
 pub use steady_laws::steady_certificates_accept;
-pub use submitted::submitted_by_clients;
+pub use submitted::{submitted_by_clients, submitted_repeatedly};
 pub use unfit::Unfit;
 pub use wide::widened;

@@ -8,6 +8,8 @@ use std::alloc::{AllocError, Global};
 pub(crate) struct PoolThreads {
     pub(crate) core: u64,
     pub(crate) max: u64,
+    /// Whether the queue of the pool is unbounded, so that its maximum has no effect.
+    pub(crate) unbounded: bool,
 }
 
 impl PoolThreads {
@@ -16,21 +18,27 @@ impl PoolThreads {
         PoolThreads {
             core: pool.core,
             max: pool.max,
+            unbounded: pool.unbounded,
         }
     }
 
     /// Returns the amount by which `core` exceeds the current core, plus the amount by which it
-    /// exceeds the maximum. An amount is 0 if `core` is not larger.
+    /// exceeds the maximum. An amount is 0 if `core` is not larger. The maximum of a pool with an
+    /// unbounded queue does not count.
     pub(crate) fn shortfall(self, core: u64) -> u64 {
-        let max = core.saturating_sub(self.max);
-        core.saturating_sub(self.core).saturating_add(max)
+        self.raised(core).growth(self)
     }
 
     /// Returns the amount by which this core exceeds the core of `other`, plus the amount by which
-    /// this maximum exceeds the maximum of `other`. An amount is 0 if the size is not larger.
+    /// this maximum exceeds the maximum of `other`. An amount is 0 if the size is not larger. The
+    /// maximum of a pool with an unbounded queue does not count.
     pub(crate) fn growth(self, other: PoolThreads) -> u64 {
-        let max = self.max.saturating_sub(other.max);
-        self.core.saturating_sub(other.core).saturating_add(max)
+        let core = self.core.saturating_sub(other.core);
+        if self.unbounded {
+            core
+        } else {
+            core.saturating_add(self.max.saturating_sub(other.max))
+        }
     }
 
     /// Returns the core and the maximum, each raised to `core` if it is smaller.
@@ -38,6 +46,7 @@ impl PoolThreads {
         PoolThreads {
             core: self.core.max(core),
             max: self.max.max(core),
+            unbounded: self.unbounded,
         }
     }
 }

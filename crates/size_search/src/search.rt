@@ -43,21 +43,22 @@ const FEW_POOLS: usize = 8;
 /// one pool reset to its declared core and maximum. The result is the attempt with the smallest sum
 /// of increases.
 ///
-/// The queue of a pool that may reject jobs stays unchanged. The certificate has a bound of such a
-/// pool only if the search finds one that its queue is large enough for.
+/// The queue of a pool that may reject jobs or has an unbounded queue stays unchanged. The
+/// certificate has a bound of such a pool only if the search finds one that its queue is large
+/// enough for. An unbounded queue is large enough for each standing vector.
 ///
 /// The *steady certificate* of a plan has one vector that is both the bound and the blocked vector
-/// of every pool, except that a pool that may reject jobs has no bound. It is too large if it needs
-/// sizes above 1,000,000 or has a weight above [`MAX_WEIGHT`](job_bodies::MAX_WEIGHT), or if no size
-/// is enough for it, because a submit to a pool that may reject jobs is made forever and never got.
-/// If no attempt succeeds, the result is the steady certificate with the least sizes for it, unless
-/// it is too large.
+/// of every pool, except that a pool that may reject jobs or has an unbounded queue has no bound.
+/// It is too large if it needs sizes above 1,000,000 or has a weight above
+/// [`MAX_WEIGHT`](job_bodies::MAX_WEIGHT), or if no size is enough for it, because a submit to a
+/// pool that needs no bound is made forever and never got. If no attempt succeeds, the result is
+/// the steady certificate with the least sizes for it, unless it is too large.
 ///
 /// If no sizes are found, one of these is the reason:
 ///
 /// - The plan has a cause, so no sizes are enough: a class submits itself, directly or through
-///   other classes, or a repeating client causes a submit that is never got, to a pool that must not
-///   reject jobs.
+///   other classes, or a repeating client causes a submit that is never got, to a pool that needs a
+///   bound.
 /// - The steady certificate is too large. Other sizes can exist.
 ///
 /// If the plan has no cause and its steady certificate is not too large, sizes are found. Unless

@@ -4,7 +4,7 @@ ghost use Rattle.std.specs.Prelude.{◌↔◌, ℕ, List, IfOk};
 ghost use Rattle.support.specs.In.{In};
 ghost use Rattle.job_bodies.specs.declared.action.Action.{Action};
 ghost use Rattle.size_search.specs.Submitted.{IsSubmitted, repeated_bodies};
-ghost use Rattle.size_search.specs.ByClients.{MarksSubmitted, client_bodies};
+ghost use Rattle.size_search.specs.ByClients.{MarksSubmitted, MarksRepeated, client_bodies};
 ghost use Rattle.size_search.specs.Reaching.{Has, Covers, IsReaching};
 
 use crate::submitted_classes::SubmittedClasses;
@@ -22,6 +22,19 @@ pub fn submitted_by_clients(alloc: Global, plan: &Plan) -> Result<Vec<bool>, All
     let mut submitted_classes = classes_of_clients(alloc, plan)?;
     submitted_classes.add_all(plan)?;
     Ok(submitted_classes.into_marks())
+}
+
+/// Returns, for each class, whether repeating clients submit it, directly or through other jobs.
+///
+/// # Errors
+///
+/// Returns [`AllocError`] if memory runs out.
+pub fn submitted_repeatedly(alloc: Global, plan: &Plan) -> Result<Vec<bool>, AllocError>
+    ensures { IfOk result (λ marks. MarksRepeated plan.now marks.items) }
+{
+    let mut repeated = classes_of_repeating_clients(alloc, plan)?;
+    repeated.add_all(plan)?;
+    Ok(repeated.into_marks())
 }
 
 /// Returns the classes that repeating clients submit, directly or through other jobs.

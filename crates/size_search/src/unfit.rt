@@ -20,7 +20,8 @@ pub enum Unfit {
     /// be raised, above 1,000,000.
     Core(usize),
     /// The queue of the pool with this number would be above 1,000,000, or would have to grow although
-    /// the pool may reject jobs, so that its queue stays unchanged.
+    /// the pool may reject jobs, so that its queue stays unchanged. An unbounded queue is never the
+    /// reason.
     Queue(usize),
 }
 

@@ -1,11 +1,15 @@
 -- The meaning of status 0 of `fit`.
-use Rattle.std.proofs.Common.{◌≡◌, ◌≤◌, ◌<◌, ℕ, inl, inr, Bool, true, false, List, [], ◌∷◌, ◌++◌, length, arith, Result, Ok, Err, IsTrue, refl, sym, ap, subst, ◌∙◌}
+use Rattle.std.proofs.Common.{◌≡◌, ◌≤◌, ◌<◌, ℕ, inl, inr, Bool, true, false, ◌||◌, List, [], ◌∷◌, ◌++◌, length, arith, Result, Ok, Err, IsTrue, refl, sym, ap, subst, ◌∙◌}
 use Rattle.std.specs.Prelude.{MatchBool, nat_lt, ◌==◌}
-use Rattle.std.proofs.lemmas.Bool.{eqb-true}
+use Rattle.std.proofs.lemmas.Bool.{eqb-true, cases_lt}
 use Rattle.std.proofs.lemmas.List.{length-append}
-use Rattle.job_bodies.specs.Plan.{Plan}
+use Rattle.job_bodies.specs.Plan.{Pool, Plan, pool_at}
+use Rattle.job_bodies.proofs.Bodies.{ordered}
+use Rattle.size_search.proofs.Changes.{length-outline, pool_at-outline}
 use Rattle.job_bodies.specs.declared.fault.PlanFault.{PlanFault}
 use Rattle.plan_text.specs.PlanOf.{plan_of}
+use Rattle.plan_text.specs.EffectivePlan.{effective_plan}
+use Rattle.plan_text.proofs.EffectivePlans.{effective_by_sizes, sizes_of_effective}
 use Rattle.cert_text.specs.Cert.{Cert}
 use Rattle.job_bodies.specs.declared.limits.TheConstants.{MAX_CERT_BYTES, MAX_INPUT_BYTES}
 use Rattle.cert_text.specs.CertText.{cert_text}
@@ -22,8 +26,28 @@ use Rattle.sizing_cli.specs.declared.status.Status.TheVariants.{Done, Refused, B
 use Rattle.sizing_cli.specs.Answer.{Answer, yes_or_no, input_too_long}
 use Rattle.sizing_cli.specs.SafeInput.{IsSafePlan}
 use Rattle.sizing_cli.specs.Certify.{HasLongText}
-use Rattle.sizing_cli.specs.Fit.{no_sizes_answer, text_too_long, AnswersFound, AnswersReading, IsFitAnswer, IsFittedBundle}
+use Rattle.sizing_cli.specs.Fit.{no_sizes_answer, text_too_long, AreEffective, AnswersFound, AnswersReading, IsFitAnswer, IsFittedBundle}
 use Rattle.sizing_cli.proofs.SafeInputs.{yes_from_done}
+
+-- ---- the plan that was fitted
+
+either_true : (a b : Bool) → b ≡ true → (a || b) ≡ true
+either_true true b on = refl
+either_true false b on = on
+
+-- if the plan is its own effective plan, so is the plan with the sizes that were found: where a maximum grows, it equals its core
+pub fit_is_effective : (plan fit : Plan) (cert : Cert) → effective_plan plan ≡ plan → IsSized plan cert fit → effective_plan fit ≡ fit
+fit_is_effective plan fit cert same sized = effective_by_sizes fit (λ p inside on.
+    let alike = sym (pool_at-outline fit p) ∙ ap (λ (q : Plan). pool_at q p) sized.fits.same_outline ∙ pool_at-outline plan p in
+    let was : (pool_at plan p).unbounded ≡ true = sym (ap (λ (pool : Pool). pool.unbounded) alike) ∙ on in
+    let as_many : length fit.pools ≡ length plan.pools = sym (length-outline fit) ∙ ap (λ (q : Plan). length q.pools) sized.fits.same_outline ∙ length-outline plan in
+    let declared = sizes_of_effective plan same p (omega (arith, as_many, inside)) was in
+    let sizes = ordered fit sized.fits.well_formed in
+    let max : (pool_at fit p).max ≡ (pool_at fit p).core = elim (cases_lt (pool_at plan p).max (pool_at fit p).max) [
+      | inl above ↦ sized.max_is_core p above
+      | inr past ↦ omega (arith, past, sizes.max p inside, sized.no_smaller.core p, declared.0)
+    ] in
+    (max, sized.keeps_queues.same_queue p (either_true (pool_at plan p).may_reject (pool_at plan p).unbounded was) ∙ declared.1))
 
 -- an answer with the status Refused does not have the status Done
 pub refused_is_not_done : (answer other : Answer) → answer ≡ other → other.status ≡ Refused → answer.status ≡ Done → ⊥
@@ -35,6 +59,11 @@ pub bad_text_is_not_done : (answer other : Answer) → answer ≡ other → othe
 bad_text_is_not_done answer other same bad done =
     let no : BadText ≡ Done = sym bad ∙ (sym (ap (λ (a : Answer). a.status) same) ∙ done) in
     absurd cc
+
+-- the same for the result of a search
+pub found_is_effective : (plan : Plan) (found : SizesFound) → effective_plan plan ≡ plan → IsFound plan found → AreEffective found
+found_is_effective plan (Found fit cert) same sized = fit_is_effective plan fit cert same sized
+found_is_effective plan (NotFound cause) same is_cause = tt
 
 -- if no size changes, the certificate accepts the plan as it is
 sized_as_it_is : (plan fit : Plan) (cert : Cert) → IsSized plan cert fit → changes plan fit ≡ 0 → IsTrue (accepted plan cert)
@@ -80,15 +109,15 @@ pub record IsFittedTo (input text : List ℕ) : Type 0 where
 pub bundle_means_fitted : (input : List ℕ) (answer : Answer) → IsFitAnswer Bundle input answer → answer.status ≡ Done → IsFittedTo input answer.text
 bundle_means_fitted input answer is done = by_length (nat_lt MAX_INPUT_BYTES (length input)) is
   where
-    by_found : (plan : Plan) → plan_of input ≡ Ok plan → (found : SizesFound) → IsFound plan found → AnswersFound Bundle plan found answer → IsFittedTo input answer.text
-    by_found plan is_plan (NotFound cause) is_cause is = absurd (refused_is_not_done answer (no_sizes_answer plan cause) is refl done)
-    by_found plan is_plan (Found fit cert) sized (inl long) = absurd (refused_is_not_done answer text_too_long long.0 refl done)
-    by_found plan is_plan (Found fit cert) sized (inr bundled) =
-        record { plan = plan; is_plan = is_plan; bundle = record { cert = cert; fit = fit; is_sized = sized; bundle = bundled.bundle } }
+    by_found : (plan : Plan) → plan_of input ≡ Ok plan → (found : SizesFound) → IsFound plan found → AreEffective found → AnswersFound Bundle plan found answer → IsFittedTo input answer.text
+    by_found plan is_plan (NotFound cause) is_cause effective is = absurd (refused_is_not_done answer (no_sizes_answer plan cause) is refl done)
+    by_found plan is_plan (Found fit cert) sized effective (inl long) = absurd (refused_is_not_done answer text_too_long long.0 refl done)
+    by_found plan is_plan (Found fit cert) sized effective (inr bundled) =
+        record { plan = plan; is_plan = is_plan; bundle = record { cert = cert; fit = fit; is_sized = sized; effective = effective; bundle = bundled.bundle } }
 
     by_plan : (read : Result Plan PlanFault) → plan_of input ≡ read → AnswersReading Bundle read answer → IsFittedTo input answer.text
     by_plan (Err fault) is_fault bad = absurd (bad_text_is_not_done answer _ bad refl done)
-    by_plan (Ok plan) is_plan answers = by_found plan is_plan answers.found answers.is_found answers.answers
+    by_plan (Ok plan) is_plan answers = by_found plan is_plan answers.found answers.is_found answers.effective answers.answers
 
     by_length : (long : Bool) → MatchBool long (answer ≡ input_too_long) (AnswersReading Bundle (plan_of input) answer) → IsFittedTo input answer.text
     by_length true too_long = absurd (bad_text_is_not_done answer input_too_long too_long refl done)

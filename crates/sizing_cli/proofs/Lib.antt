@@ -6,6 +6,7 @@ pub mod LastSeparator
 pub mod SafeInputs
 pub mod Certified
 pub mod FittedAnswers
+mod EffectiveLearned
 pub mod AsDeclared
 pub mod RefutedAnswers
 mod SearchedPlans

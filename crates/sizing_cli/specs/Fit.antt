@@ -1,11 +1,12 @@
 -- The possible answers of `fit` to an input: a relation, since it does not fix which sizes are found.
-use Rattle.std.specs.Prelude.{◌≡◌, ◌⊎◌, ◌<◌, ℕ, nat_lt, ◌==◌, List, [], ◌∷◌, ◌++◌, length, codes, Result, Ok, Err, IsTrue, MatchBool}
+use Rattle.std.specs.Prelude.{◌≡◌, ◌⊎◌, ◌<◌, ⊤, ℕ, nat_lt, ◌==◌, List, [], ◌∷◌, ◌++◌, length, codes, Result, Ok, Err, IsTrue, MatchBool}
 use Rattle.job_bodies.specs.Plan.{Plan}
 use Rattle.job_bodies.specs.FaultText.{fault_line}
 use Rattle.job_bodies.specs.declared.fault.PlanFault.{PlanFault}
 use Rattle.job_bodies.specs.declared.limits.TheConstants.{MAX_PLAN_BYTES, MAX_INPUT_BYTES}
 use Rattle.plan_text.specs.PlanOf.{plan_of}
 use Rattle.plan_text.specs.PlanDocument.{IsPlanText}
+use Rattle.plan_text.specs.EffectivePlan.{effective_plan}
 use Rattle.cert_text.specs.Cert.{Cert}
 use Rattle.cert_text.specs.CertText.{cert_text}
 use Rattle.soundness.specs.Accepted.{accepted}
@@ -44,11 +45,12 @@ pub record HasLongPlanText (plan : Plan) : Type 0 where
   pub is_text : IsPlanText plan text
   pub long : MAX_PLAN_BYTES < length text
 
--- the bundle of the written text of the fitted plan and of the certificate, which `check` accepts
+-- the bundle of the written text of the fitted plan and of the certificate, which `check` accepts; the text is read as the fitted plan,
+-- with the sizes of unbounded pools that have no effect as in every text
 pub record IsBundleOf (fit : Plan) (cert : Cert) (text : List ℕ) : Type 0 where
   pub fit_text : List ℕ
   pub is_text : IsPlanText fit fit_text
-  pub is_fit : plan_of fit_text ≡ Ok fit
+  pub is_fit : plan_of fit_text ≡ Ok (effective_plan fit)
   pub bundle : IsBundleWith fit_text (cert_text cert ++ 10 ∷ []) text
 
 pub record IsBundled (fit : Plan) (cert : Cert) (answer : Answer) : Type 0 where
@@ -70,12 +72,18 @@ pub record IsAsDeclared (plan : Plan) (found : SizesFound) : Type 0 where
   pub cert : Cert
   pub is : found ≡ Found plan cert
 
+-- the sizes that were found are those of a plan that a text can have: it is its own effective plan
+abbrev pub AreEffective : SizesFound → Type 0
+AreEffective (Found fit cert) = effective_plan fit ≡ fit
+AreEffective (NotFound cause) = ⊤
+
 -- the answers for a plan: the result is true of the plan, decides whether there are sizes, and is reported; if the steady
 -- certificate accepts the plan, no size changes
 pub record AnswersPlan (sizes_form : SizesForm) (plan : Plan) (answer : Answer) : Type 0 where
   pub found : SizesFound
   pub is_found : IsFound plan found
   pub is_decided : IsDecided plan found
+  pub effective : AreEffective found
   pub unchanged : IsTrue (accepted plan (steady_cert plan)) → IsAsDeclared plan found
   pub answers : AnswersFound sizes_form plan found answer
 
@@ -93,4 +101,5 @@ pub record IsFittedBundle (plan : Plan) (text : List ℕ) : Type 0 where
   pub cert : Cert
   pub fit : Plan
   pub is_sized : IsSized plan cert fit
+  pub effective : effective_plan fit ≡ fit
   pub bundle : IsBundleOf fit cert text

@@ -98,7 +98,7 @@ pub record IsTextOf (seen : InferredPlan) (plan : Plan) (rejections : List PoolR
   pub is_written : IsPlanText plan written
   pub text_is : text ≡ head_comment seen ++ (rejection_comments plan rejections ++ (comments plan findings ++ 10 ∷ written))
 
--- The text is a plan's. Its pools are those of the recording, and exactly those that reject jobs there may reject jobs. The count of each
+-- The text is a plan's. Its pools are those of the recording, and exactly those that reject jobs there or have a queue of 0 may reject jobs. The count of each
 -- kind of client is the largest number seen at once. The jobs and the rounds follow its bodies, and it has enough clients. Every other finding is in a comment at
 -- its head, in the order of the recording's lines. If there is none, the recording conforms to the plan.
 pub record IsLearnedText (recording text : List ℕ) : Type 0 where

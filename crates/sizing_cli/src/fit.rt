@@ -6,6 +6,7 @@ ghost use Rattle.size_search.specs.Steady.{steady_cert};
 ghost use Rattle.size_search.specs.Sized.{IsFound};
 ghost use Rattle.size_search.specs.Decided.{IsDecided};
 ghost use Rattle.sizing_cli.specs.Fit as spec;
+ghost use Rattle.plan_text.specs.EffectivePlan.{effective_plan};
 ghost use Rattle.sizing_cli.specs.ServeFault.{is_of_search};
 
 use crate::answer::{Answer, input_too_long, plan_fault};
@@ -54,12 +55,14 @@ pub fn fit<R: Threads + Wait + Sync>(
     }
 }
 
+#[tactic(auto, using(crate::proofs::FittedAnswers::found_is_effective))]
 fn fit_plan<R: Threads + Wait + Sync>(
     rt: &R,
     alloc: Global,
     sizes_form: SizesForm,
     plan: &Plan,
 ) -> Result<Output, ServeFault>
+    requires { effective_plan plan.now ≡ plan.now }
     ensures answer { IfOk result (spec.AnswersPlan sizes_form plan.now) }
     ensures fault { IfErr result (λ fault. IsTrue (is_of_search fault.number)) }
 {

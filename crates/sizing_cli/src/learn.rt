@@ -4,6 +4,7 @@ ghost use Rattle.std.specs.Prelude.{◌≡◌, ◌≤◌, ◌++◌, IfOk, IfSome
 ghost use Rattle.std.specs.List.{list_any};
 ghost use Rattle.support.specs.Pushed.{Pushes};
 ghost use Rattle.plan_text.specs.PlanOf.{plan_of};
+ghost use Rattle.plan_text.specs.EffectivePlan.{effective_plan};
 ghost use Rattle.job_bodies.specs.declared.limits.TheConstants.{MAX_PLAN_BYTES};
 ghost use Rattle.recordings.specs.RecordingLine.{lines_read};
 ghost use Rattle.recordings.specs.Faults.{IsFirstFault};
@@ -120,6 +121,7 @@ fn commented_plan(
     rejections: &[PoolRejections],
     findings: &[Finding],
 ) -> Result<Option<String>, AllocError>
+    requires { effective_plan plan.now ≡ plan.now }
     ensures { IfOk result (λ found.
         IfSome found (λ text.
         spec.IsTextOf seen.now plan.now rejections.now findings.now (string_bytes text))) }

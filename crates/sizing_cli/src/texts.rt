@@ -4,6 +4,7 @@
 ghost use Rattle.std.specs.Prelude.{◌≡◌, IfOk, IsTrue};
 ghost use Rattle.cert_text.specs.Cert.{cert_fits};
 ghost use Rattle.cert_text.specs.CertOf.{cert_of};
+ghost use Rattle.plan_text.specs.EffectivePlan.{effective_plan};
 ghost use Rattle.plan_text.specs.PlanOf.{plan_of};
 
 use cert_text::{Cert, CertFault, read_cert};
@@ -18,7 +19,8 @@ use support::number::MEMORY;
 ///
 /// [`AllocError`] if memory runs out.
 pub(crate) fn plan_in(alloc: Global, text: &[u8]) -> Result<Result<Plan, PlanFault>, AllocError>
-    ensures { IfOk result (λ read. read ≡ plan_of text.now) }
+    ensures read { IfOk result (λ read. read ≡ plan_of text.now) }
+    ensures effective { IfOk result (λ read. IfOk read (λ plan. effective_plan plan ≡ plan)) }
 {
     match read_plan(alloc, text) {
         Ok(plan) => Ok(Ok(plan)),

@@ -4,7 +4,7 @@ use Rattle.std.proofs.Common.{◌≡◌, ℕ, Bool, true, false, cond, not, ◌&
 use Rattle.std.proofs.lemmas.Bool.{and_from, or_left, eq-eqb}
 use Rattle.std.proofs.lemmas.Option.{same_Some}
 use Rattle.job_bodies.specs.Plan.{Plan, pool_at}
-use Rattle.pool_machine.specs.PoolState.{queue_limit}
+use Rattle.pool_machine.specs.PoolState.{room_limit}
 use Rattle.pool_machine.specs.declared.offer.Offer.{Offer}
 use Rattle.pool_machine.specs.declared.offer.Offer.TheVariants as offer
 use Rattle.written_machine.specs.declared.parent.Parent.{Parent}
@@ -65,7 +65,7 @@ look plan s e a i k below next is_below =
     next [] [] ∙ ap (λ (b : Bool). Some (cond b (is_answered plan s a i k offer.Started) (offers_job_next s a (pool_of plan k)))) is_below
 
 -- the second step queues the job if the queue has room, and otherwise the call requests a thread next
-offer_it : (plan : Plan) (s : State) (e : Event) (a : Parent) (i k : ℕ) (room : Bool) → IsNextStep plan s e a i k → ltb (length (pool_part s (pool_of plan k)).queue) (queue_limit (pool_at plan (pool_of plan k)).queue (pool_part s (pool_of plan k)).idle) ≡ room
+offer_it : (plan : Plan) (s : State) (e : Event) (a : Parent) (i k : ℕ) (room : Bool) → IsNextStep plan s e a i k → ltb (length (pool_part s (pool_of plan k)).queue) (room_limit (pool_at plan (pool_of plan k)).unbounded (pool_at plan (pool_of plan k)).queue (pool_part s (pool_of plan k)).idle (length (pool_part s (pool_of plan k)).queue)) ≡ room
     → java_step plan (offers_job_next s a (pool_of plan k)) e ≡ Some (cond room (is_answered plan s a i k offer.Queued) (requests_thread_next s a (pool_of plan k)))
 offer_it plan s e a i k room next has_room =
     let p = pool_of plan k in
@@ -89,7 +89,7 @@ ask plan s e a i k below next is_below =
 -- the steps of a submit lead to the state after the atomic submit
 submit_follows : (plan : Plan) (s : State) (e : Event) (a : Parent) (i k : ℕ) (below_core room below_max : Bool) → IsNextStep plan s e a i k
     → ltb (threads plan s (pool_of plan k)) (pool_at plan (pool_of plan k)).core ≡ below_core
-    → ltb (length (pool_part s (pool_of plan k)).queue) (queue_limit (pool_at plan (pool_of plan k)).queue (pool_part s (pool_of plan k)).idle) ≡ room
+    → ltb (length (pool_part s (pool_of plan k)).queue) (room_limit (pool_at plan (pool_of plan k)).unbounded (pool_at plan (pool_of plan k)).queue (pool_part s (pool_of plan k)).idle (length (pool_part s (pool_of plan k)).queue)) ≡ room
     → ltb (threads plan s (pool_of plan k)) (pool_at plan (pool_of plan k)).max ≡ below_max
     → Follows plan s (answered plan s a i k (cond below_core offer.Started (cond room offer.Queued (cond below_max offer.Started offer.Refused)))).0
 submit_follows plan s e a i k true room below_max next is_below has_room is_below_max = (e ∷ [], look plan s e a i k true next is_below)
@@ -118,7 +118,7 @@ event_follows plan s e x (Some y) is_found is_step =
     let result : submitted plan s y.actor y.position y.class ≡ x =
     same_Some (submitted plan s y.actor y.position y.class) x (sym submitting.stepping ∙ sym (step_of plan s y.actor) ∙ ap (step plan s) submitting.same ∙ is_step) in
     subst (λ (after : State × Outcome). Follows plan s after.0) result
-    (submit_follows plan s e y.actor y.position y.class (ltb (threads plan s p) (pool_at plan p).core) (ltb (length (pool_part s p).queue) (queue_limit (pool_at plan p).queue (pool_part s p).idle)) (ltb (threads plan s p) (pool_at plan p).max)
+    (submit_follows plan s e y.actor y.position y.class (ltb (threads plan s p) (pool_at plan p).core) (ltb (length (pool_part s p).queue) (room_limit (pool_at plan p).unbounded (pool_at plan p).queue (pool_part s p).idle (length (pool_part s p).queue))) (ltb (threads plan s p) (pool_at plan p).max)
     (λ offering requesting. ap (java_stepped plan (record { machine = s; offering = offering; requesting = requesting }) e) is_found) refl refl refl)
 
 -- ---- lists of events

@@ -1,17 +1,18 @@
 -- The invariants of the reachable states of a plan in which each pool has a bound whose rows hold, or may reject jobs.
 use Rattle.std.specs.Prelude.{⊤}
-use Rattle.std.proofs.Common.{◌≡◌, ℕ, ◌<◌, ◌≤◌, true, false, List, length, Option, Some, None, refl, sym, ◌∙◌}
+use Rattle.std.proofs.Common.{◌≡◌, ℕ, ◌<◌, ◌≤◌, Bool, true, false, ◌||◌, List, length, Option, Some, None, refl, sym, ap₂, ◌∙◌}
 use Rattle.std.proofs.lemmas.Bool.{false≢true}
 use Rattle.job_bodies.specs.declared.action.Action.{Action}
 use Rattle.job_bodies.specs.declared.action.Action.TheVariants as action
-use Rattle.job_bodies.specs.Plan.{Plan, pool_at}
+use Rattle.job_bodies.specs.Plan.{Pool, Plan, pool_at, needs_no_bound}
 use Rattle.job_bodies.proofs.Bodies.{HasValidBodies, ordered}
+use Rattle.pool_machine.proofs.QueueLimits.{bounded_within}
 use Rattle.written_machine.specs.declared.event.Event.{Event}
 use Rattle.written_machine.specs.declared.event.Outcome.{Outcome}
 use Rattle.written_machine.specs.declared.parent.Parent.{Parent}
 use Rattle.written_machine.specs.State.{State, pool_of, pool_part, threads}
 use Rattle.written_machine.specs.Reach.{start}
-use Rattle.written_machine.proofs.Events.{IsAtAction, Happens, works, starts, queues, is_refused, is_rejected, gets, finishes, loops, takes, retires}
+use Rattle.written_machine.proofs.Events.{IsAtAction, HasNoRoom, Happens, works, starts, queues, is_refused, is_rejected, gets, finishes, loops, takes, retires}
 use Rattle.written_machine.proofs.StateInvariant.{StateInvariant}
 use Rattle.written_machine.proofs.InvariantAtStart.{kept_start}
 use Rattle.written_machine.proofs.InvariantSubmits.{class_exists}
@@ -39,9 +40,9 @@ pub record Bounded (plan : Plan) (bounds : ℕ → Option Bound) (s : State) : T
   pub balanced : (p : ℕ) → p < length plan.pools → IsBoundBalanced plan (bounds p) s
   pub none_refused : s.refusals ≡ 0
 
--- the inequalities of the bound of pool p hold, and a rejected job does not increase its weight; a pool without a bound may reject jobs
+-- the inequalities of the bound of pool p hold, and a rejected job does not increase its weight; a pool without a bound needs none
 abbrev pub BoundHolds : Plan → ℕ → Option Bound → Type 0
-BoundHolds plan p None = (pool_at plan p).may_reject ≡ true
+BoundHolds plan p None = needs_no_bound (pool_at plan p) ≡ true
 BoundHolds plan p (Some bound) = BoundLaws plan p bound × RejectedAreLight plan (bound_vector bound)
 
 abbrev pub BoundsHold : Plan → (ℕ → Option Bound) → Type 0
@@ -63,11 +64,15 @@ bound_balanced_step plan p None s s' o ordered holds kept happened balanced = tt
 bound_balanced_step plan p (Some bound) s s' o ordered holds kept happened balanced =
     balanced_step (bound_get_return bound) plan (bound_vector bound) s s' (never_rises (bound_get_return bound) plan (bound_vector bound) s s' o ordered (bound_vector_laws plan p bound holds.0) holds.1 kept happened) balanced
 
+-- a pool that must not reject jobs, and whose queue is bounded, needs a bound
+pub needs_a_bound : (pool : Pool) → pool.may_reject ≡ false → pool.unbounded ≡ false → needs_no_bound pool ≡ true → ⊥
+needs_a_bound pool must bounded none = false≢true (sym (ap₂ (λ (a b : Bool). a || b) must bounded) ∙ none)
+
 -- no submit to a pool that has a bound, or must not reject jobs, finds the queue full while the pool has max threads
 must_not_refuse : (plan : Plan) (bound : Option Bound) (s : State) (a : Parent) (body : List Action) (i k : ℕ) → HasValidBodies plan → BoundHolds plan (pool_of plan k) bound → StateInvariant plan s → HaveJobs plan s → IsBoundBalanced plan bound s
     → IsAtAction plan s a body i (Some (action.Submit k)) → (pool_at plan (pool_of plan k)).may_reject ≡ false
-    → (pool_at plan (pool_of plan k)).queue ≤ length (pool_part s (pool_of plan k)).queue → (pool_at plan (pool_of plan k)).max ≤ threads plan s (pool_of plan k) → ⊥
-must_not_refuse plan None s a body i k ordered holds kept have balanced at must no_room all_started = false≢true (sym must ∙ holds)
+    → HasNoRoom plan s (pool_of plan k) → (pool_at plan (pool_of plan k)).max ≤ threads plan s (pool_of plan k) → ⊥
+must_not_refuse plan None s a body i k ordered holds kept have balanced at must no_room all_started = needs_a_bound (pool_at plan (pool_of plan k)) must no_room.0 holds
 must_not_refuse plan (Some bound) s a body i k ordered holds kept have balanced at must no_room all_started = not_refused plan bound s a body i k ordered holds.0 kept have balanced at no_room all_started
 
 -- the initial state satisfies the invariants
@@ -109,7 +114,7 @@ pub keeps_sizes : (plan : Plan) (bounds : ℕ → Option Bound) (s : State) → 
 keeps_sizes plan bounds s bounded = record {
   none_refused = bounded.none_refused;
   within_max = λ p inside. (bounded.kept.pools p inside).within_max;
-  within_queue = λ p inside. (bounded.kept.pools p inside).within_queue;
+  within_queue = λ p inside. bounded_within (pool_at plan p).unbounded (pool_at plan p).queue (pool_part s p).idle (length (pool_part s p).queue) (bounded.kept.pools p inside).within_queue;
 }
 
 -- the law that a plan in which each pool has a bound, or may reject jobs, refuses nothing

@@ -11,7 +11,7 @@ use Rattle.written_machine.specs.declared.event.Event.{Event}
 use Rattle.written_machine.specs.declared.event.Outcome.{Outcome}
 use Rattle.written_machine.specs.State.{State, pool_part, pool_of, threads}
 use Rattle.written_machine.specs.JobsMade.{jobs_made}
-use Rattle.written_machine.proofs.Events.{IsAtAction, event_of, Happens}
+use Rattle.written_machine.proofs.Events.{IsAtAction, event_of, Happens, HasNoRoom}
 use Rattle.written_machine.proofs.StateInvariant.{StateInvariant}
 use Rattle.written_machine.proofs.InvariantSubmits.{class_exists}
 use Rattle.written_machine.proofs.JobsMade.{HaveJobs}
@@ -21,26 +21,31 @@ use Rattle.soundness.proofs.NoRefusal.{standing_refuses_nothing, lifetime_leaves
 use Rattle.soundness.specs.Execute.{JavaState, is_calling, without_calls}
 use Rattle.soundness.proofs.ThreadChanges.{threads_change}
 use Rattle.soundness.proofs.JavaEvents.{JavaHappens, is_atomic, ends, finds_core, finds_full, finds_all, OfferAtCore, call_of_others, one_more}
-use Rattle.soundness.proofs.Bounded.{IsBoundBalanced, BoundHolds, Bounded, BoundsHold}
+use Rattle.soundness.proofs.Bounded.{IsBoundBalanced, BoundHolds, needs_a_bound, Bounded, BoundsHold}
 
 -- ---- a pool whose queue was full at some time
 
 -- an invariant of a pool after a call found its queue full. With a standing vector the queue is never full, so there is no such
 -- state. With a lifetime vector the queue's capacity and the threads together are at most the jobs submitted to the pool and its
--- prestarted threads. Nothing is known of a pool that may reject jobs.
+-- prestarted threads. Nothing is known of a pool without a bound.
+abbrev pub WasFull : Plan → Option Bound → State → ℕ → Type 0
+WasFull plan None s p = ⊤
+WasFull plan (Some (Standing v)) s p = ⊥
+WasFull plan (Some (Lifetime v)) s p = (pool_at plan p).queue + threads plan s p ≤ jobs_made plan s p + first_workers (pool_at plan p)
+
+-- the invariant of a pool after a call found its queue full; the queue is bounded
 abbrev pub QueueWasFull : Plan → Option Bound → State → ℕ → Type 0
-QueueWasFull plan None s p = ⊤
-QueueWasFull plan (Some (Standing v)) s p = ⊥
-QueueWasFull plan (Some (Lifetime v)) s p = (pool_at plan p).queue + threads plan s p ≤ jobs_made plan s p + first_workers (pool_at plan p)
+QueueWasFull plan bound s p = ((pool_at plan p).unbounded ≡ false) × WasFull plan bound s p
 
 -- if a submit finds the queue of its pool full, the invariant of a pool whose queue was full holds
 queue_was_full : (plan : Plan) (bound : Option Bound) (s : State) (a : Parent) (body : List Action) (i k : ℕ) → HasValidBodies plan → BoundHolds plan (pool_of plan k) bound → StateInvariant plan s → HaveJobs plan s → IsBoundBalanced plan bound s
-    → IsAtAction plan s a body i (Some (action.Submit k)) → (pool_at plan (pool_of plan k)).queue ≤ length (pool_part s (pool_of plan k)).queue → QueueWasFull plan bound s (pool_of plan k)
-queue_was_full plan None s a body i k ordered holds kept have balanced at no_room = tt
-queue_was_full plan (Some (Standing v)) s a body i k ordered holds kept have balanced at no_room = standing_refuses_nothing plan v s a body i k ordered holds.0 kept balanced at no_room
+    → IsAtAction plan s a body i (Some (action.Submit k)) → HasNoRoom plan s (pool_of plan k) → QueueWasFull plan bound s (pool_of plan k)
+queue_was_full plan None s a body i k ordered holds kept have balanced at no_room = (no_room.0, tt)
+queue_was_full plan (Some (Standing v)) s a body i k ordered holds kept have balanced at no_room = absurd (standing_refuses_nothing plan v s a body i k ordered holds.0 kept balanced at no_room)
 queue_was_full plan (Some (Lifetime v)) s a body i k ordered laws kept have balanced at no_room =
     let had = have (pool_of plan k) (ordered.pools k (class_exists plan s a body i k ordered at)) in
-    omega arith
+    let full = no_room.1 in
+    (no_room.0, omega arith)
 
 -- each event preserves the invariant of a pool whose queue was full, because the number of threads grows at most with the number
 -- of submitted jobs
@@ -49,18 +54,21 @@ stays_full plan None s s' o p kept inside happened full = full
 stays_full plan (Some (Standing v)) s s' o p kept inside happened full = full
 stays_full plan (Some (Lifetime v)) s s' o p kept inside happened full =
     let by_jobs = (threads_change plan s s' o kept happened p inside).by_jobs in
-    omega arith
+    let was = full.1 in
+    (full.0, omega arith)
 
 -- a submit to a pool that has a bound, and whose queue was full, finds fewer than max threads
 pub bound_leaves_room : (plan : Plan) (bound : Bound) (s : State) (a : Parent) (body : List Action) (i k : ℕ) → HasValidBodies plan → BoundHolds plan (pool_of plan k) (Some bound) → StateInvariant plan s → IsBoundBalanced plan (Some bound) s → IsAtAction plan s a body i (Some (action.Submit k))
     → QueueWasFull plan (Some bound) s (pool_of plan k) → (pool_at plan (pool_of plan k)).max ≤ threads plan s (pool_of plan k) → ⊥
-bound_leaves_room plan (Standing v) s a body i k ordered holds kept balanced at full all_started = full
-bound_leaves_room plan (Lifetime v) s a body i k ordered holds kept balanced at full all_started = lifetime_leaves_room plan v s a body i k ordered holds.0 kept balanced at (omega arith)
+bound_leaves_room plan (Standing v) s a body i k ordered holds kept balanced at full all_started = full.1
+bound_leaves_room plan (Lifetime v) s a body i k ordered holds kept balanced at full all_started =
+    let was = full.1 in
+    lifetime_leaves_room plan v s a body i k ordered holds.0 full.0 kept balanced at (omega arith)
 
 -- a submit to a pool that must not reject jobs, and whose queue was full, finds fewer than max threads
 leaves_room : (plan : Plan) (bound : Option Bound) (s : State) (a : Parent) (body : List Action) (i k : ℕ) → HasValidBodies plan → BoundHolds plan (pool_of plan k) bound → StateInvariant plan s → IsBoundBalanced plan bound s → IsAtAction plan s a body i (Some (action.Submit k))
     → (pool_at plan (pool_of plan k)).may_reject ≡ false → QueueWasFull plan bound s (pool_of plan k) → (pool_at plan (pool_of plan k)).max ≤ threads plan s (pool_of plan k) → ⊥
-leaves_room plan None s a body i k ordered holds kept balanced at must full all_started = false≢true (sym must ∙ holds)
+leaves_room plan None s a body i k ordered holds kept balanced at must full all_started = needs_a_bound (pool_at plan (pool_of plan k)) must full.0 holds
 leaves_room plan (Some bound) s a body i k ordered holds kept balanced at must full all_started = bound_leaves_room plan bound s a body i k ordered holds kept balanced at full all_started
 
 -- ---- the calls

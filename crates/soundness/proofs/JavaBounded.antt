@@ -43,4 +43,4 @@ bounded_plans_java_refuse_nothing plan bounds well_formed hold events s reached 
 pub standing_pools_are_not_asked : StandingPoolsAreNotAsked
 standing_pools_are_not_asked plan bounds p v events s a well_formed hold inside is_standing reached =
     let held = java_bounded plan bounds (ordered plan well_formed) (λ q within. bound_holds plan q (bounds q) (hold q within)) events s reached in
-    false_from_ne_true (is_calling s.requesting a p) (λ requests_thread. subst (λ (bound : Option Bound). QueueWasFull plan bound s.machine p) is_standing (held.calls.requesting a p inside requests_thread))
+    false_from_ne_true (is_calling s.requesting a p) (λ requests_thread. (subst (λ (bound : Option Bound). QueueWasFull plan bound s.machine p) is_standing (held.calls.requesting a p inside requests_thread)).1)

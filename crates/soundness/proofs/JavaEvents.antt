@@ -7,8 +7,8 @@ use Rattle.job_bodies.specs.declared.action.Action.{Action}
 use Rattle.job_bodies.specs.declared.action.Action.TheVariants as action
 use Rattle.job_bodies.specs.Plan.{Plan, pool_at}
 use Rattle.job_bodies.proofs.Bodies.{HasValidBodies}
-use Rattle.pool_machine.specs.PoolState.{queue_limit}
-use Rattle.pool_machine.proofs.QueueLimits.{capacity-le}
+use Rattle.pool_machine.specs.PoolState.{room_limit}
+use Rattle.pool_machine.proofs.QueueLimits.{no_room_means}
 use Rattle.pool_machine.specs.declared.offer.Offer.TheVariants as offer
 use Rattle.written_machine.specs.declared.parent.Parent.{Parent}
 use Rattle.written_machine.specs.declared.parent.Parent.TheVariants as parent
@@ -18,7 +18,7 @@ use Rattle.written_machine.specs.declared.event.Outcome.{Outcome}
 use Rattle.written_machine.specs.declared.event.Outcome.TheVariants as outcome
 use Rattle.written_machine.specs.State.{State, same_parent, pool_part, pool_of, threads}
 use Rattle.written_machine.specs.Step.{Point, point, skipped, step_action, submitted, step_at_point, step}
-use Rattle.written_machine.proofs.Events.{IsAtAction, event_of, Happens, starts, queues, is_rejected, happens}
+use Rattle.written_machine.proofs.Events.{IsAtAction, event_of, Happens, starts, queues, is_rejected, happens, HasNoRoom}
 use Rattle.written_machine.proofs.Children.{same_actor_true}
 use Rattle.written_machine.proofs.InvariantSubmits.{class_exists}
 use Rattle.soundness.specs.Execute.{Call, JavaState, is_calling, without_calls_of, answers, checks_core, offers_job, requests_thread, executes, Submission, submission_at, submission_of, submission, as_atomic, java_stepped, java_step}
@@ -62,7 +62,7 @@ pub data JavaHappens (plan : Plan) (s : JavaState) : Event → JavaState → Typ
       → JavaHappens plan s (event_of a) (record s { offering = record { actor = a; pool = pool_of plan k } ∷ s.offering })
   -- the second step of a submit, if the queue has no room: the call requests a thread next; the queue is then full, or has capacity 0
   finds_full : (a : Parent) (body : List Action) (i k : ℕ) → IsAtAction plan s.machine a body i (Some (action.Submit k)) → is_calling s.requesting a (pool_of plan k) ≡ false
-      → (pool_at plan (pool_of plan k)).queue ≤ length (pool_part s.machine (pool_of plan k)).queue
+      → HasNoRoom plan s.machine (pool_of plan k)
       → JavaHappens plan s (event_of a) (record s { offering = without_calls_of a s.offering; requesting = record { actor = a; pool = pool_of plan k } ∷ s.requesting })
   -- the third step of a submit, if the pool has max threads: the job is refused, even if the queue has room again
   finds_all : (a : Parent) (body : List Action) (i k : ℕ) → IsAtAction plan s.machine a body i (Some (action.Submit k)) → (pool_at plan (pool_of plan k)).may_reject ≡ false → is_calling s.requesting a (pool_of plan k) ≡ true
@@ -86,14 +86,15 @@ checks_core_happens plan s a body i k at not_requesting not_offering false is_be
 
 -- the effect of the second step of a submit is one of the possible events
 offers_job_happens : (plan : Plan) (s : JavaState) (a : Parent) (body : List Action) (i k : ℕ) → IsAtAction plan s.machine a body i (Some (action.Submit k)) → is_calling s.requesting a (pool_of plan k) ≡ false → (pool_at plan (pool_of plan k)).core ≤ threads plan s.machine (pool_of plan k)
-    → (room : Bool) → ltb (length (pool_part s.machine (pool_of plan k)).queue) (queue_limit (pool_at plan (pool_of plan k)).queue (pool_part s.machine (pool_of plan k)).idle) ≡ room
+    → (room : Bool) → ltb (length (pool_part s.machine (pool_of plan k)).queue) (room_limit (pool_at plan (pool_of plan k)).unbounded (pool_at plan (pool_of plan k)).queue (pool_part s.machine (pool_of plan k)).idle (length (pool_part s.machine (pool_of plan k)).queue)) ≡ room
     → JavaHappens plan s (event_of a) (cond room (answers plan s a i k offer.Queued) (record s { offering = without_calls_of a s.offering; requesting = record { actor = a; pool = pool_of plan k } ∷ s.requesting }))
 offers_job_happens plan s a body i k at not_requesting at_core true has_room =
-    ends a body i k _ _ at (queues a body i k at at_core (ltb-true (length (pool_part s.machine (pool_of plan k)).queue) (queue_limit (pool_at plan (pool_of plan k)).queue (pool_part s.machine (pool_of plan k)).idle) has_room))
+    ends a body i k _ _ at (queues a body i k at at_core (ltb-true (length (pool_part s.machine (pool_of plan k)).queue) (room_limit (pool_at plan (pool_of plan k)).unbounded (pool_at plan (pool_of plan k)).queue (pool_part s.machine (pool_of plan k)).idle (length (pool_part s.machine (pool_of plan k)).queue)) has_room))
 offers_job_happens plan s a body i k at not_requesting at_core false has_room =
-    let queue = (pool_at plan (pool_of plan k)).queue in
+    let pool = pool_at plan (pool_of plan k) in
     let part = pool_part s.machine (pool_of plan k) in
-    finds_full a body i k at not_requesting (omega (arith, capacity-le queue part.idle, ltb-false (length part.queue) (queue_limit queue part.idle) has_room))
+    finds_full a body i k at not_requesting
+    (no_room_means pool.unbounded pool.queue part.idle (length part.queue) (ltb-false (length part.queue) (room_limit pool.unbounded pool.queue part.idle (length part.queue)) has_room))
 
 -- a third step that finds max threads is one of the possible events, whether or not the pool may reject jobs
 declines_happens : (plan : Plan) (s : JavaState) (a : Parent) (body : List Action) (i k : ℕ) → IsAtAction plan s.machine a body i (Some (action.Submit k)) → is_calling s.requesting a (pool_of plan k) ≡ true
@@ -120,7 +121,7 @@ executes_happens plan s a body i k ordered at_core at true offering is_requestin
     requests_thread_happens plan s a body i k at is_requesting (ltb (threads plan s.machine (pool_of plan k)) (pool_at plan (pool_of plan k)).max) refl
 executes_happens plan s a body i k ordered at_core at false true is_requesting is_offering =
     offers_job_happens plan s a body i k at is_requesting (at_core a (pool_of plan k) (ordered.pools k (class_exists plan s.machine a body i k ordered at)) is_offering)
-    (ltb (length (pool_part s.machine (pool_of plan k)).queue) (queue_limit (pool_at plan (pool_of plan k)).queue (pool_part s.machine (pool_of plan k)).idle)) refl
+    (ltb (length (pool_part s.machine (pool_of plan k)).queue) (room_limit (pool_at plan (pool_of plan k)).unbounded (pool_at plan (pool_of plan k)).queue (pool_part s.machine (pool_of plan k)).idle (length (pool_part s.machine (pool_of plan k)).queue))) refl
 executes_happens plan s a body i k ordered at_core at false false is_requesting is_offering =
     checks_core_happens plan s a body i k at is_requesting is_offering (ltb (threads plan s.machine (pool_of plan k)) (pool_at plan (pool_of plan k)).core) refl
 

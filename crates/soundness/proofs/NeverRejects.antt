@@ -6,7 +6,7 @@ use Rattle.job_bodies.specs.Plan.{Plan, pool_at}
 use Rattle.job_bodies.proofs.Bodies.{HasValidBodies, ordered}
 use Rattle.written_machine.specs.declared.parent.Parent.{Parent}
 use Rattle.written_machine.specs.State.{State, pool_of, pool_part, threads}
-use Rattle.written_machine.proofs.Events.{IsAtAction}
+use Rattle.written_machine.proofs.Events.{IsAtAction, HasNoRoom}
 use Rattle.written_machine.proofs.StateInvariant.{StateInvariant}
 use Rattle.written_machine.proofs.InvariantSubmits.{class_exists}
 use Rattle.written_machine.proofs.JobsMade.{HaveJobs}
@@ -24,7 +24,7 @@ use Rattle.soundness.proofs.Skipping.{choices_sound}
 -- a pool to which a submit finds a full queue and max threads has no bound
 no_bound_if_full : (plan : Plan) (bound : Option Bound) (s : State) (a : Parent) (body : List Action) (i k : ℕ) → HasValidBodies plan → BoundHolds plan (pool_of plan k) bound → StateInvariant plan s → HaveJobs plan s → IsBoundBalanced plan bound s
     → IsAtAction plan s a body i (Some (action.Submit k))
-    → (pool_at plan (pool_of plan k)).queue ≤ length (pool_part s (pool_of plan k)).queue → (pool_at plan (pool_of plan k)).max ≤ threads plan s (pool_of plan k) → bound ≡ None
+    → HasNoRoom plan s (pool_of plan k) → (pool_at plan (pool_of plan k)).max ≤ threads plan s (pool_of plan k) → bound ≡ None
 no_bound_if_full plan None s a body i k ordered holds kept have balanced at no_room all_started = refl
 no_bound_if_full plan (Some bound) s a body i k ordered holds kept have balanced at no_room all_started = absurd (not_refused plan bound s a body i k ordered holds.0 kept have balanced at no_room all_started)
 

@@ -1,5 +1,5 @@
 -- A pool with a standing or a lifetime vector whose rows hold refuses no submit.
-use Rattle.std.proofs.Common.{◌≡◌, ℕ, ◌+◌, ◌<◌, ◌≤◌, inl, inr, eqb, List, length, get_or, Some, refl, sym, ap, subst, ◌∙◌, arith}
+use Rattle.std.proofs.Common.{◌≡◌, ℕ, ◌+◌, ◌<◌, ◌≤◌, inl, inr, eqb, List, length, get_or, Some, refl, sym, ap, subst, ◌∙◌, arith, false}
 use Rattle.std.specs.List.{count_by}
 use Rattle.std.proofs.lemmas.Bool.{and_parts, eqb-true}
 use Rattle.std.proofs.lemmas.Option.{slice_get_within}
@@ -16,7 +16,7 @@ use Rattle.written_machine.specs.declared.event.Outcome.TheVariants as outcome
 use Rattle.written_machine.specs.State.{Stage, State, CreatedJob, no_job, job_at, pool_part, pool_of, is_queued, is_queued_in, threads}
 use Rattle.written_machine.specs.Step.{point_of_job, with_position, new_job, moved_jobs}
 use Rattle.written_machine.specs.JobsMade.{is_of_pool, jobs_made}
-use Rattle.written_machine.proofs.Events.{IsAtAction, Happens, is_refused}
+use Rattle.written_machine.proofs.Events.{IsAtAction, Happens, is_refused, HasNoRoom}
 use Rattle.written_machine.proofs.StateInvariant.{StateInvariant}
 use Rattle.written_machine.proofs.Stages.{HaveClasses, classes_moved}
 use Rattle.written_machine.proofs.Queues.{queued_stage, places-moved}
@@ -48,26 +48,27 @@ submit_within_total get_return plan v s a body i k ordered laws kept balanced at
 -- ---- a standing vector
 
 -- the number of queued jobs of the pool is at most the weight of all jobs, because each queued job weighs at least 1
-queued-le-actors_weight : (plan : Plan) (v : Vector) (p : ℕ) (jobs : List CreatedJob) → StandingLaws plan p v → HaveClasses (length plan.classes) jobs → count_by (is_queued_in plan p) jobs ≤ jobs_weight DoneWeight plan v jobs
-queued-le-actors_weight plan v p jobs laws classes =
+pub queued-le-actors_weight : (plan : Plan) (v : Vector) (p : ℕ) (jobs : List CreatedJob) → ((k : ℕ) → k < length plan.classes → pool_of plan k ≡ p → 1 ≤ queued_weight v k) → HaveClasses (length plan.classes) jobs → count_by (is_queued_in plan p) jobs ≤ jobs_weight DoneWeight plan v jobs
+queued-le-actors_weight plan v p jobs weighs classes =
     count_by-le-sum_by (is_queued_in plan p) (λ (job : CreatedJob). stage_weight DoneWeight plan v job.class job.stage) jobs no_job
     (λ j inside passes.
     let job = get_or jobs j no_job in
     let parts = and_parts (is_queued job.stage) (eqb (pool_of plan job.class) p) passes in
-    subst (λ (stage : Stage). 1 ≤ stage_weight DoneWeight plan v job.class stage) (sym (queued_stage job.stage parts.0)) (laws.queued job.class (classes j no_job inside) (eqb-true (pool_of plan job.class) p parts.1)))
+    subst (λ (stage : Stage). 1 ≤ stage_weight DoneWeight plan v job.class stage) (sym (queued_stage job.stage parts.0)) (weighs job.class (classes j no_job inside) (eqb-true (pool_of plan job.class) p parts.1)))
 
 -- no submit finds the queue of a pool with a standing vector full, because otherwise the queued jobs and the submitted one
 -- would weigh more than the total
 pub standing_refuses_nothing : (plan : Plan) (v : Vector) (s : State) (a : Parent) (body : List Action) (i k : ℕ) → HasValidBodies plan → StandingLaws plan (pool_of plan k) v → StateInvariant plan s → IsBalanced DoneWeight plan v s → IsAtAction plan s a body i (Some (action.Submit k))
-    → (pool_at plan (pool_of plan k)).queue ≤ length (pool_part s (pool_of plan k)).queue → ⊥
+    → HasNoRoom plan s (pool_of plan k) → ⊥
 standing_refuses_nothing plan v s a body i k ordered laws kept balanced at no_room =
     let p = pool_of plan k in
     let jobs = moved_jobs a (i + 1) s in
     let exists = class_exists plan s a body i k ordered at in
     let within = submit_within_total DoneWeight plan v s a body i k ordered laws.laws kept balanced at in
-    let enough = queued-le-actors_weight plan v p jobs laws (classes_moved (length plan.classes) s a (i + 1) kept.classes) in
-    let one = laws.queued k exists refl in
-    let limit = laws.within in
+    let enough = queued-le-actors_weight plan v p jobs (laws.queued no_room.0) (classes_moved (length plan.classes) s a (i + 1) kept.classes) in
+    let one = laws.queued no_room.0 k exists refl in
+    let limit = laws.within no_room.0 in
+    let full = no_room.1 in
     let queued : length (pool_part s p).queue ≡ count_by (is_queued_in plan p) jobs =
     ap length ((kept.pools p (ordered.pools k exists)).queue ∙ sym (places-moved plan s a body i (i + 1) p at.stands)) ∙ length-places (is_queued_in plan p) jobs in
     omega arith
@@ -96,52 +97,53 @@ are_inside_moved plan s a body i x kept at j n e =
     ]
 
 -- a job of the pool weighs at least 1 at every stage
-job_weighs_one : (plan : Plan) (v : Vector) (p k : ℕ) (stage : Stage) → LifetimeLaws plan p v → k < length plan.classes → pool_of plan k ≡ p → ((n : ℕ) → stage ≡ Stage.At n → n ≤ length (class_at plan k).body) → 1 ≤ stage_weight NoWeight plan v k stage
-job_weighs_one plan v p k Stage.Queued laws exists of_pool inside = laws.queued k exists of_pool
-job_weighs_one plan v p k (Stage.At n) laws exists of_pool inside = laws.position k n exists of_pool (inside n refl)
-job_weighs_one plan v p k Stage.Done laws exists of_pool inside = laws.done k exists of_pool
-job_weighs_one plan v p k Stage.Claimed laws exists of_pool inside = laws.done k exists of_pool
+job_weighs_one : (plan : Plan) (v : Vector) (p k : ℕ) (stage : Stage) → LifetimeLaws plan p v → (pool_at plan p).unbounded ≡ false → k < length plan.classes → pool_of plan k ≡ p → ((n : ℕ) → stage ≡ Stage.At n → n ≤ length (class_at plan k).body) → 1 ≤ stage_weight NoWeight plan v k stage
+job_weighs_one plan v p k Stage.Queued laws bounded exists of_pool inside = laws.queued bounded k exists of_pool
+job_weighs_one plan v p k (Stage.At n) laws bounded exists of_pool inside = laws.position bounded k n exists of_pool (inside n refl)
+job_weighs_one plan v p k Stage.Done laws bounded exists of_pool inside = laws.done bounded k exists of_pool
+job_weighs_one plan v p k Stage.Claimed laws bounded exists of_pool inside = laws.done bounded k exists of_pool
 
 -- the number of jobs submitted to the pool is at most the weight of all jobs, because each of them weighs at least 1
-made-le-actors_weight : (plan : Plan) (v : Vector) (p : ℕ) (jobs : List CreatedJob) → LifetimeLaws plan p v → HaveClasses (length plan.classes) jobs → AreInside plan jobs → made_jobs plan jobs p ≤ jobs_weight NoWeight plan v jobs
-made-le-actors_weight plan v p jobs laws classes inside =
+made-le-actors_weight : (plan : Plan) (v : Vector) (p : ℕ) (jobs : List CreatedJob) → LifetimeLaws plan p v → (pool_at plan p).unbounded ≡ false → HaveClasses (length plan.classes) jobs → AreInside plan jobs → made_jobs plan jobs p ≤ jobs_weight NoWeight plan v jobs
+made-le-actors_weight plan v p jobs laws bounded classes inside =
     count_by-le-sum_by (is_of_pool plan p) (λ (job : CreatedJob). stage_weight NoWeight plan v job.class job.stage) jobs no_job
     (λ j made passes.
     let job = get_or jobs j no_job in
-    job_weighs_one plan v p job.class job.stage laws (classes j no_job made) (eqb-true (pool_of plan job.class) p passes) (inside j))
+    job_weighs_one plan v p job.class job.stage laws bounded (classes j no_job made) (eqb-true (pool_of plan job.class) p passes) (inside j))
 
 -- at a submit to a pool with a lifetime vector, fewer jobs were submitted to the pool than its maximum and its queue's capacity
 -- together, minus its prestarted threads; otherwise the jobs would weigh more than the total
-pub lifetime_leaves_room : (plan : Plan) (v : Vector) (s : State) (a : Parent) (body : List Action) (i k : ℕ) → HasValidBodies plan → LifetimeLaws plan (pool_of plan k) v → StateInvariant plan s → IsBalanced NoWeight plan v s → IsAtAction plan s a body i (Some (action.Submit k))
+pub lifetime_leaves_room : (plan : Plan) (v : Vector) (s : State) (a : Parent) (body : List Action) (i k : ℕ) → HasValidBodies plan → LifetimeLaws plan (pool_of plan k) v → (pool_at plan (pool_of plan k)).unbounded ≡ false → StateInvariant plan s → IsBalanced NoWeight plan v s → IsAtAction plan s a body i (Some (action.Submit k))
     → (pool_at plan (pool_of plan k)).queue + (pool_at plan (pool_of plan k)).max ≤ jobs_made plan s (pool_of plan k) + first_workers (pool_at plan (pool_of plan k)) → ⊥
-lifetime_leaves_room plan v s a body i k ordered laws kept balanced at as_many =
+lifetime_leaves_room plan v s a body i k ordered laws bounded kept balanced at as_many =
     let p = pool_of plan k in
     let exists = class_exists plan s a body i k ordered at in
     let within = submit_within_total NoWeight plan v s a body i k ordered laws.laws kept balanced at in
-    let enough = made-le-actors_weight plan v p (moved_jobs a (i + 1) s) laws (classes_moved (length plan.classes) s a (i + 1) kept.classes) (are_inside_moved plan s a body i (action.Submit k) kept at) in
-    let one = laws.queued k exists refl in
-    let limit = laws.within in
+    let enough = made-le-actors_weight plan v p (moved_jobs a (i + 1) s) laws bounded (classes_moved (length plan.classes) s a (i + 1) kept.classes) (are_inside_moved plan s a body i (action.Submit k) kept at) in
+    let one = laws.queued bounded k exists refl in
+    let limit = laws.within bounded in
     omega (arith, made_jobs-moved plan s a (i + 1) p)
 
 -- no submit to a pool with a lifetime vector finds the queue full while the pool has max threads, because that many jobs cannot
 -- have been submitted before
 lifetime_refuses_nothing : (plan : Plan) (v : Vector) (s : State) (a : Parent) (body : List Action) (i k : ℕ) → HasValidBodies plan → LifetimeLaws plan (pool_of plan k) v → StateInvariant plan s → HaveJobs plan s → IsBalanced NoWeight plan v s → IsAtAction plan s a body i (Some (action.Submit k))
-    → (pool_at plan (pool_of plan k)).queue ≤ length (pool_part s (pool_of plan k)).queue → (pool_at plan (pool_of plan k)).max ≤ threads plan s (pool_of plan k) → ⊥
+    → HasNoRoom plan s (pool_of plan k) → (pool_at plan (pool_of plan k)).max ≤ threads plan s (pool_of plan k) → ⊥
 lifetime_refuses_nothing plan v s a body i k ordered laws kept have balanced at no_room all_started =
     let made = have (pool_of plan k) (ordered.pools k (class_exists plan s a body i k ordered at)) in
-    lifetime_leaves_room plan v s a body i k ordered laws kept balanced at (omega arith)
+    let full = no_room.1 in
+    lifetime_leaves_room plan v s a body i k ordered laws no_room.0 kept balanced at (omega arith)
 
 -- the number of jobs submitted to a pool is at most the total of its lifetime vector
-pub jobs-le-total : (plan : Plan) (v : Vector) (s : State) (p : ℕ) → HasValidBodies plan → LifetimeLaws plan p v → StateInvariant plan s → IsBalanced NoWeight plan v s → jobs_made plan s p ≤ total plan v
-jobs-le-total plan v s p ordered laws kept balanced =
-    omega (arith, made-le-actors_weight plan v p s.jobs laws kept.classes (are_inside plan s kept), actors_weight-le-total NoWeight plan v s ordered kept balanced)
+pub jobs-le-total : (plan : Plan) (v : Vector) (s : State) (p : ℕ) → HasValidBodies plan → LifetimeLaws plan p v → (pool_at plan p).unbounded ≡ false → StateInvariant plan s → IsBalanced NoWeight plan v s → jobs_made plan s p ≤ total plan v
+jobs-le-total plan v s p ordered laws bounded kept balanced =
+    omega (arith, made-le-actors_weight plan v p s.jobs laws bounded kept.classes (are_inside plan s kept), actors_weight-le-total NoWeight plan v s ordered kept balanced)
 
 -- ---- a standing or a lifetime vector
 
 -- no submit to a pool with a bound whose rows hold finds the queue full while the pool has max threads
 pub not_refused : (plan : Plan) (bound : Bound) (s : State) (a : Parent) (body : List Action) (i k : ℕ) → HasValidBodies plan → BoundLaws plan (pool_of plan k) bound → StateInvariant plan s → HaveJobs plan s
     → IsBalanced (bound_get_return bound) plan (bound_vector bound) s → IsAtAction plan s a body i (Some (action.Submit k))
-    → (pool_at plan (pool_of plan k)).queue ≤ length (pool_part s (pool_of plan k)).queue → (pool_at plan (pool_of plan k)).max ≤ threads plan s (pool_of plan k) → ⊥
+    → HasNoRoom plan s (pool_of plan k) → (pool_at plan (pool_of plan k)).max ≤ threads plan s (pool_of plan k) → ⊥
 not_refused plan (Standing v) s a body i k ordered laws kept have balanced at no_room all_started = standing_refuses_nothing plan v s a body i k ordered laws kept balanced at no_room
 not_refused plan (Lifetime v) s a body i k ordered laws kept have balanced at no_room all_started = lifetime_refuses_nothing plan v s a body i k ordered laws kept have balanced at no_room all_started
 

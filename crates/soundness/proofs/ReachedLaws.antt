@@ -1,9 +1,12 @@
 -- The laws of weights, for every reachable state.
+use Rattle.std.proofs.Common.{◌≡◌, length, ap, ◌∙◌, arith}
+use Rattle.std.specs.List.{count_by}
+use Rattle.support.proofs.PassingPlaces.{length-places}
 use Rattle.job_bodies.specs.Plan.{Plan}
 use Rattle.job_bodies.specs.WellFormed.{IsWellFormed}
 use Rattle.job_bodies.proofs.Bodies.{ordered}
 use Rattle.written_machine.specs.declared.event.Outcome.TheVariants as outcome
-use Rattle.written_machine.specs.State.{State}
+use Rattle.written_machine.specs.State.{State, pool_part, is_queued_in}
 use Rattle.written_machine.specs.Reach.{IsReached}
 use Rattle.written_machine.proofs.Events.{happens}
 use Rattle.written_machine.proofs.StateInvariant.{StateInvariant}
@@ -12,15 +15,16 @@ use Rattle.written_machine.proofs.InvariantStep.{kept_step}
 use Rattle.written_machine.proofs.Reached.{reached_keeps, kept}
 use Rattle.written_machine.proofs.ReachedLaws.{threads_have_made}
 use Rattle.weights.specs.declared.get_return.GetReturn.{GetReturn}
-use Rattle.weights.specs.declared.get_return.GetReturn.TheVariants.{NoWeight}
+use Rattle.weights.specs.declared.get_return.GetReturn.TheVariants.{DoneWeight, NoWeight}
 use Rattle.weights.specs.Vector.{Vector}
 use Rattle.weights.specs.Bound.{bound_vector, bound_get_return}
-use Rattle.soundness.specs.WeightLaws.{RejectedAreLight, SumNeverRises, SumStaysWithinTotal, BoundsRefuseNothing, JobsStayWithinTotal}
+use Rattle.soundness.specs.WeightLaws.{RejectedAreLight, SumNeverRises, SumStaysWithinTotal, BoundsRefuseNothing, QueuesStayWithinTotal, JobsStayWithinTotal}
 use Rattle.soundness.proofs.VectorLaws.{VectorLaws, vector_laws}
 use Rattle.soundness.proofs.BoundLaws.{lifetime_laws, bound_laws, bound_vector_laws}
 use Rattle.soundness.proofs.NeverRises.{IsBalanced, balanced_start, never_rises, balanced_step}
 use Rattle.soundness.proofs.WithinTotal as within
-use Rattle.soundness.proofs.NoRefusal.{never_refused, never_declined, jobs-le-total}
+use Rattle.soundness.proofs.WithinTotal.{actors_weight-le-total}
+use Rattle.soundness.proofs.NoRefusal.{queued-le-actors_weight, never_refused, never_declined, jobs-le-total}
 use Rattle.soundness.proofs.Rejections.{rejected_when}
 
 -- every reachable state is balanced
@@ -52,8 +56,17 @@ bounds_refuse_nothing plan p bound s s' event well_formed fits hold light reache
       λ j rejected. never_declined plan bound s p is_ordered laws invariant have is_balanced (rejected_when plan s s' event p j rejected),
     )
 
+-- the law that the number of queued jobs of a pool is at most the total of a vector in which each of them weighs at least 1
+pub queues_stay_within_total : QueuesStayWithinTotal
+queues_stay_within_total plan p v s well_formed inside hold weighs light reached =
+    let is_ordered = ordered plan well_formed in
+    let invariant = kept plan s well_formed reached in
+    let is_balanced = balanced DoneWeight plan v s well_formed (vector_laws DoneWeight plan v hold) light reached in
+    let queued : length (pool_part s p).queue ≡ count_by (is_queued_in plan p) s.jobs = ap length (invariant.pools p inside).queue ∙ length-places (is_queued_in plan p) s.jobs in
+    omega (arith, queued-le-actors_weight plan v p s.jobs weighs invariant.classes, actors_weight-le-total DoneWeight plan v s is_ordered invariant is_balanced)
+
 -- the law that the number of jobs submitted to a pool is at most the total of its lifetime vector
 pub jobs_stay_within_total : JobsStayWithinTotal
-jobs_stay_within_total plan p v s well_formed fits hold light reached =
+jobs_stay_within_total plan p v s well_formed fits hold bounded light reached =
     let laws = lifetime_laws plan p v fits hold in
-    jobs-le-total plan v s p (ordered plan well_formed) laws (kept plan s well_formed reached) (balanced NoWeight plan v s well_formed laws.laws light reached)
+    jobs-le-total plan v s p (ordered plan well_formed) laws bounded (kept plan s well_formed reached) (balanced NoWeight plan v s well_formed laws.laws light reached)

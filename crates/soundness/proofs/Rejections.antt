@@ -15,7 +15,7 @@ use Rattle.written_machine.specs.declared.event.Outcome.{Outcome}
 use Rattle.written_machine.specs.declared.event.Outcome.TheVariants as outcome
 use Rattle.written_machine.specs.State.{State, pool_of, pool_part, pool_seen, threads}
 use Rattle.written_machine.specs.Step.{point, answered, submitted, step_action, step_at_point, step}
-use Rattle.written_machine.proofs.Events.{IsAtAction, event_of, Happens, is_rejected, happens}
+use Rattle.written_machine.proofs.Events.{IsAtAction, event_of, Happens, is_rejected, happens, HasNoRoom}
 
 -- the pool that rejected a job in the event with this outcome
 abbrev rejecting_pool : Outcome → Option ℕ
@@ -43,14 +43,14 @@ pub record IsDeclined (plan : Plan) (s : State) (p : ℕ) : Type 0 where
   pub class : ℕ
   pub at : IsAtAction plan s actor body position (Some (action.Submit class))
   pub of_pool : pool_of plan class ≡ p
-  pub no_room : (pool_at plan (pool_of plan class)).queue ≤ length (pool_part s (pool_of plan class)).queue
+  pub no_room : HasNoRoom plan s (pool_of plan class)
   pub all_started : (pool_at plan (pool_of plan class)).max ≤ threads plan s (pool_of plan class)
 
 declined : (plan : Plan) (s after : State) (event : Event) (p j : ℕ) → Happens plan s event after (outcome.Rejected p j) → step plan s event ≡ Some (after, outcome.Rejected p j) → IsDeclined plan s p
 declined plan s after event p j (is_rejected a body i k at may) is_step =
     let same = same_Some (submitted plan s a i k) (after, outcome.Rejected p j) (sym (step_at_submit plan s a body i k at) ∙ is_step) in
     let full = refused_when_full (pool_seen plan s (pool_of plan k)) (answer_when_rejected plan s after a i k p j (answer (pool_seen plan s (pool_of plan k))) same) in
-    record { actor = a; body = body; position = i; class = k; at = at; of_pool = refl; no_room = full.0; all_started = full.1 }
+    record { actor = a; body = body; position = i; class = k; at = at; of_pool = refl; no_room = (full.0, full.1); all_started = full.2 }
 
 -- an event that rejects a job is that of an actor at a submit to a pool with a full queue and max threads
 pub rejected_when : (plan : Plan) (s after : State) (event : Event) (p j : ℕ) → step plan s event ≡ Some (after, outcome.Rejected p j) → IsDeclined plan s p

@@ -74,7 +74,8 @@ full_left plan None s a body i k p at full = full
 full_left plan (Some (Standing v)) s a body i k p at full = full
 full_left plan (Some (Lifetime v)) s a body i k p at full =
     let by_jobs = (change_skipped plan s a body i k p at.stands).by_jobs in
-    omega arith
+    let was = full.1 in
+    (full.0, omega arith)
 
 -- after a skip the invariants of the calls in progress still hold
 calls_left : (plan : Plan) (bounds : ℕ → Option Bound) (s : JavaState) (a : Parent) (body : List Action) (i k : ℕ) → IsAtAction plan s.machine a body i (Some (action.Submit k)) → CallsKept plan bounds s → CallsKept plan bounds (record s { machine = skipped s.machine a i k })
@@ -114,7 +115,9 @@ sound_exchanged plan cert s a t u alike held = record {
 full_exchanged : (plan : Plan) (bound : Option Bound) (s : State) (a : Parent) (t u p : ℕ) → QueueWasFull plan bound s p → QueueWasFull plan bound (after_exchange a t u s) p
 full_exchanged plan None s a t u p full = full
 full_exchanged plan (Some (Standing v)) s a t u p full = full
-full_exchanged plan (Some (Lifetime v)) s a t u p full = omega (arith, threads-exchanged plan s a t u p, jobs_made-exchanged plan s a t u p)
+full_exchanged plan (Some (Lifetime v)) s a t u p full =
+    let was = full.1 in
+    (full.0, omega (arith, threads-exchanged plan s a t u p, jobs_made-exchanged plan s a t u p))
 
 -- after an exchange the invariants of the calls in progress still hold
 calls_exchanged : (plan : Plan) (bounds : ℕ → Option Bound) (s : JavaState) (a : Parent) (t u : ℕ) → CallsKept plan bounds s → CallsKept plan bounds (record s { machine = after_exchange a t u s.machine })

@@ -15,7 +15,7 @@ use Rattle.soundness.specs.Skipping.Choice.{Acts, Skips, Exchanges}
 
 -- a pool of this many threads and a queue of one
 abbrev pool_of_size : ℕ → Pool
-pool_of_size threads = record { name = 112 ∷ []; core = threads; max = threads; queue = 1; prestart = false; may_reject = false }
+pool_of_size threads = record { name = 112 ∷ []; core = threads; max = threads; queue = 1; prestart = false; may_reject = false; unbounded = false }
 
 -- the value of a function at the state that the choices reach, or None if they reach none
 abbrev after : {X : Type 0} → Plan → List Choice → (JavaState → X) → Option X

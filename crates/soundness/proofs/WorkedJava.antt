@@ -14,7 +14,7 @@ use Rattle.soundness.specs.WithRoom.{WithRoom, RefusedWithRoom, StartedWithRoom}
 -- one pool with one core thread, a maximum of two and a queue of one, and clients that each submit one job
 abbrev one_pool : ℕ → Plan
 one_pool clients = record {
-  pools = record { name = 112 ∷ []; core = 1; max = 2; queue = 1; prestart = false; may_reject = false } ∷ [];
+  pools = record { name = 112 ∷ []; core = 1; max = 2; queue = 1; prestart = false; may_reject = false; unbounded = false } ∷ [];
   classes = record { name = 97 ∷ []; pool = 0; body = Work 1 ∷ [] } ∷ [];
   clients = record { name = 99 ∷ []; count = clients; repeat = false; body = Submit 0 ∷ [] } ∷ [];
 }

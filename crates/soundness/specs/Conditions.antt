@@ -26,7 +26,7 @@ abbrev pub bound_section : ℕ → Bound → Section
 bound_section p (Standing v) = section.Standing p
 bound_section p (Lifetime v) = section.Lifetime p
 
--- the conditions of the bound of pool p; there are none if the pool has no bound, because it may reject jobs
+-- the conditions of the bound of pool p; there are none if the pool has no bound
 abbrev pub bound_conditions : Plan → ℕ → Option Bound → List Note
 bound_conditions plan p None = []
 bound_conditions plan p (Some bound) = in_section (bound_section p bound) (bound_rows plan p bound)

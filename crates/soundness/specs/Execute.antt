@@ -8,7 +8,7 @@ use Rattle.job_bodies.specs.declared.action.Action.TheVariants.{Submit}
 use Rattle.job_bodies.specs.Plan.{Plan, pool_at}
 use Rattle.pool_machine.specs.declared.offer.Offer.{Offer}
 use Rattle.pool_machine.specs.declared.offer.Offer.TheVariants.{Started, Queued, Refused}
-use Rattle.pool_machine.specs.PoolState.{queue_limit}
+use Rattle.pool_machine.specs.PoolState.{room_limit}
 use Rattle.written_machine.specs.declared.parent.Parent.{Parent}
 use Rattle.written_machine.specs.declared.parent.Parent.TheVariants as parent
 use Rattle.written_machine.specs.declared.event.Event.{Event}
@@ -61,7 +61,7 @@ offer_fails plan s a k = record s { offering = without_calls_of a s.offering; re
 -- the state after the second step: if the queue has room, the job is queued, and otherwise the call requests a thread next
 abbrev pub offers_job : Plan → JavaState → Parent → ℕ → ℕ → JavaState
 offers_job plan s a i k =
-    if nat_lt (length (pool_part s.machine (pool_of plan k)).queue) (queue_limit (pool_at plan (pool_of plan k)).queue (pool_part s.machine (pool_of plan k)).idle) then answers plan s a i k Queued
+    if nat_lt (length (pool_part s.machine (pool_of plan k)).queue) (room_limit (pool_at plan (pool_of plan k)).unbounded (pool_at plan (pool_of plan k)).queue (pool_part s.machine (pool_of plan k)).idle (length (pool_part s.machine (pool_of plan k)).queue)) then answers plan s a i k Queued
     else offer_fails plan s a k
 
 -- the state after the third step: if the pool has fewer than max threads, a new thread runs the job, and otherwise the job is

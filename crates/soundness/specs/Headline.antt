@@ -1,6 +1,6 @@
 -- The guarantees of an accepted certificate for every reachable state of its plan.
 use Rattle.std.specs.Prelude.{◌≡◌, ◌≤◌, ◌<◌, ℕ, List, length, IsTrue, IsFalse, Option, Some, None}
-use Rattle.job_bodies.specs.Plan.{Plan, pool_at}
+use Rattle.job_bodies.specs.Plan.{Plan, pool_at, needs_no_bound}
 use Rattle.job_bodies.specs.WellFormed.{IsWellFormed}
 use Rattle.pool_machine.specs.PoolState.{queue_limit}
 use Rattle.written_machine.specs.declared.event.Event.{Event}
@@ -71,23 +71,23 @@ abbrev pub AcceptedPlansDrain : Type 0
 AcceptedPlansDrain = (plan : Plan) (cert : Cert) → IsWellFormed plan → IsTrue (accepted plan cert) → Drains plan cert.ranks
 
 -- the bound of pool p is a standing or a lifetime vector whose rows hold and under which a rejected job does not increase the weight of a
--- state; or there is none, and the pool may reject jobs
+-- state; or there is none, and the pool needs none, because it may reject jobs or its queue is unbounded
 abbrev pub HasBound : Plan → ℕ → Option Bound → Type 0
-HasBound plan p None = IsTrue (pool_at plan p).may_reject
+HasBound plan p None = IsTrue (needs_no_bound (pool_at plan p))
 HasBound plan p (Some bound) = IsTrue (vector_fits plan (bound_vector bound)) × AllHold (bound_rows plan p bound) × RejectedAreLight plan (bound_vector bound)
 
--- in the state, no submit was refused, no pool has more threads than its maximum, and no queue is longer than its capacity, or than the
--- number of idle workers if its capacity is 0
+-- in the state, no submit was refused, no pool has more threads than its maximum, and no bounded queue is longer than its capacity, or than
+-- the number of idle workers if its capacity is 0
 pub record KeepsSizes (plan : Plan) (s : State) : Type 0 where
   pub none_refused : s.refusals ≡ 0
   pub within_max : (p : ℕ) → p < length plan.pools → threads plan s p ≤ (pool_at plan p).max
-  pub within_queue : (p : ℕ) → p < length plan.pools → length (pool_part s p).queue ≤ queue_limit (pool_at plan p).queue (pool_part s p).idle
+  pub within_queue : (p : ℕ) → p < length plan.pools → IsFalse (pool_at plan p).unbounded → length (pool_part s p).queue ≤ queue_limit (pool_at plan p).queue (pool_part s p).idle
 
--- in every reachable state of the plan no submit was refused, and each pool is within its maximum and its queue's capacity
+-- every reachable state of the plan keeps the sizes
 abbrev pub RefusesNothing : Plan → Type 0
 RefusesNothing plan = (events : List Event) (s : State) → Reaches plan events s → KeepsSizes plan s
 
--- if each pool of a well-formed plan has a bound, or may reject jobs, no submit is refused in any reachable state, whatever the jobs wait
+-- if each pool of a well-formed plan has a bound or needs none, no submit is refused in any reachable state, whatever the jobs wait
 -- for
 abbrev pub BoundedPlansRefuseNothing : Type 0
 BoundedPlansRefuseNothing = (plan : Plan) (bounds : ℕ → Option Bound) → IsWellFormed plan → ((p : ℕ) → p < length plan.pools → HasBound plan p (bounds p)) → RefusesNothing plan
@@ -108,16 +108,15 @@ AcceptedPlansMakeJavaProgress = (plan : Plan) (cert : Cert) → IsWellFormed pla
 abbrev pub AcceptedPlansJavaDrain : Type 0
 AcceptedPlansJavaDrain = (plan : Plan) (cert : Cert) → IsWellFormed plan → IsTrue (accepted plan cert) → JavaDrains plan cert.ranks
 
--- in every state that is reachable in Java's steps no submit was refused, and each pool is within its maximum and its queue's
--- capacity
+-- every state that is reachable in Java's steps keeps the sizes
 abbrev pub JavaRefusesNothing : Plan → Type 0
 JavaRefusesNothing plan = (events : List Event) (s : JavaState) → JavaReaches plan events s → KeepsSizes plan s.machine
 
--- if each pool of a well-formed plan has a bound, or may reject jobs, no submit is refused in any state that is reachable in Java's steps
+-- if each pool of a well-formed plan has a bound or needs none, no submit is refused in any state that is reachable in Java's steps
 abbrev pub BoundedPlansJavaRefuseNothing : Type 0
 BoundedPlansJavaRefuseNothing = (plan : Plan) (bounds : ℕ → Option Bound) → IsWellFormed plan → ((p : ℕ) → p < length plan.pools → HasBound plan p (bounds p)) → JavaRefusesNothing plan
 
--- if each pool of a well-formed plan has a bound, or may reject jobs, and the bound of pool p is a standing vector, no call ever finds the
+-- if each pool of a well-formed plan has a bound or needs none, and the bound of pool p is a standing vector, no call ever finds the
 -- queue of p full, so no call requests a thread above core from p
 abbrev pub StandingPoolsAreNotAsked : Type 0
 StandingPoolsAreNotAsked = (plan : Plan) (bounds : ℕ → Option Bound) (p : ℕ) (v : Vector) (events : List Event) (s : JavaState) (a : Parent) → IsWellFormed plan

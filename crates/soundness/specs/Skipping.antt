@@ -1,11 +1,11 @@
 -- Actors that skip submits of their bodies together with the gets of these submits, as with an `if` around both, and that get
 -- jobs of one class in another order than their bodies. An actor decides anew each time which submits to skip and in which order
 -- to get its jobs.
-use Rattle.std.specs.Prelude.{◌≡◌, ◌≤◌, ◌<◌, ◌+◌, ◌*◌, ◌||◌, ◌&&◌, ◌==◌, if◌then◌else◌, ℕ, Bool, true, false, IsTrue, IsFalse, List, [], ◌∷◌, length, Option, Some, None, slice_get, count_by}
+use Rattle.std.specs.Prelude.{◌≡◌, ◌≤◌, ◌<◌, ◌+◌, ◌*◌, ◌||◌, ◌&&◌, ◌==◌, if◌then◌else◌, ℕ, Bool, true, false, IsTrue, IsFalse, List, [], ◌∷◌, length, Option, Some, None, slice_get, count_by, not}
 use Rattle.std.specs.List.{list_all}
 use Rattle.job_bodies.specs.declared.action.Action.{Action}
 use Rattle.job_bodies.specs.declared.action.Action.TheVariants.{Get}
-use Rattle.job_bodies.specs.Plan.{Plan, pool_at}
+use Rattle.job_bodies.specs.Plan.{Pool, Plan, pool_at}
 use Rattle.job_bodies.specs.WellFormed.{IsWellFormed}
 use Rattle.weights.specs.declared.get_return.GetReturn.{GetReturn}
 use Rattle.weights.specs.Row.{AllHold}
@@ -48,13 +48,17 @@ abbrev pub skip_submit : Plan → JavaState → Option Submission → Option Jav
 skip_submit plan s None = None
 skip_submit plan s (Some x) = if has_begun plan s x then None else Some (record s { machine = after_skip s.machine x })
 
+-- whether the pool has a SynchronousQueue, a bounded queue of capacity 0
+abbrev pub has_no_queue : Pool → Bool
+has_no_queue pool = not pool.unbounded && pool.queue == 0
+
 -- the state after the offer of the submit finds no thread at a queue of capacity 0, because an idle thread is not back at the queue
 -- yet; None if there is no submit, its next step is no offer, or the queue has a greater capacity
 abbrev pub miss_thread : Plan → JavaState → Option Submission → Option JavaState
 miss_thread plan s None = None
 miss_thread plan s (Some x) =
     if is_calling s.requesting x.actor (pool_of plan x.class) then None
-    else (if is_calling s.offering x.actor (pool_of plan x.class) && (pool_at plan (pool_of plan x.class)).queue == 0 then Some (offer_fails plan s x.actor x.class)
+    else (if is_calling s.offering x.actor (pool_of plan x.class) && has_no_queue (pool_at plan (pool_of plan x.class)) then Some (offer_fails plan s x.actor x.class)
     else None)
 
 -- the state after an exchange of the actor's jobs at positions t and u, or None if these jobs are not alike

@@ -42,10 +42,11 @@ pub fn accepted_plans_drain()
 {}
 
 /// Proves that a well-formed plan refuses nothing if each pool has a standing or a lifetime vector
-/// whose rows hold, or may reject jobs. No reachable state then has a refused submit, a pool with
-/// more threads than its maximum, or a queue longer than its capacity. No ranks and no blocked
-/// vectors are needed. If a pool may reject jobs, a done job of its classes must weigh at most as
-/// much as a queued one in each of these vectors.
+/// whose rows hold, or needs none because it may reject jobs or its queue is unbounded. No reachable
+/// state then has a refused submit, a pool with more threads than its maximum, or a bounded queue
+/// longer than its capacity (or than the number of idle workers if the capacity is 0). No ranks and
+/// no blocked vectors are needed. If a pool may reject jobs, a done job of its classes must weigh at
+/// most as much as a queued one in each of these vectors.
 pub fn bounded_plans_refuse_nothing()
     ensures { BoundedPlansRefuseNothing }
 {}
@@ -73,9 +74,8 @@ pub fn accepted_plans_java_drain()
 {}
 
 /// Proves that a well-formed plan refuses nothing if each pool has a standing or a lifetime vector
-/// whose rows hold, or may reject jobs, even if a submit takes the separate steps of Java's
-/// `execute`. No reachable state then has a refused submit, a pool with more threads than its
-/// maximum, or a queue longer than its capacity. The condition on done jobs is that of
+/// whose rows hold, or needs none, even if a submit takes the separate steps of Java's `execute`.
+/// What no reachable state has, and the condition on done jobs, are those of
 /// [`bounded_plans_refuse_nothing`].
 pub fn bounded_plans_java_refuse_nothing()
     ensures { BoundedPlansJavaRefuseNothing }
@@ -83,8 +83,8 @@ pub fn bounded_plans_java_refuse_nothing()
 
 /// Proves that no call of Java's `execute` ever finds a full queue in a pool with a standing
 /// vector. So no call requests a thread above core from this pool. The plan must be well-formed,
-/// and each of its pools must have a standing or a lifetime vector whose rows hold, or may reject
-/// jobs. The condition on done jobs is that of [`bounded_plans_refuse_nothing`].
+/// and each of its pools must have a standing or a lifetime vector whose rows hold, or need none.
+/// The condition on done jobs is that of [`bounded_plans_refuse_nothing`].
 pub fn standing_pools_are_not_asked()
     ensures { StandingPoolsAreNotAsked }
 {}

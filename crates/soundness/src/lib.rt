@@ -31,5 +31,6 @@ pub use starvation_laws::{
     fewer_than_core_may_block, full_is_of_the_plan, full_is_whole, no_loose_waiting_sets,
 };
 pub use weight_laws::{
-    bounds_refuse_nothing, jobs_stay_within_total, sum_never_rises, sum_stays_within_total,
+    bounds_refuse_nothing, jobs_stay_within_total, queues_stay_within_total, sum_never_rises,
+    sum_stays_within_total,
 };

@@ -7,7 +7,7 @@
 //! as a queued one. [`done_within_queued`](crate::done_within_queued) gives this condition from the
 //! ranks.
 
-ghost use Rattle.soundness.specs.WeightLaws.{SumNeverRises, SumStaysWithinTotal, BoundsRefuseNothing, JobsStayWithinTotal};
+ghost use Rattle.soundness.specs.WeightLaws.{SumNeverRises, SumStaysWithinTotal, BoundsRefuseNothing, QueuesStayWithinTotal, JobsStayWithinTotal};
 
 /// Proves that, if the rows of a vector hold, no event increases the weight of a reachable state.
 pub fn sum_never_rises()
@@ -26,8 +26,15 @@ pub fn bounds_refuse_nothing()
     ensures { BoundsRefuseNothing }
 {}
 
-/// Proves that, if the rows of a pool's lifetime vector hold, the number of jobs ever submitted to
-/// the pool is at most the total of that vector.
+/// Proves that, if the rows of a vector hold and each queued job of a pool weighs at least 1, the
+/// number of queued jobs of the pool is at most the total of that vector. This holds for an
+/// unbounded queue too.
+pub fn queues_stay_within_total()
+    ensures { QueuesStayWithinTotal }
+{}
+
+/// Proves that, if the queue of a pool is bounded and the rows of its lifetime vector hold, the
+/// number of jobs ever submitted to the pool is at most the total of that vector.
 pub fn jobs_stay_within_total()
     ensures { JobsStayWithinTotal }
 {}

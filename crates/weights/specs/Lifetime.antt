@@ -1,5 +1,6 @@
--- The conditions of the lifetime vector of pool p: the queue and the threads of p have room for all jobs that are ever submitted to it.
-use Rattle.std.specs.Prelude.{ℕ, ◌+◌, ◌-◌, List, [], ◌∷◌, ◌++◌, map}
+-- The conditions of the lifetime vector of pool p: the queue and the threads of p have room for all jobs that are ever submitted to it. An
+-- unbounded queue needs none but L1, V2 to V4, L5, V6 and V7.
+use Rattle.std.specs.Prelude.{ℕ, ◌+◌, ◌-◌, if◌then◌else◌, List, [], ◌∷◌, ◌++◌, map}
 use Rattle.std.specs.List.{flat_map, enumerate_from}
 use Rattle.job_bodies.specs.Plan.{Pool, Plan, pool_at, first_workers}
 use Rattle.weights.specs.declared.row.Rule.TheVariants.{L1, L2, L3}
@@ -14,10 +15,17 @@ use Rattle.weights.specs.Rows.{rows, classes_of}
 abbrev pub lifetime_limit : Pool → ℕ
 lifetime_limit pool = pool.queue + pool.max - first_workers pool
 
--- the conditions of the lifetime vector v of pool p: L1 of each pool, V2 to V7 with L5 in place of V5, L2 of each class of p, and L3
+-- L2 of each class of pool p, and then L3; none if the queue of p is unbounded
+abbrev pub room_rows : Plan → ℕ → Vector → List Row
+room_rows plan p v =
+    if (pool_at plan p).unbounded then []
+    else flat_map (λ entry. map (λ weight. row L2 (place.Class entry.0) 1 weight) (class_weights v entry.0)) (classes_of plan p)
+    ++ row L3 place.Total (total plan v) (lifetime_limit (pool_at plan p)) ∷ []
+
+-- the conditions of the lifetime vector v of pool p: L1 of each pool, V2 to V7 with L5 in place of V5, and, unless the queue of p is
+-- unbounded, L2 of each class of p, and L3
 abbrev pub lifetime_rows : Plan → ℕ → Vector → List Row
 lifetime_rows plan p v =
     map (λ entry. row L1 (place.Worker entry.0) (workers_weight v entry.0) 0) (enumerate_from 0 plan.pools)
     ++ rows NoWeight plan v
-    ++ flat_map (λ entry. map (λ weight. row L2 (place.Class entry.0) 1 weight) (class_weights v entry.0)) (classes_of plan p)
-    ++ row L3 place.Total (total plan v) (lifetime_limit (pool_at plan p)) ∷ []
+    ++ room_rows plan p v

@@ -85,8 +85,8 @@ fn visit_all_l2_rows<V: RowVisitor>(plan: &Plan, pool: usize, vector: &Vector, v
 
 impl Vector {
     /// Passes all conditions of the pool's lifetime vector to the visitor: first L1 of each pool,
-    /// then the rows of [`Vector::visit_rows`] with L5 in place of V5, then L2 of each weight of
-    /// each class of the pool, then L3.
+    /// then the rows of [`Vector::visit_rows`] with L5 in place of V5, then, unless the queue of the
+    /// pool is unbounded, L2 of each weight of each class of the pool, and L3.
     pub fn visit_lifetime_rows<V: RowVisitor>(&self, plan: &Plan, pool: usize, visitor: &mut V)
         requires fits { IsTrue (spec.vector_fits plan.now self.now) }
         requires pool { pool < length plan.now.pools }
@@ -95,12 +95,27 @@ impl Vector {
     {
         visit_worker_rows(plan, self, visitor);
         self.visit_rows(plan, GetReturn::NoWeight, visitor);
+        self.visit_room_rows(plan, pool, visitor);
+    }
+
+    /// Passes L2 of each weight of each class of the pool and then L3 to the visitor. Does nothing
+    /// if the queue of the pool is unbounded.
+    fn visit_room_rows<V: RowVisitor>(&self, plan: &Plan, pool: usize, visitor: &mut V)
+        requires fits { IsTrue (spec.vector_fits plan.now self.now) }
+        requires pool { pool < length plan.now.pools }
+        ensures { Visits V.HasSeen visitor.old visitor.new
+            (lifetime.room_rows plan.now pool self.now) }
+    {
+        let sizes = &plan.pools()[pool];
+        if sizes.unbounded {
+            return;
+        }
         visit_all_l2_rows(plan, pool, self, visitor);
         visitor.visit(Row::new(
             Rule::L3,
             Place::Total,
             self.total(plan),
-            lifetime_limit(&plan.pools()[pool]),
+            lifetime_limit(sizes),
         ));
     }
 

@@ -1,5 +1,6 @@
 //! The conditions of the standing vector of a pool, which show that the number of queued jobs never
-//! exceeds the capacity of the queue. [`Rule`] explains the names of the rows.
+//! exceeds the capacity of the queue. An unbounded queue has no condition of this kind. [`Rule`]
+//! explains the names of the rows.
 
 ghost use Rattle.std.specs.Prelude.{◌≡◌, ◌==◌, ◌<◌, ◌∷◌, [], if◌then◌else◌, IsTrue, Some, length, map, slice_get};
 ghost use Rattle.job_bodies.specs.WellFormed.{IsWellFormed};
@@ -8,7 +9,7 @@ ghost use Rattle.weights.specs.declared.row.Place.TheVariants as place;
 ghost use Rattle.weights.specs.GetReturn.{DoneWeight};
 ghost use Rattle.weights.specs.Row.{row, first_failing};
 ghost use Rattle.weights.specs.Rows.{rows, classes_of};
-ghost use Rattle.weights.specs.Standing.{standing_rows};
+ghost use Rattle.weights.specs.Standing.{capacity_rows, standing_rows};
 ghost use Rattle.weights.specs.Vector as spec;
 ghost use Rattle.weights.specs.Visits.{Visits};
 
@@ -54,16 +55,30 @@ fn visit_queued_rows<V: RowVisitor>(plan: &Plan, pool: usize, vector: &Vector, v
 
 impl Vector {
     /// Passes all conditions of the pool's standing vector to the visitor: first the rows of
-    /// [`Vector::visit_rows`], then S1 of each class of the pool, then S2.
+    /// [`Vector::visit_rows`], then S1 of each class of the pool and S2, unless the queue of the pool
+    /// is unbounded.
     pub fn visit_standing_rows<V: RowVisitor>(&self, plan: &Plan, pool: usize, visitor: &mut V)
         requires fits { IsTrue (spec.vector_fits plan.now self.now) }
         requires pool { pool < length plan.now.pools }
         ensures { Visits V.HasSeen visitor.old visitor.new (standing_rows plan.now pool self.now) }
     {
         self.visit_rows(plan, GetReturn::DoneWeight, visitor);
+        self.visit_capacity_rows(plan, pool, visitor);
+    }
+
+    /// Passes S1 of each class of the pool and then S2 to the visitor. Does nothing if the queue of
+    /// the pool is unbounded.
+    fn visit_capacity_rows<V: RowVisitor>(&self, plan: &Plan, pool: usize, visitor: &mut V)
+        requires fits { IsTrue (spec.vector_fits plan.now self.now) }
+        requires pool { pool < length plan.now.pools }
+        ensures { Visits V.HasSeen visitor.old visitor.new (capacity_rows plan.now pool self.now) }
+    {
+        let sizes = &plan.pools()[pool];
+        if sizes.unbounded {
+            return;
+        }
         visit_queued_rows(plan, pool, self, visitor);
-        let pool = &plan.pools()[pool];
-        visitor.visit(Row::new(Rule::S2, Place::Total, self.total(plan), pool.queue));
+        visitor.visit(Row::new(Rule::S2, Place::Total, self.total(plan), sizes.queue));
     }
 
     /// Returns the first condition from V2 to V7 that fails, in the order of

@@ -7,7 +7,7 @@ use Rattle.job_bodies.specs.declared.action.Action.TheVariants as action
 use Rattle.job_bodies.specs.Plan.{Plan, pool_at, client_at}
 use Rattle.pool_machine.specs.declared.offer.Offer.{Offer}
 use Rattle.pool_machine.specs.declared.offer.Offer.TheVariants as offer
-use Rattle.pool_machine.specs.PoolState.{PoolView, queue_limit, answer, taken, retired}
+use Rattle.pool_machine.specs.PoolState.{PoolView, room_limit, answer, taken, retired}
 use Rattle.pool_machine.proofs.Events.{started_below, queued_at_core, refused_when_full, taken_takes, retired_retires}
 use Rattle.written_machine.specs.declared.client_state.ClientState.{ClientState}
 use Rattle.written_machine.specs.declared.parent.Parent.{Parent}
@@ -39,6 +39,10 @@ abbrev pub event_of : Parent → Event
 event_of (parent.Client c) = event.Client c
 event_of (parent.Job j) = event.Job j
 
+-- the queue of pool p is bounded and full
+abbrev pub HasNoRoom : Plan → State → ℕ → Type 0
+HasNoRoom plan s p = ((pool_at plan p).unbounded ≡ false) × ((pool_at plan p).queue ≤ length (pool_part s p).queue)
+
 -- a rejection does not require a full pool here, because in Java's steps the pool may have room again
 pub data Happens (plan : Plan) (s : State) : Event → State → Outcome → Type 0 where
   works : (a : Parent) (body : List Action) (i u : ℕ) → IsAtAction plan s a body i (Some (action.Work u))
@@ -48,11 +52,11 @@ pub data Happens (plan : Plan) (s : State) : Event → State → Outcome → Typ
       → Happens plan s (event_of a) (with_job (new_job k a i (Stage.At 0)) (with_position a (i + 1) s)) (outcome.Started (length s.jobs))
   queues : (a : Parent) (body : List Action) (i k : ℕ) → IsAtAction plan s a body i (Some (action.Submit k))
       → (pool_at plan (pool_of plan k)).core ≤ threads plan s (pool_of plan k)
-      → length (pool_part s (pool_of plan k)).queue < queue_limit (pool_at plan (pool_of plan k)).queue (pool_part s (pool_of plan k)).idle
+      → length (pool_part s (pool_of plan k)).queue < room_limit (pool_at plan (pool_of plan k)).unbounded (pool_at plan (pool_of plan k)).queue (pool_part s (pool_of plan k)).idle (length (pool_part s (pool_of plan k)).queue)
       → Happens plan s (event_of a) (queued_state plan s a i k) (outcome.Queued (length s.jobs))
   is_refused : (a : Parent) (body : List Action) (i k : ℕ) → IsAtAction plan s a body i (Some (action.Submit k))
       → (pool_at plan (pool_of plan k)).may_reject ≡ false
-      → (pool_at plan (pool_of plan k)).queue ≤ length (pool_part s (pool_of plan k)).queue
+      → HasNoRoom plan s (pool_of plan k)
       → (pool_at plan (pool_of plan k)).max ≤ threads plan s (pool_of plan k)
       → Happens plan s (event_of a) (record s { refusals = s.refusals + 1 }) (outcome.Refused (pool_of plan k))
   is_rejected : (a : Parent) (body : List Action) (i k : ℕ) → IsAtAction plan s a body i (Some (action.Submit k))
@@ -68,7 +72,7 @@ pub data Happens (plan : Plan) (s : State) : Event → State → Outcome → Typ
   takes : (p j : ℕ) (queue : List ℕ) (idle : ℕ) → (pool_part s p).queue ≡ j ∷ queue → (pool_part s p).idle ≡ suc idle
       → Happens plan s (event.Take p) (with_part p queue idle (with_stage j (Stage.At 0) s)) (outcome.Took j)
   retires : (p idle : ℕ) → (pool_part s p).idle ≡ suc idle → (pool_at plan p).core < threads plan s p
-      → ((pool_at plan p).queue ≡ 0 → length (pool_part s p).queue ≤ idle)
+      → ((pool_at plan p).unbounded ≡ false → (pool_at plan p).queue ≡ 0 → length (pool_part s p).queue ≤ idle)
       → Happens plan s (event.Retire p) (with_part p (pool_part s p).queue idle s) outcome.Retired
 
 -- ---- every step satisfies the relation
@@ -78,7 +82,7 @@ same_outcome plan s e x s' o same happened = subst (λ (y : State × Outcome). H
 
 -- a submit to a full pool satisfies the relation, whether or not the pool may reject jobs
 full_happens : (plan : Plan) (s : State) (a : Parent) (body : List Action) (i k : ℕ) → IsAtAction plan s a body i (Some (action.Submit k))
-    → (pool_at plan (pool_of plan k)).queue ≤ length (pool_part s (pool_of plan k)).queue → (pool_at plan (pool_of plan k)).max ≤ threads plan s (pool_of plan k)
+    → HasNoRoom plan s (pool_of plan k) → (pool_at plan (pool_of plan k)).max ≤ threads plan s (pool_of plan k)
     → (may : Bool) → (pool_at plan (pool_of plan k)).may_reject ≡ may
     → let x : State × Outcome = cond may (skipped s a i k, outcome.Rejected (pool_of plan k) (length s.jobs)) (record s { refusals = s.refusals + 1 }, outcome.Refused (pool_of plan k)) in Happens plan s (event_of a) x.0 x.1
 full_happens plan s a body i k at no_room all_started true may = is_rejected a body i k at may
@@ -93,7 +97,7 @@ answered_happens plan s a body i k at offer.Queued e =
     queues a body i k at room.0 room.1
 answered_happens plan s a body i k at offer.Refused e =
     let full = refused_when_full (pool_seen plan s (pool_of plan k)) e in
-    full_happens plan s a body i k at full.0 full.1 (pool_at plan (pool_of plan k)).may_reject refl
+    full_happens plan s a body i k at (full.0, full.1) full.2 (pool_at plan (pool_of plan k)).may_reject refl
 
 got_happens : (plan : Plan) (s : State) (a : Parent) (body : List Action) (i t j : ℕ) → IsAtAction plan s a body i (Some (action.Get t)) → child s a t ≡ Some j → (stage : Stage) → (job_at s j).stage ≡ stage
     → (s' : State) (o : Outcome) → got s a i j stage ≡ Some (s', o) → Happens plan s (event_of a) s' o

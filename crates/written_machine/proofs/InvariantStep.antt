@@ -1,5 +1,5 @@
 -- Proofs that each event preserves the invariant.
-use Rattle.std.proofs.Common.{◌≡◌, ◌≢◌, ℕ, suc, ◌+◌, ◌<◌, ◌≤◌, inl, inr, List, ◌∷◌, length, Some, None, refl, sym, ap, subst, ◌∙◌, arith}
+use Rattle.std.proofs.Common.{◌≡◌, ◌≢◌, ℕ, suc, ◌+◌, ◌<◌, ◌≤◌, inl, inr, List, ◌∷◌, length, Some, None, refl, sym, ap, subst, ◌∙◌, arith, false}
 use Rattle.std.proofs.lemmas.List.{length-set}
 use Rattle.job_bodies.specs.declared.action.Action.{Action}
 use Rattle.job_bodies.specs.declared.action.Action.TheVariants as action
@@ -128,7 +128,7 @@ kept_takes plan s p j queue idle kept is_queue is_idle =
       ];
     }
 
-kept_retires : (plan : Plan) (s : State) (p idle : ℕ) → StateInvariant plan s → (pool_part s p).idle ≡ suc idle → (pool_at plan p).core < threads plan s p → ((pool_at plan p).queue ≡ 0 → length (pool_part s p).queue ≤ idle) → StateInvariant plan (with_part p (pool_part s p).queue idle s)
+kept_retires : (plan : Plan) (s : State) (p idle : ℕ) → StateInvariant plan s → (pool_part s p).idle ≡ suc idle → (pool_at plan p).core < threads plan s p → ((pool_at plan p).unbounded ≡ false → (pool_at plan p).queue ≡ 0 → length (pool_part s p).queue ≤ idle) → StateInvariant plan (with_part p (pool_part s p).queue idle s)
 kept_retires plan s p idle kept is_idle above_core not_handed = record {
   classes = kept.classes;
   parents = kept.parents;

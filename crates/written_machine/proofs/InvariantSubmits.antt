@@ -8,7 +8,7 @@ use Rattle.job_bodies.specs.declared.action.Action.TheVariants as action
 use Rattle.job_bodies.specs.Plan.{Plan, pool_at}
 use Rattle.job_bodies.specs.ValidBody.{IsValidBody}
 use Rattle.job_bodies.proofs.Bodies.{HasValidBodies}
-use Rattle.pool_machine.specs.PoolState.{queue_limit}
+use Rattle.pool_machine.specs.PoolState.{room_limit}
 use Rattle.written_machine.specs.declared.parent.Parent.{Parent}
 use Rattle.written_machine.specs.State.{Stage, State, PoolPart, pool_part, pool_of, threads}
 use Rattle.written_machine.specs.Step.{with_position, with_job, new_job, skipped, moved_jobs}
@@ -89,7 +89,7 @@ kept_starts plan s a body i k ordered kept at below = record {
 
 -- the pool to whose queue the new job was appended satisfies the invariant
 queued_here : (plan : Plan) (s : State) (a : Parent) (body : List Action) (i k : ℕ) → StateInvariant plan s → IsAtAction plan s a body i (Some (action.Submit k)) → pool_of plan k < length plan.pools
-    → (pool_at plan (pool_of plan k)).core ≤ threads plan s (pool_of plan k) → length (pool_part s (pool_of plan k)).queue < queue_limit (pool_at plan (pool_of plan k)).queue (pool_part s (pool_of plan k)).idle
+    → (pool_at plan (pool_of plan k)).core ≤ threads plan s (pool_of plan k) → length (pool_part s (pool_of plan k)).queue < room_limit (pool_at plan (pool_of plan k)).unbounded (pool_at plan (pool_of plan k)).queue (pool_part s (pool_of plan k)).idle (length (pool_part s (pool_of plan k)).queue)
     → HasPoolInvariant plan (moved_jobs a (i + 1) s ++ new_job k a i Stage.Queued ∷ []) (pool_of plan k) (record { queue = (pool_part s (pool_of plan k)).queue ++ length s.jobs ∷ []; idle = (pool_part s (pool_of plan k)).idle })
 queued_here plan s a body i k kept at exists at_core room =
     let q = pool_of plan k in
@@ -117,7 +117,7 @@ queued_elsewhere plan s a body i k kept at p inside other =
     (kept.pools p inside)
 
 pub kept_queues : (plan : Plan) (s : State) (a : Parent) (body : List Action) (i k : ℕ) → HasValidBodies plan → StateInvariant plan s → IsAtAction plan s a body i (Some (action.Submit k))
-    → (pool_at plan (pool_of plan k)).core ≤ threads plan s (pool_of plan k) → length (pool_part s (pool_of plan k)).queue < queue_limit (pool_at plan (pool_of plan k)).queue (pool_part s (pool_of plan k)).idle
+    → (pool_at plan (pool_of plan k)).core ≤ threads plan s (pool_of plan k) → length (pool_part s (pool_of plan k)).queue < room_limit (pool_at plan (pool_of plan k)).unbounded (pool_at plan (pool_of plan k)).queue (pool_part s (pool_of plan k)).idle (length (pool_part s (pool_of plan k)).queue)
     → StateInvariant plan (queued_state plan s a i k)
 kept_queues plan s a body i k ordered kept at at_core room =
     let q = pool_of plan k in

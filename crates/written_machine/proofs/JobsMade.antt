@@ -163,4 +163,4 @@ have_jobs_step plan s s' o kept have (retires p idle is_idle above_core not_hand
 -- a pool that refuses a job has a full queue and its maximum of threads
 pub refused_when : (plan : Plan) (s s' : State) (p : ℕ) {e : Event} → HasValidBodies plan → Happens plan s e s' (outcome.Refused p)
     → (p < length plan.pools) × ((pool_at plan p).queue ≤ length (pool_part s p).queue) × ((pool_at plan p).max ≤ threads plan s p)
-refused_when plan s s' p ordered (is_refused a body i k at must no_room all_started) = (ordered.pools k (class_exists plan s a body i k ordered at), no_room, all_started)
+refused_when plan s s' p ordered (is_refused a body i k at must no_room all_started) = (ordered.pools k (class_exists plan s a body i k ordered at), no_room.1, all_started)

@@ -4,8 +4,8 @@ use Rattle.std.proofs.lemmas.Bool.{cases_eq}
 use Rattle.std.proofs.lemmas.List.{length_push, get_or-set_same, get_or-set_other}
 use Rattle.job_bodies.specs.Plan.{Plan, Pool, pool_at}
 use Rattle.written_machine.specs.State.{State, CreatedJob, PoolPart, no_pool_part, pool_part}
-use Rattle.pool_machine.specs.PoolState.{queue_limit}
-use Rattle.pool_machine.proofs.QueueLimits.{still_within}
+use Rattle.pool_machine.specs.PoolState.{room_limit}
+use Rattle.pool_machine.proofs.QueueLimits.{still_within, room_for_one}
 use Rattle.written_machine.proofs.Events.{with_part}
 use Rattle.written_machine.proofs.StateInvariant.{PoolInvariant, places, busy_jobs}
 
@@ -20,12 +20,12 @@ started_pool pool part ns busy true kept room =
 started_pool pool part ns busy false kept room =
     record { queue = kept.queue; within_max = omega (arith, kept.within_max); within_queue = kept.within_queue; core = λ some. let core = kept.core some in omega arith }
 
-pub queued_pool : (pool : Pool) (part : PoolPart) (ns : List ℕ) (busy n : ℕ) → PoolInvariant pool part ns busy → pool.core ≤ part.idle + busy → length part.queue < queue_limit pool.queue part.idle
+pub queued_pool : (pool : Pool) (part : PoolPart) (ns : List ℕ) (busy n : ℕ) → PoolInvariant pool part ns busy → pool.core ≤ part.idle + busy → length part.queue < room_limit pool.unbounded pool.queue part.idle (length part.queue)
     → PoolInvariant pool (record { queue = part.queue ++ n ∷ []; idle = part.idle }) (ns ++ n ∷ []) busy
 queued_pool pool part ns busy n kept at_core room = record {
   queue = ap (λ (queue : List ℕ). queue ++ n ∷ []) kept.queue;
   within_max = kept.within_max;
-  within_queue = omega (arith, length_push part.queue n);
+  within_queue = rw (length_push part.queue n) (room_for_one pool.unbounded pool.queue part.idle (length part.queue) room);
   core = λ some. at_core;
 }
 
@@ -34,16 +34,16 @@ pub taken_pool : (pool : Pool) (part : PoolPart) (ns ns' : List ℕ) (busy j : �
 taken_pool pool part ns ns' busy j queue idle kept is_queue is_idle others =
     let long : length part.queue ≡ suc (length queue) = ap length is_queue in
     let core = kept.core (omega arith) in
-    record { queue = others; within_max = omega (arith, kept.within_max); within_queue = still_within pool.queue part.idle idle (length part.queue) (length queue) kept.within_queue (omega arith) (λ none each. omega arith); core = λ some. omega arith }
+    record { queue = others; within_max = omega (arith, kept.within_max); within_queue = still_within pool.unbounded pool.queue part.idle idle (length part.queue) (length queue) kept.within_queue (omega arith) (λ bounded none each. omega arith); core = λ some. omega arith }
 
 pub finished_pool : (pool : Pool) (part : PoolPart) (ns : List ℕ) (busy busy' : ℕ) → PoolInvariant pool part ns busy → busy' + 1 ≡ busy → PoolInvariant pool (record { queue = part.queue; idle = part.idle + 1 }) ns busy'
 finished_pool pool part ns busy busy' kept fewer =
-    record { queue = kept.queue; within_max = omega (arith, kept.within_max); within_queue = still_within pool.queue part.idle (part.idle + 1) (length part.queue) (length part.queue) kept.within_queue (omega arith) (λ none each. omega arith); core = λ some. let core = kept.core some in omega arith }
+    record { queue = kept.queue; within_max = omega (arith, kept.within_max); within_queue = still_within pool.unbounded pool.queue part.idle (part.idle + 1) (length part.queue) (length part.queue) kept.within_queue (omega arith) (λ bounded none each. omega arith); core = λ some. let core = kept.core some in omega arith }
 
 pub retired_pool : (pool : Pool) (part : PoolPart) (ns : List ℕ) (busy idle : ℕ) → PoolInvariant pool part ns busy → part.idle ≡ suc idle → pool.core < part.idle + busy
-    → (pool.queue ≡ 0 → length part.queue ≤ idle) → PoolInvariant pool (record { queue = part.queue; idle = idle }) ns busy
+    → (pool.unbounded ≡ false → pool.queue ≡ 0 → length part.queue ≤ idle) → PoolInvariant pool (record { queue = part.queue; idle = idle }) ns busy
 retired_pool pool part ns busy idle kept is_idle above_core not_handed =
-    record { queue = kept.queue; within_max = omega (arith, kept.within_max); within_queue = still_within pool.queue part.idle idle (length part.queue) (length part.queue) kept.within_queue (omega arith) (λ none each. not_handed none); core = λ some. omega arith }
+    record { queue = kept.queue; within_max = omega (arith, kept.within_max); within_queue = still_within pool.unbounded pool.queue part.idle idle (length part.queue) (length part.queue) kept.within_queue (omega arith) (λ bounded none each. not_handed bounded none); core = λ some. omega arith }
 
 abbrev pub HasPoolInvariant : Plan → List CreatedJob → ℕ → PoolPart → Type 0
 HasPoolInvariant plan jobs p part = PoolInvariant (pool_at plan p) part (places plan jobs p) (busy_jobs plan jobs p)

@@ -1,14 +1,15 @@
 -- The laws of the machine as lemmas, for the crates that depend on this one.
-use Rattle.std.proofs.Common.{ℕ, List, Some, refl, arith}
+use Rattle.std.proofs.Common.{ℕ, List, Some, refl, arith, length}
 use Rattle.job_bodies.specs.declared.action.Action.{Action}
 use Rattle.job_bodies.specs.declared.action.Action.TheVariants as action
-use Rattle.job_bodies.specs.Plan.{Plan, submitted_class}
+use Rattle.job_bodies.specs.Plan.{Plan, pool_at, submitted_class}
 use Rattle.job_bodies.specs.WellFormed.{IsWellFormed}
 use Rattle.job_bodies.specs.ValidBody.{IsValidBody}
 use Rattle.job_bodies.proofs.Bodies.{HasValidBodies, ordered}
+use Rattle.pool_machine.proofs.QueueLimits.{bounded_within}
 use Rattle.written_machine.specs.declared.parent.Parent.{Parent}
 use Rattle.written_machine.specs.declared.event.Outcome.TheVariants.{Refused}
-use Rattle.written_machine.specs.State.{State}
+use Rattle.written_machine.specs.State.{State, pool_part}
 use Rattle.written_machine.specs.Laws.{PoolsKeepTheirSizes, QueuesOnlyAtCore, GetsHaveChildren, WaitingSetsAreTested}
 use Rattle.written_machine.specs.Reach.{IsReached}
 use Rattle.written_machine.specs.JobsMade.{ThreadsHaveJobs, RefusalsNeedJobs}
@@ -26,7 +27,7 @@ use Rattle.written_machine.proofs.FullWaitingSets.{Stayed, stays_through, fixed_
 pub sizes_kept : PoolsKeepTheirSizes
 sizes_kept plan s well_formed reached p inside =
     let pool = (kept plan s well_formed reached).pools p inside in
-    record { within_max = pool.within_max; within_queue = pool.within_queue }
+    record { within_max = pool.within_max; within_queue = bounded_within (pool_at plan p).unbounded (pool_at plan p).queue (pool_part s p).idle (length (pool_part s p).queue) pool.within_queue }
 
 pub queued_at_core : QueuesOnlyAtCore
 queued_at_core plan s well_formed reached p inside some = ((kept plan s well_formed reached).pools p inside).core some

@@ -5,7 +5,7 @@ use Rattle.support.specs.Places.{places_where, last_of}
 use Rattle.job_bodies.specs.declared.action.Action.{Action}
 use Rattle.job_bodies.specs.declared.action.Action.TheVariants as action
 use Rattle.job_bodies.specs.Plan.{Plan, Pool, pool_at, submitted_class}
-use Rattle.pool_machine.specs.PoolState.{queue_limit}
+use Rattle.pool_machine.specs.PoolState.{room_limit}
 use Rattle.written_machine.specs.declared.parent.Parent.{Parent}
 use Rattle.written_machine.specs.State.{Stage, State, CreatedJob, PoolPart, no_job, job_at, pool_part, is_made_by, is_busy_in, is_queued_in}
 use Rattle.written_machine.specs.Step.{point}
@@ -30,7 +30,7 @@ pub record ActorInvariant (jobs : List CreatedJob) (a : Parent) (body : List Act
 pub record PoolInvariant (pool : Pool) (part : PoolPart) (places : List ℕ) (busy : ℕ) : Type 0 where
   pub queue : part.queue ≡ places
   pub within_max : part.idle + busy ≤ pool.max
-  pub within_queue : length part.queue ≤ queue_limit pool.queue part.idle
+  pub within_queue : length part.queue ≤ room_limit pool.unbounded pool.queue part.idle (length part.queue)
   pub core : 1 ≤ length part.queue → pool.core ≤ part.idle + busy
 
 abbrev pub places : Plan → List CreatedJob → ℕ → List ℕ

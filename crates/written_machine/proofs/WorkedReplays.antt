@@ -16,7 +16,7 @@ use Rattle.written_machine.specs.Waiting.{is_waiting_set}
 -- ---- the plans
 
 abbrev pool_of_sizes : ℕ → ℕ → ℕ → ℕ → Pool
-pool_of_sizes letter core max queue = record { name = letter ∷ []; core = core; max = max; queue = queue; prestart = false; may_reject = false }
+pool_of_sizes letter core max queue = record { name = letter ∷ []; core = core; max = max; queue = queue; prestart = false; may_reject = false; unbounded = false }
 
 -- the plan with all pools prestarted
 abbrev prestarted : Plan → Plan

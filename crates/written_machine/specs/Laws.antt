@@ -1,5 +1,5 @@
 -- Laws about every reachable state of a well-formed plan.
-use Rattle.std.specs.Prelude.{◌≡◌, ◌≢◌, ◌<◌, ◌≤◌, ◌↔◌, ⊤, ℕ, IsTrue, List, length, Some, slice_get}
+use Rattle.std.specs.Prelude.{◌≡◌, ◌≢◌, ◌<◌, ◌≤◌, ◌↔◌, ⊤, ℕ, IsTrue, IsFalse, List, length, Some, slice_get}
 use Rattle.job_bodies.specs.declared.action.Action.{Action}
 use Rattle.job_bodies.specs.declared.action.Action.TheVariants.{Get}
 use Rattle.job_bodies.specs.Plan.{Plan, pool_at, submitted_class}
@@ -17,10 +17,11 @@ use Rattle.written_machine.specs.LooseWaiting.{IsLooseWaitingSet}
 abbrev pub HoldsWhereReached : (Plan → State → Type 0) → Type 0
 HoldsWhereReached holds = (plan : Plan) (s : State) → IsWellFormed plan → IsReached plan s → holds plan s
 
--- pool p has at most its maximum of threads, and at most as many queued jobs as its capacity, or as idle workers if its capacity is 0
+-- pool p has at most its maximum of threads and, unless its queue is unbounded, at most as many queued jobs as its capacity, or as idle
+-- workers if its capacity is 0
 pub record KeepsSizes (plan : Plan) (s : State) (p : ℕ) : Type 0 where
   pub within_max : threads plan s p ≤ (pool_at plan p).max
-  pub within_queue : length (pool_part s p).queue ≤ queue_limit (pool_at plan p).queue (pool_part s p).idle
+  pub within_queue : IsFalse (pool_at plan p).unbounded → length (pool_part s p).queue ≤ queue_limit (pool_at plan p).queue (pool_part s p).idle
 
 abbrev pub PoolsKeepTheirSizes : Type 0
 PoolsKeepTheirSizes = HoldsWhereReached (λ plan s. (p : ℕ) → p < length plan.pools → KeepsSizes plan s p)

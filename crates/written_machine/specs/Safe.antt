@@ -1,6 +1,6 @@
--- The safety of a plan: in every reachable state no submit has been refused, each pool is within its maximum and its capacity,
--- and no set of unfinished jobs waits only for its own members, now or at later gets.
-use Rattle.std.specs.Prelude.{◌≡◌, ◌≤◌, ◌<◌, ℕ, Bool, true, false, IsTrue, is_some, List, length}
+-- The safety of a plan: in every reachable state no submit has been refused, each pool is within its maximum and, if its queue is bounded,
+-- its capacity (or its number of idle workers if the capacity is 0), and no set of unfinished jobs waits only for its own members, now or at later gets.
+use Rattle.std.specs.Prelude.{◌≡◌, ◌≤◌, ◌<◌, ℕ, Bool, true, false, IsTrue, IsFalse, is_some, List, length}
 use Rattle.job_bodies.specs.Plan.{Plan, pool_at}
 use Rattle.pool_machine.specs.PoolState.{queue_limit}
 use Rattle.written_machine.specs.declared.event.Event.{Event}
@@ -14,7 +14,7 @@ use Rattle.written_machine.specs.LooseWaiting.{IsLooseWaitingSet}
 pub record IsSafe (plan : Plan) (s : State) : Type 0 where
   pub none_refused : s.refusals ≡ 0
   pub within_max : (p : ℕ) → p < length plan.pools → threads plan s p ≤ (pool_at plan p).max
-  pub within_queue : (p : ℕ) → p < length plan.pools → length (pool_part s p).queue ≤ queue_limit (pool_at plan p).queue (pool_part s p).idle
+  pub within_queue : (p : ℕ) → p < length plan.pools → IsFalse (pool_at plan p).unbounded → length (pool_part s p).queue ≤ queue_limit (pool_at plan p).queue (pool_part s p).idle
   pub none_waits : (members : List ℕ) → ¬ IsWaitingSet plan s members
   pub none_waits_loosely : (members : List ℕ) → ¬ IsLooseWaitingSet plan s members
 

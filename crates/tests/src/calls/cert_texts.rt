@@ -24,6 +24,7 @@ fn plan(alloc: Global, may_reject: bool) -> Result<Plan, Fail> {
         queue: 2,
         prestart: false,
         may_reject,
+        unbounded: false,
     };
     let class = Class {
         name: String::from_str(alloc, "a")?,

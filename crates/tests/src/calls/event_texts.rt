@@ -17,6 +17,7 @@ fn plan_of_p_and_q(alloc: Global) -> Result<Plan, Fail> {
             queue: 2,
             prestart: false,
             may_reject: false,
+            unbounded: false,
         })?;
     }
     Ok(Plan::build(alloc, pools, Vec::new(alloc), Vec::new(alloc))?)

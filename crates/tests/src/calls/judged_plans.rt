@@ -3,7 +3,7 @@
 use crate::calls::judged_texts::{
     FAN_OUT, FAN_OUT_CERT, FORGETTING, FORGETTING_CERT, LIFETIME_CERT, ONCE, ONCE_AND_ONE_MORE,
     ONE_POOL, ONE_POOL_CERT, THAT_MAY_REJECT, THAT_REJECTS_NOTHING, THERE_AND_BACK,
-    THERE_AND_BACK_CERT, WITH_A_HIGH_RANK, WITH_A_LARGER_WEIGHT, WITH_A_MILLION_CLIENTS,
+    THERE_AND_BACK_CERT, UNBOUNDED, WITH_A_HIGH_RANK, WITH_A_LARGER_WEIGHT, WITH_A_MILLION_CLIENTS,
     WITH_A_QUEUE_OF_1, WITH_A_SHORT_ROW, WITH_CORE_ABOVE_MAX, WITH_THE_MOST_WEIGHT, WITHOUT_BOUND,
 };
 use cert_check::{
@@ -224,6 +224,8 @@ const JUDGED: &[Judged] = &[
     (THAT_MAY_REJECT, WITHOUT_BOUND, false, true),
     (THAT_MAY_REJECT, ONE_POOL_CERT, false, false),
     (THAT_REJECTS_NOTHING, ONE_POOL_CERT, false, true),
+    (UNBOUNDED, WITHOUT_BOUND, false, true),
+    (UNBOUNDED, ONE_POOL_CERT, true, true),
 ];
 
 #[test]
@@ -267,7 +269,7 @@ fn standing(total: u64, limit: u64) -> BoundTotal {
     BoundTotal {
         lifetime: false,
         total,
-        limit,
+        limit: Some(limit),
     }
 }
 
@@ -306,7 +308,7 @@ fn what_is_checked(rt: HostRuntime) -> Result<(), Fail> {
         bound: Some(BoundTotal {
             lifetime: true,
             total: 3,
-            limit: 3,
+            limit: Some(3),
         }),
         blocked: 0,
         limit: 1,
@@ -315,8 +317,16 @@ fn what_is_checked(rt: HostRuntime) -> Result<(), Fail> {
         bound: Some(standing(2, 1)),
         ..line
     };
-    let rejecting_line = PoolLine {
+    let line_without_bound = PoolLine {
         bound: None,
+        ..line
+    };
+    let unbounded_line = PoolLine {
+        bound: Some(BoundTotal {
+            lifetime: false,
+            total: 2,
+            limit: None,
+        }),
         ..line
     };
     let bad_plan = PlanFault::at_entry(Part::Pool, 0, BAD_NUMBER);
@@ -329,7 +339,13 @@ fn what_is_checked(rt: HostRuntime) -> Result<(), Fail> {
             Ok((false, with_a_queue_of_1)),
         ),
         (ONCE, LIFETIME_CERT, Ok((true, lifetime_line))),
-        (THAT_MAY_REJECT, WITHOUT_BOUND, Ok((true, rejecting_line))),
+        (
+            THAT_MAY_REJECT,
+            WITHOUT_BOUND,
+            Ok((true, line_without_bound)),
+        ),
+        (UNBOUNDED, WITHOUT_BOUND, Ok((true, line_without_bound))),
+        (UNBOUNDED, ONE_POOL_CERT, Ok((true, unbounded_line))),
         (ONE_POOL, WITHOUT_BOUND, Err(cert_fault(WRONG_SHAPE))),
         (WITH_CORE_ABOVE_MAX, half, Err(CheckFault::Plan(bad_plan))),
         (ONE_POOL, half, Err(cert_fault(NOT_JSON))),

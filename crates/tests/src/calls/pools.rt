@@ -7,10 +7,11 @@ use pool_machine::{Offer, PoolState};
 use std::alloc::Global;
 use std::test::Fail;
 
-// Returns a pool with these sizes. Its name is empty, since no test uses it.
-fn described(alloc: Global, core: u64, max: u64, queue: u64) -> Pool
+// Returns a pool with these sizes, whose queue may be unbounded. Its name is empty, since no test
+// uses it.
+fn described(alloc: Global, core: u64, max: u64, queue: u64, unbounded: bool) -> Pool
     ensures { result
-        ≡ record { name = []; core = core; max = max; queue = queue; prestart = false; may_reject = false } }
+        ≡ record { name = []; core = core; max = max; queue = queue; prestart = false; may_reject = false; unbounded = unbounded } }
 {
     Pool {
         name: String::new(alloc),
@@ -19,12 +20,13 @@ fn described(alloc: Global, core: u64, max: u64, queue: u64) -> Pool
         queue,
         prestart: false,
         may_reject: false,
+        unbounded,
     }
 }
 
 #[test]
 fn below_core_a_thread_starts_though_a_worker_is_idle(rt: HostRuntime) -> Result<(), Fail> {
-    let mut pool = PoolState::new(rt.alloc(), &described(rt.alloc(), 2, 2, 2));
+    let mut pool = PoolState::new(rt.alloc(), &described(rt.alloc(), 2, 2, 2, false));
     assert_eq!(rt; pool.offer(0)?, Offer::Started);
     assert_eq!(rt; pool.busy(), 1);
     pool.finish();
@@ -41,7 +43,7 @@ fn below_core_a_thread_starts_though_a_worker_is_idle(rt: HostRuntime) -> Result
 
 #[test]
 fn the_queue_fills_before_the_threads_reach_the_maximum(rt: HostRuntime) -> Result<(), Fail> {
-    let mut pool = PoolState::new(rt.alloc(), &described(rt.alloc(), 1, 2, 1));
+    let mut pool = PoolState::new(rt.alloc(), &described(rt.alloc(), 1, 2, 1, false));
     assert_eq!(rt; (pool.core(), pool.max(), pool.capacity()), (1, 2, 1));
     assert_eq!(rt; pool.take(), None);
     let answers = [
@@ -61,5 +63,23 @@ fn the_queue_fills_before_the_threads_reach_the_maximum(rt: HostRuntime) -> Resu
     pool.finish();
     assert!(rt; !pool.retire(), "the threads are core");
     assert_eq!(rt; pool.take(), Some(1));
+    Ok(())
+}
+
+#[test]
+fn an_unbounded_queue_has_room_for_each_job(rt: HostRuntime) -> Result<(), Fail> {
+    let mut pool = PoolState::new(rt.alloc(), &described(rt.alloc(), 1, 2, 1, true));
+    assert!(rt; pool.is_unbounded());
+    let answers = [Offer::Started, Offer::Queued, Offer::Queued, Offer::Queued];
+    for (job, answer) in answers.iter().enumerate() {
+        assert_eq!(rt; pool.offer(job)?, *answer, "to job {job}");
+    }
+    assert_eq!(rt; (pool.threads(), pool.queued()), (1, 3));
+
+    assert!(rt; pool.busy() == 1);
+    pool.finish();
+    assert!(rt; !pool.retire(), "the threads are core");
+    assert_eq!(rt; pool.take(), Some(1));
+    assert_eq!(rt; pool.take(), None);
     Ok(())
 }

@@ -22,9 +22,10 @@ fn plan_line(alloc: Global, plan: &Plan) -> Result<String, AllocError> {
     for pool in plan.pools() {
         let beforehand = if pool.prestart { " prestarted" } else { "" };
         let full = if pool.may_reject { " may_reject" } else { "" };
+        let limit = if pool.unbounded { " unbounded" } else { "" };
         write!(
             line,
-            "; pool {} {} {} {}{beforehand}{full}",
+            "; pool {} {} {} {}{beforehand}{full}{limit}",
             pool.name, pool.core, pool.max, pool.queue
         )?;
     }

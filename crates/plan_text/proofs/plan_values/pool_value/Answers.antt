@@ -1,9 +1,4 @@
-use Rattle.std.proofs.Common.{◌≤◌, ◌&&◌, ap, ◌∙◌, arith}
-use Rattle.std.proofs.lemmas.Bool.{and_parts}
-use Rattle.job_bodies.specs.declared.limits.TheConstants.{MAX_SIZE}
-use Rattle.job_bodies.specs.Plan.{Pool}
-use Rattle.job_bodies.specs.WellFormed.{is_within, least_queue, is_valid_name, has_valid_sizes}
-use Rattle.job_bodies.proofs.Bodies.{within_bounds}
+use Rattle.std.proofs.Common.{ap, ◌∙◌}
 use Rattle.toml.specs.Data.{table}
 use Rattle.toml.proofs.Views.{view-Table}
 use Rattle.plan_text.proofs.Members.{pool_members}
@@ -12,14 +7,4 @@ use Rattle.plan_text.proofs.plan_values.pool_value.Goals as goal
 
 pub returns : goal.returns
 unfolding pool_data
-returns c = view-Table _ ∙ ap table (rw (c.in_ok-insert_value-4.ensures, c.in_ok-insert_flag-2.ensures, c.in_ok-insert_flag.ensures, c.in_ok-insert_value-3.ensures, c.in_ok-insert_value-2.ensures, c.in_ok-insert_value.ensures, c.new-table.ensures.empty, c.number_value.ensures, c.number_value-2.ensures, c.number_value-3.ensures, c.in_ok-string.ensures, c.as_str.ensures.value, ← c.pool.view_is) (pool_members _ _ _ _ _ _))
-
--- the queue of a valid pool is within the limit on sizes
-pub number_value-requires-3 : goal.number_value-requires-3
-number_value-requires-3 c =
-    let pool = c.args.pool.now in
-    let valid = and_parts (is_valid_name pool.name) (has_valid_sizes pool) c.requires in
-    let sizes = and_parts (is_within 1 MAX_SIZE pool.core && is_within pool.core MAX_SIZE pool.max) (is_within (least_queue pool) MAX_SIZE pool.queue) valid.1 in
-    let most = (within_bounds (least_queue pool) MAX_SIZE pool.queue sizes.1).1 in
-    let same = ap (λ (seen : Pool). seen.queue) c.pool.view_is in
-    omega arith
+returns c = view-Table _ ∙ ap table (rw (c.in_ok-insert_value-4.ensures, c.in_ok-insert_flag-2.ensures, c.in_ok-insert_flag.ensures, c.in_ok-insert_value-3.ensures, c.in_ok-insert_value-2.ensures, c.in_ok-insert_value.ensures, c.new-table.ensures.empty, c.number_value.ensures, c.number_value-2.ensures, c.in_ok-queue_value.ensures, c.in_ok-string.ensures, c.as_str.ensures.value, ← c.pool.view_is) (pool_members _ _ _ _ _ _))

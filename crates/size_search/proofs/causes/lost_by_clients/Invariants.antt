@@ -4,4 +4,4 @@ use Rattle.size_search.specs.Submitted.{LostByClients}
 use Rattle.size_search.proofs.causes.lost_by_clients.Given as goal
 
 abbrev pub invariant-loop-number : goal.invariant-loop-number
-invariant-loop-number l = (c i : ℕ) → c < l.number → ¬ LostByClients l.plan l.may_reject c i
+invariant-loop-number l = (c i : ℕ) → c < l.number → ¬ LostByClients l.plan l.without_bound c i

@@ -4,4 +4,4 @@ use Rattle.size_search.specs.Submitted.{LostByJobs}
 use Rattle.size_search.proofs.causes.lost_by_jobs.Given as goal
 
 abbrev pub invariant-loop-number : goal.invariant-loop-number
-invariant-loop-number l = (k i : ℕ) → k < l.number → ¬ LostByJobs l.plan l.may_reject k i
+invariant-loop-number l = (k i : ℕ) → k < l.number → ¬ LostByJobs l.plan l.without_bound k i

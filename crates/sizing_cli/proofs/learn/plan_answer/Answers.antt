@@ -1,6 +1,11 @@
 use Rattle.std.proofs.Common.{inl, inr, refl, rules, string_bytes}
 use Rattle.learning.specs.declared.inference_limit.InferenceLimit.TheVariants.{Text}
+use Rattle.conformance.specs.Lines.{lines_of}
+use Rattle.sizing_cli.proofs.EffectiveLearned.{learned_is_effective}
 use Rattle.sizing_cli.proofs.learn.plan_answer.Goals as goal
+
+pub commented_plan-requires : goal.commented_plan-requires
+commented_plan-requires c = learned_is_effective c.args.seen.now c.in_ok-plan.plan (lines_of c.args.recording.now) c.requires.seen c.in_ok-plan.ensures
 
 pub returns-in-Some : goal.returns-in-Some
 returns-in-Some c =

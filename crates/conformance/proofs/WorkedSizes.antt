@@ -1,0 +1,40 @@
+-- Examples of differences between a recorded pool and a plan's pool, computed from the definitions.
+use Rattle.std.proofs.Common.{◌≡◌, ℕ, Bool, true, false, [], ◌∷◌, refl}
+use Rattle.job_bodies.specs.Plan.{Pool}
+use Rattle.recordings.specs.declared.pool_sizes.HandlerKind.TheVariants.{Abort}
+use Rattle.recordings.specs.declared.pool_sizes.PoolSizes.{PoolSizes}
+use Rattle.recordings.specs.declared.pool_sizes.QueueKind.{QueueKind}
+use Rattle.recordings.specs.declared.pool_sizes.QueueKind.TheVariants.{Array, Linked, Other}
+use Rattle.conformance.specs.declared.difference.Difference.TheVariants.{Max, KindOfQueue, Capacity, BoundedQueue}
+use Rattle.conformance.specs.Sizes.{differences}
+
+-- A recorded pool with a core of 2.
+abbrev recorded : ℕ → QueueKind → ℕ → PoolSizes
+recorded max queue capacity = record { core = 2; max = max; queue = queue; capacity = capacity; timeout = false; prestarted = 0; handler = Abort }
+
+-- A pool of a plan with a core of 2 and a queue of 1,000,000, which has no effect if the queue is unbounded.
+abbrev planned : ℕ → Bool → Pool
+planned max unbounded = record { name = 113 ∷ []; core = 2; max = max; queue = 1000000; prestart = false; may_reject = false; unbounded = unbounded }
+
+pub unbounded : differences true (recorded 2 Linked 1000000000) (planned 2 true) ≡ []
+unbounded = refl
+
+-- The maximum has no effect over an unbounded queue.
+pub any_max : differences true (recorded 1000000000 Linked 1000000000) (planned 2 true) ≡ []
+any_max = refl
+
+pub bounded_in_the_recording : differences true (recorded 2 Linked 50) (planned 2 true) ≡ BoundedQueue 50 ∷ []
+bounded_in_the_recording = refl
+
+-- The largest queue of a plan is not unbounded.
+pub largest_in_the_recording : differences true (recorded 2 Linked 1000000) (planned 2 true) ≡ BoundedQueue 1000000 ∷ []
+largest_in_the_recording = refl
+
+pub another_kind : differences true (recorded 2 Array 1000000000) (planned 2 true) ≡ KindOfQueue Array ∷ []
+another_kind = refl
+
+pub another_kind_and_capacity : differences true (recorded 2 Other 50) (planned 2 true) ≡ KindOfQueue Other ∷ BoundedQueue 50 ∷ []
+another_kind_and_capacity = refl
+
+pub bounded_in_the_plan : differences true (recorded 1000000000 Linked 1000000000) (planned 2 false) ≡ Max 1000000000 2 ∷ Capacity 1000000000 1000000 ∷ []
+bounded_in_the_plan = refl

@@ -1,0 +1,97 @@
+//! The limits that a search sets itself for unbounded queues. Such a queue always has room, so that
+//! a search could add jobs to it forever. A search makes no submit to an unbounded queue that has
+//! as many jobs as its limit.
+//!
+//! The jobs in an unbounded queue of a witness are those that running jobs have submitted and may
+//! get, and a few more that become running jobs. The limits leave room for them.
+
+use crate::pools::most_threads;
+use job_bodies::{Action, Plan};
+use std::alloc::{AllocError, Global};
+
+/// The limit for the submits of clients. The submits of jobs have a higher limit.
+const FOR_CLIENTS: u64 = 16;
+
+/// A limit for a submit to a pool whose queue is unbounded.
+#[derive(Clone, Copy, PartialEq, Eq)]
+pub(crate) struct QueueLimit {
+    pub(crate) pool: usize,
+    /// The number of queued jobs from which on a search does not make the submit.
+    pub(crate) jobs: u64,
+}
+
+/// The limits for all submits of a plan.
+#[derive(Drop)]
+pub(crate) struct QueueLimits<'a> {
+    plan: &'a Plan,
+    /// For each pool, the limit for the submits of jobs, or `None` if the pool's queue is bounded.
+    for_jobs: Vec<Option<u64>>,
+}
+
+impl<'a> QueueLimits<'a> {
+    /// Computes the limits of the plan.
+    pub(crate) fn of(alloc: Global, plan: &'a Plan) -> Result<QueueLimits<'a>, AllocError> {
+        let mut for_jobs = Vec::with_capacity(alloc, plan.pools().len())?;
+        for (number, pool) in plan.pools().iter().enumerate() {
+            let limit = if pool.unbounded {
+                Some(most_queued(plan, number))
+            } else {
+                None
+            };
+            for_jobs.push(limit)?;
+        }
+        Ok(QueueLimits { plan, for_jobs })
+    }
+
+    /// Returns the limit for the submits of this class by clients. Returns `None` if the queue of
+    /// the class's pool is bounded.
+    pub(crate) fn for_clients(&self, class: usize) -> Option<QueueLimit> {
+        let mut limit = self.for_jobs(class)?;
+        limit.jobs = FOR_CLIENTS;
+        Some(limit)
+    }
+
+    /// Returns the limit for the submits of this class by jobs. Returns `None` if the queue of the
+    /// class's pool is bounded.
+    pub(crate) fn for_jobs(&self, class: usize) -> Option<QueueLimit> {
+        let pool = self.plan.class_at(class)?.pool;
+        let jobs = self.for_jobs.get(pool).copied()??;
+        Some(QueueLimit { pool, jobs })
+    }
+}
+
+/// Returns the number of jobs that a search puts into the pool's unbounded queue at most: the limit
+/// for clients, and the number of jobs that the running jobs of all pools can have submitted to
+/// this pool if each pool has all its threads.
+pub(crate) fn most_queued(plan: &Plan, pool: usize) -> u64 {
+    let mut jobs = FOR_CLIENTS;
+    for (number, from) in plan.pools().iter().enumerate() {
+        let of_threads = most_threads(from).saturating_mul(most_submits(plan, number, pool));
+        jobs = jobs.saturating_add(of_threads);
+    }
+    jobs
+}
+
+/// Returns the maximum number of jobs that one job of the pool `from` submits to the pool `to`.
+fn most_submits(plan: &Plan, from: usize, to: usize) -> u64 {
+    let mut most = 0u64;
+    for class in plan.classes() {
+        if class.pool == from {
+            most = most.max(submits(plan, &class.body, to));
+        }
+    }
+    most
+}
+
+/// Returns the number of submits to the pool in this body.
+fn submits(plan: &Plan, body: &[Action], to: usize) -> u64 {
+    let mut count = 0u64;
+    for action in body {
+        if let Action::Submit(class) = action {
+            if plan.class_at(*class).is_some_and(|class| class.pool == to) {
+                count = count.saturating_add(1);
+            }
+        }
+    }
+    count
+}

@@ -1,0 +1,102 @@
+//! The lints of submits again and again to unbounded queues, of jobs that are never got.
+
+ghost use Rattle.std.specs.Prelude.{◌≡◌, ◌++◌, OnOk};
+ghost use Rattle.diagnostics.specs.Lints as spec;
+
+use crate::lint::Lint;
+use crate::lint_conditions::{fills_queue, is_submitted};
+use crate::lints::push_if;
+use job_bodies::{Action, Class, Client, Part, Plan};
+use std::alloc::AllocError;
+
+/// Appends a lint for each submit that repeating clients cause again and again, to a pool with an
+/// unbounded queue, if no get waits for the job. `repeated` has, for each class, whether repeating
+/// clients submit it, directly or through other jobs.
+pub(crate) fn push_growing(
+    found: &mut Vec<Lint>,
+    plan: &Plan,
+    repeated: &[bool],
+) -> Result<(), AllocError>
+    ensures { OnOk result
+        (found.new.items ≡ found.old.items ++ spec.growing_lints plan.now repeated.now) }
+{
+    push_classes(found, plan, repeated)?;
+    push_clients(found, plan)
+}
+
+fn push_classes(found: &mut Vec<Lint>, plan: &Plan, repeated: &[bool]) -> Result<(), AllocError>
+    ensures { OnOk result
+        (found.new.items ≡ found.old.items ++ spec.growing_of_classes plan.now repeated.now) }
+{
+    for (number, class) in plan.classes().iter().enumerate() {
+        push_class(found, plan, repeated, number, class)?;
+    }
+    Ok(())
+}
+
+fn push_class(
+    found: &mut Vec<Lint>,
+    plan: &Plan,
+    repeated: &[bool],
+    number: usize,
+    class: &Class,
+) -> Result<(), AllocError>
+    ensures { OnOk result
+        (found.new.items
+        ≡ found.old.items ++ spec.growing_of_class plan.now repeated.now number class.now) }
+{
+    if is_submitted(repeated, number) {
+        push_body(found, plan, Part::Class, number, &class.body)
+    } else {
+        Ok(())
+    }
+}
+
+fn push_clients(found: &mut Vec<Lint>, plan: &Plan) -> Result<(), AllocError>
+    ensures { OnOk result
+        (found.new.items ≡ found.old.items ++ spec.growing_of_clients plan.now) }
+{
+    for (number, client) in plan.clients().iter().enumerate() {
+        push_client(found, plan, number, client)?;
+    }
+    Ok(())
+}
+
+fn push_client(
+    found: &mut Vec<Lint>,
+    plan: &Plan,
+    number: usize,
+    client: &Client,
+) -> Result<(), AllocError>
+    ensures { OnOk result
+        (found.new.items
+        ≡ found.old.items ++ spec.growing_of_client plan.now number client.now) }
+{
+    if client.repeat {
+        push_body(found, plan, Part::Client, number, &client.body)
+    } else {
+        Ok(())
+    }
+}
+
+/// Appends a lint for each action of the body for which [`fills_queue`] returns true.
+fn push_body(
+    found: &mut Vec<Lint>,
+    plan: &Plan,
+    part: Part,
+    number: usize,
+    body: &[Action],
+) -> Result<(), AllocError>
+    ensures { OnOk result
+        (found.new.items
+        ≡ found.old.items ++ spec.growing_of_body plan.now part number body.now) }
+{
+    for (position, action) in body.iter().enumerate() {
+        push_if(
+            found,
+            fills_queue(plan, body, position, *action),
+            Lint::QueueMayGrow(part, number, position),
+        )?;
+    }
+    Ok(())
+}

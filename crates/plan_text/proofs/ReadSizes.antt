@@ -1,0 +1,85 @@
+-- Proofs that a plan that was read is its own effective plan.
+use Rattle.std.proofs.Common.{◌≡◌, ℕ, true, ◌&&◌, List, map, take, slice_get, codes, Option, None, Some, Ok, refl, sym, ap, subst, ◌∙◌, inl, inr}
+use Rattle.std.proofs.lemmas.Bool.{cases_Bool, and_parts}
+use Rattle.toml.specs.Data.{Data, Members}
+use Rattle.support.specs.Reading.{read_each}
+use Rattle.support.proofs.Steps.{ok_injective, bind_ok_then}
+use Rattle.support.proofs.ReadElements.{read_at}
+use Rattle.job_bodies.specs.declared.fault.PlanFault.{PlanFault}
+use Rattle.job_bodies.specs.declared.fault.Part.TheVariants as part
+use Rattle.job_bodies.specs.declared.limits.TheConstants.{MAX_POOLS, MAX_CLASSES, MAX_CLIENT_KINDS, MAX_SIZE}
+use Rattle.job_bodies.specs.Plan.{Pool, Plan}
+use Rattle.job_bodies.specs.WellFormed.{is_within, has_valid_sizes}
+use Rattle.job_bodies.specs.Checks.{check_name, check_pool}
+use Rattle.job_bodies.proofs.Passing.{both_passed, test_passed, each_passed}
+use Rattle.plan_text.specs.Document.{document_of, list_at}
+use Rattle.plan_text.specs.Entry.{entry_of, text_at, number_at, size_at, flag_at}
+use Rattle.plan_text.specs.Sizes.{sizes_of}
+use Rattle.plan_text.specs.Entries.{Entries, read_pool, read_class, read_client, entries_of}
+use Rattle.plan_text.specs.EffectivePlan.{effective_pool, effective_plan}
+use Rattle.plan_text.specs.PlanOf.{plan_of_entries, plan_of}
+use Rattle.plan_text.proofs.Buildable.{is_read}
+use Rattle.plan_text.proofs.EffectivePlans.{effective_pool_is, effective_plan_is}
+
+-- sizes of an unbounded queue whose maximum is in range: the maximum is core, and the queue is the largest size
+sizes_over_unbounded : (core : ℕ) (max queue : Option ℕ) → is_within core MAX_SIZE (sizes_of core max queue).max ≡ true → (sizes_of core max queue).unbounded ≡ true
+    → ((sizes_of core max queue).max ≡ core) × ((sizes_of core max queue).queue ≡ MAX_SIZE)
+sizes_over_unbounded core max (Some queue) within on = absurd cc
+sizes_over_unbounded core None None within on = (refl, refl)
+sizes_over_unbounded core (Some max) None within on =
+    elim (cases_Bool (is_within core MAX_SIZE max)) [
+      | inl inside ↦ (rw inside refl, refl)
+      | inr outside ↦ absurd (let found = rw outside at within in cc)
+    ]
+
+-- a pool that was read is its own effective pool, if its sizes are valid
+effective_if_valid : (index : ℕ) (value : Data) (pool : Pool) → read_pool index value ≡ Ok pool → has_valid_sizes pool ≡ true → effective_pool pool ≡ pool
+unfolding read_pool
+effective_if_valid index value pool e valid =
+    bind_ok_then (entry_of part.Pool index _ value) _ pool e (λ entry _ e1.
+    bind_ok_then (text_at entry (codes "name")) _ pool e1 (λ name _ e2.
+    bind_ok_then (number_at entry (codes "core")) _ pool e2 (λ core _ e3.
+    bind_ok_then (size_at entry (codes "max")) _ pool e3 (λ max _ e4.
+    bind_ok_then (size_at entry (codes "queue")) _ pool e4 (λ queue _ e5.
+    bind_ok_then (flag_at entry (codes "prestart")) _ pool e5 (λ prestart _ e6.
+    bind_ok_then (flag_at entry (codes "may_reject")) _ pool e6 (λ may_reject _ e7.
+    let same = ok_injective {F = PlanFault} _ pool e7 in
+    let core_is : core ≡ pool.core = ap (λ (p : Pool). p.core) same in
+    let max_is : (sizes_of core max queue).max ≡ pool.max = ap (λ (p : Pool). p.max) same in
+    let queue_is : (sizes_of core max queue).queue ≡ pool.queue = ap (λ (p : Pool). p.queue) same in
+    let unbounded_is : (sizes_of core max queue).unbounded ≡ pool.unbounded = ap (λ (p : Pool). p.unbounded) same in
+    let within = (and_parts (is_within 1 MAX_SIZE pool.core) _ (and_parts (is_within 1 MAX_SIZE pool.core && is_within pool.core MAX_SIZE pool.max) _ valid).0).1 in
+    effective_pool_is pool (λ on.
+    let sizes = sizes_over_unbounded core max queue (rw (max_is, core_is) within) (unbounded_is ∙ on) in
+    (sym max_is ∙ sizes.0 ∙ core_is, sym queue_is ∙ sizes.1)))))))))
+
+-- the pools of a document that was read
+pools_of : {P : Type 0} (document : Members) (entries : Entries) → entries_of document ≡ Ok entries → ((values : List Data) → read_each read_pool 0 values ≡ Ok entries.pools → P) → P
+unfolding entries_of
+pools_of document entries e next =
+    bind_ok_then (list_at (codes "pool") MAX_POOLS document) _ entries e (λ pools _ e1.
+    bind_ok_then (list_at (codes "class") MAX_CLASSES document) _ entries e1 (λ classes _ e2.
+    bind_ok_then (list_at (codes "client") MAX_CLIENT_KINDS document) _ entries e2 (λ clients _ e3.
+    bind_ok_then (read_each read_pool 0 pools) _ entries e3 (λ ps at e4.
+    bind_ok_then (read_each read_class 0 classes) _ entries e4 (λ ks _ e5.
+    bind_ok_then (read_each read_client 0 clients) _ entries e5 (λ cs _ e6.
+    let same = ok_injective {F = PlanFault} _ entries e6 in
+    next pools (at ∙ ap (λ (found : Entries). Ok found.pools) same)))))))
+
+pub effective_of_entries : (document : Members) (entries : Entries) (plan : Plan) → entries_of document ≡ Ok entries → plan_of_entries entries ≡ Ok plan → effective_plan plan ≡ plan
+effective_of_entries document entries plan read e =
+    pools_of document entries read (λ values pools_read. is_read entries plan e (λ pools classes r. effective_plan_is plan (λ i pool here.
+    let there = subst (λ (ps : List Pool). slice_get ps i ≡ Some pool) (sym r.pools_are) here in
+    let from = read_at read_pool values entries.pools i pool pools_read there in
+    let names = take i (map (λ (pool : Pool). pool.name) entries.pools) in
+    let passed = each_passed (λ index. check_pool (take index (map (λ pool. pool.name) entries.pools)) index) entries.pools r.pools_pass i pool there in
+    let valid = test_passed (has_valid_sizes pool) _ (both_passed (check_name names part.Pool i pool.name) _ tt passed).1 in
+    effective_if_valid i from.0 pool from.2 valid)))
+
+-- a plan that was read is its own effective plan
+pub read_is_effective : (bytes : List ℕ) (plan : Plan) → plan_of bytes ≡ Ok plan → effective_plan plan ≡ plan
+unfolding plan_of
+read_is_effective bytes plan e =
+    bind_ok_then (document_of bytes) _ plan e (λ document _ e1.
+    bind_ok_then (entries_of document) _ plan e1 (λ entries read e2.
+    effective_of_entries document entries plan read e2))

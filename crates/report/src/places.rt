@@ -1,0 +1,152 @@
+//! The number of queue places that each pool needs, by a certificate.
+
+ghost use Rattle.std.specs.Prelude.{◌≡◌, IfOk, nat_le};
+ghost use Rattle.std.specs.List.{list_all, enumerate_from};
+ghost use Rattle.job_bodies.specs.Plan.{pool_at};
+ghost use Rattle.weights.specs.Vector.{class_weights};
+ghost use Rattle.report.specs.Places as spec;
+
+use cert_text::{Cert, PoolCert};
+use job_bodies::{Class, Plan};
+use std::alloc::{AllocError, Global};
+use weights::{Bound, Vector};
+
+/// Returns, for each pool of the certificate, the maximum number of jobs in its queue at once,
+/// which is the number of queue places that it needs. The number is `None` if the certificate does
+/// not bound it: the pool has a lifetime vector or no vector, its vector does not fit the plan, or
+/// its queue is unbounded and a queued job of the pool does not count in its vector.
+///
+/// # Errors
+///
+/// [`AllocError`] if memory runs out.
+pub fn needed_places(
+    alloc: Global,
+    plan: &Plan,
+    cert: &Cert,
+) -> Result<Vec<Option<u64>>, AllocError>
+    ensures { IfOk result (λ needed. needed.items ≡ spec.needed_places plan.now cert.now) }
+{
+    let mut needed = Vec::new(alloc);
+    for (number, part) in cert.pools.iter().enumerate() {
+        needed.push(places_in(plan, number, part))?;
+    }
+    Ok(needed)
+}
+
+fn places_in(plan: &Plan, number: usize, part: &PoolCert) -> Option<u64>
+    ensures { result ≡ spec.places_in plan.now (number, part.now) }
+{
+    places_of(plan, number, &part.bound)
+}
+
+fn places_of(plan: &Plan, pool: usize, bound: &Option<Bound>) -> Option<u64>
+    ensures { result ≡ spec.places_of plan.now pool bound.now }
+{
+    match bound {
+        Some(bound) => places_of_bound(plan, pool, bound),
+        None => None,
+    }
+}
+
+fn places_of_bound(plan: &Plan, pool: usize, bound: &Bound) -> Option<u64>
+    ensures { result ≡ spec.places_of_bound plan.now pool bound.now }
+{
+    match bound {
+        Bound::Standing(vector) if bounds_jobs(plan, pool, bound) => total_of(plan, vector),
+        Bound::Standing(_) | Bound::Lifetime(_) => None,
+    }
+}
+
+/// Returns the total of a vector, or `None` if the vector does not fit the plan.
+pub fn total_of(plan: &Plan, vector: &Vector) -> Option<u64>
+    ensures { result ≡ spec.total_of plan.now vector.now }
+{
+    if vector.fits(plan) {
+        Some(vector.total(plan))
+    } else {
+        None
+    }
+}
+
+/// Returns whether the total of this bound of a pool is a bound of the pool's jobs: of those in its
+/// queue, or, if it is a lifetime vector, of those that are ever submitted to the pool. For a
+/// bounded queue the conditions on the bound demand this. For an unbounded queue they do not, so
+/// each job of the pool has to have a weight of at least 1.
+pub(crate) fn bounds_jobs(plan: &Plan, pool: usize, bound: &Bound) -> bool
+    ensures { result ≡ spec.bounds_jobs plan.now pool bound.now }
+{
+    !is_unbounded(plan, pool) || counts_jobs(plan, pool, bound)
+}
+
+/// Returns whether the queue of the pool with this number is unbounded. Returns `false` if there is
+/// no such pool.
+pub(crate) fn is_unbounded(plan: &Plan, pool: usize) -> bool
+    ensures { result ≡ (pool_at plan.now pool).unbounded }
+{
+    match plan.pool_at(pool) {
+        Some(pool) => pool.unbounded,
+        None => false,
+    }
+}
+
+/// Returns whether the vector of the bound fits the plan, and each job of the pool has a weight of
+/// at least 1 in it.
+fn counts_jobs(plan: &Plan, pool: usize, bound: &Bound) -> bool
+    ensures { result ≡ spec.counts_jobs plan.now pool bound.now }
+{
+    bound.vector().fits(plan) && counts_classes(pool, bound, plan.classes())
+}
+
+fn counts_classes(pool: usize, bound: &Bound, classes: &[Class]) -> bool
+    ensures { result
+        ≡ list_all (spec.counts_if_of pool bound.now) (enumerate_from 0 classes.now) }
+{
+    classes
+        .iter()
+        .enumerate()
+        .all(|(number, class)| counts_if_of(pool, bound, number, class))
+}
+
+/// Returns whether the class does not belong to the pool, or each job of the class has a weight of
+/// at least 1.
+fn counts_if_of(pool: usize, bound: &Bound, number: usize, class: &Class) -> bool
+    ensures { result ≡ spec.counts_if_of pool bound.now (number, class.now) }
+{
+    class.pool != pool || counts_class(bound, number)
+}
+
+/// Returns whether each job of the class has a weight of at least 1: in a standing vector while it
+/// is queued, and in a lifetime vector always.
+fn counts_class(bound: &Bound, class: usize) -> bool
+    ensures { result ≡ spec.counts_class bound.now class }
+{
+    match bound {
+        Bound::Standing(vector) => counts_queued(weights_of(vector, class)),
+        Bound::Lifetime(vector) => counts_always(weights_of(vector, class)),
+    }
+}
+
+fn counts_queued(weights: &[u64]) -> bool
+    ensures { result ≡ spec.counts_queued weights.now }
+{
+    match weights.first() {
+        Some(weight) => *weight >= 1,
+        None => false,
+    }
+}
+
+fn counts_always(weights: &[u64]) -> bool
+    ensures { result ≡ list_all (nat_le 1) weights.now }
+{
+    weights.iter().all(|weight| *weight >= 1)
+}
+
+/// Returns the weights of the class in the vector, or an empty list if the vector has none.
+fn weights_of(vector: &Vector, class: usize) -> &[u64]
+    ensures { result.now ≡ class_weights vector.now class }
+{
+    match vector.classes.get(class) {
+        Some(weights) => weights,
+        None => &[],
+    }
+}

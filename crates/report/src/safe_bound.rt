@@ -1,0 +1,313 @@
+//! The line of a pool in the text for a plan that a certificate accepts: the number of its threads,
+//! the bound of its queue and the shares in the bound. A share is the part of a bound that the
+//! clients of one kind, or the threads of one pool, account for.
+
+ghost use Rattle.std.specs.Prelude.{◌≡◌, ◌++◌, IsTrue, OnOk, map, string_bytes};
+ghost use Rattle.support.specs.Pushed.{Pushes};
+ghost use Rattle.weights.specs.Bound.{bound_vector};
+ghost use Rattle.weights.specs.Vector.{vector_fits, total};
+ghost use Rattle.report.specs.LostSubmits.{lost_texts};
+ghost use Rattle.report.specs.SafeText as spec;
+
+use crate::lost_submits::lost_texts;
+use crate::places::bounds_jobs;
+use crate::shares::{Shares, shares_of};
+use job_bodies::{Plan, Pool};
+use std::alloc::{AllocError, Global};
+use weights::{Bound, Vector};
+
+/// Appends the line with the number of the pool's threads and the bound of its queue.
+pub(crate) fn push_bound(
+    alloc: Global,
+    text: &mut String,
+    plan: &Plan,
+    number: usize,
+    pool: &Pool,
+    rejection: Option<u64>,
+    bound: &Option<Bound>,
+) -> Result<(), AllocError>
+    ensures { Pushes result text.old text.new
+        (spec.bound_line plan.now number pool.now rejection bound.now) }
+{
+    let name = pool.name.as_str();
+    write!(text, "{name}: ")?;
+    push_threads(text, pool)?;
+    push_queue(alloc, text, plan, number, pool, rejection, bound)?;
+    text.push('\n')
+}
+
+/// Appends the capacity of the pool's queue, and its bound with the shares in it. If the pool has no
+/// bound, or its bound does not bound the jobs in an unbounded queue, appends what follows.
+fn push_queue(
+    alloc: Global,
+    text: &mut String,
+    plan: &Plan,
+    number: usize,
+    pool: &Pool,
+    rejection: Option<u64>,
+    bound: &Option<Bound>,
+) -> Result<(), AllocError>
+    ensures { Pushes result text.old text.new
+        (spec.queue_text plan.now number pool.now rejection bound.now) }
+{
+    match bound {
+        Some(bound) if bounds_jobs(plan, number, bound) => {
+            push_bounded(alloc, text, plan, pool, bound)
+        }
+        Some(_) | None => push_open_queue(alloc, text, plan, number, pool, rejection),
+    }
+}
+
+/// Appends the capacity of the pool's queue, and what is known of the queue without a bound.
+fn push_open_queue(
+    alloc: Global,
+    text: &mut String,
+    plan: &Plan,
+    number: usize,
+    pool: &Pool,
+    rejection: Option<u64>,
+) -> Result<(), AllocError>
+    ensures { Pushes result text.old text.new
+        (spec.open_queue_text plan.now number pool.now rejection) }
+{
+    text.push_str(", queue ")?;
+    push_queue_size(text, pool)?;
+    text.push_str(": ")?;
+    push_no_bound(alloc, text, plan, number, pool, rejection)
+}
+
+/// Appends the capacity of the pool's queue, or `unbounded`.
+pub(crate) fn push_queue_size(text: &mut String, pool: &Pool) -> Result<(), AllocError>
+    ensures { Pushes result text.old text.new (spec.queue_size pool.now) }
+{
+    if pool.unbounded {
+        return text.push_str("unbounded");
+    }
+    let queue = pool.queue;
+    write!(text, "{queue}")
+}
+
+/// Appends, for a pool with an unbounded queue, why the queue has no bound. For any other pool
+/// appends that it may reject jobs, and after how many events it does if that is known.
+fn push_no_bound(
+    alloc: Global,
+    text: &mut String,
+    plan: &Plan,
+    number: usize,
+    pool: &Pool,
+    rejection: Option<u64>,
+) -> Result<(), AllocError>
+    ensures { Pushes result text.old text.new
+        (spec.no_bound_text plan.now number pool.now rejection) }
+{
+    if pool.unbounded {
+        push_growth(alloc, text, plan, number)
+    } else {
+        push_rejection(text, rejection)
+    }
+}
+
+/// Appends why the unbounded queue of the pool has no bound: the bodies with submits to it whose jobs
+/// they never get, or, if there are none, that no bound is known.
+fn push_growth(
+    alloc: Global,
+    text: &mut String,
+    plan: &Plan,
+    number: usize,
+) -> Result<(), AllocError>
+    ensures { Pushes result text.old text.new
+        (spec.growth_text (lost_texts plan.now number)) }
+{
+    let lost = lost_texts(alloc, plan, number)?;
+    if lost.is_empty() {
+        return text.push_str("no bound is known");
+    }
+    text.push_str("no bound: ")?;
+    push_separated(alloc, text, &lost)
+}
+
+/// Appends that a pool may reject jobs, and the number of events after which it does if it is
+/// known.
+fn push_rejection(text: &mut String, rejection: Option<u64>) -> Result<(), AllocError>
+    ensures { Pushes result text.old text.new (spec.rejects_text rejection) }
+{
+    match rejection {
+        Some(events) => write!(text, "may reject: after {events} events"),
+        None => text.push_str("may reject (not shown)"),
+    }
+}
+
+/// Appends the capacity of the pool's queue, its bound and the shares in the bound. Appends nothing
+/// if the vector of the bound does not fit the plan.
+fn push_bounded(
+    alloc: Global,
+    text: &mut String,
+    plan: &Plan,
+    pool: &Pool,
+    bound: &Bound,
+) -> Result<(), AllocError>
+    ensures { Pushes result text.old text.new (spec.bounded_text plan.now pool.now bound.now) }
+{
+    let vector = bound.vector();
+    if !vector.fits(plan) {
+        return Ok(());
+    }
+    text.push_str(", queue ")?;
+    push_queue_size(text, pool)?;
+    text.push_str(": ")?;
+    text.push_str(never_words(pool))?;
+    push_places(alloc, text, plan, bound)
+}
+
+/// Returns what a bound means for a pool that may reject jobs by the plan. Returns an empty text
+/// for any other pool, and for one with an unbounded queue, which never rejects jobs.
+fn never_words(pool: &Pool) -> &'static str
+    ensures { result.now ≡ spec.never_text pool.now }
+{
+    if pool.may_reject && !pool.unbounded {
+        "never rejects: "
+    } else {
+        ""
+    }
+}
+
+/// Appends the bound of a queue and the shares in it.
+fn push_places(
+    alloc: Global,
+    text: &mut String,
+    plan: &Plan,
+    bound: &Bound,
+) -> Result<(), AllocError>
+    requires { IsTrue (vector_fits plan.now (bound_vector bound.now)) }
+    ensures { Pushes result text.old text.new
+        (spec.places_text plan.now bound.now (total plan.now (bound_vector bound.now))) }
+{
+    let vector = bound.vector();
+    let total = vector.total(plan);
+    if total == 0 {
+        return text.push_str("no job waits in it");
+    }
+    push_most(text, bound, total)?;
+    text.push_str(" (")?;
+    push_shares(alloc, text, plan, vector)?;
+    text.push_str(")")
+}
+
+/// Appends the bound of a queue: the maximum number of jobs in it at one time, or of jobs that are
+/// ever submitted to the pool.
+pub(crate) fn push_most(text: &mut String, bound: &Bound, total: u64) -> Result<(), AllocError>
+    ensures { Pushes result text.old text.new (spec.most_text bound.now total) }
+{
+    match bound {
+        Bound::Standing(_) if total == 1 => text.push_str("up to 1 job waits at once"),
+        Bound::Standing(_) => write!(text, "up to {total} jobs wait at once"),
+        Bound::Lifetime(_) if total == 1 => text.push_str("at most 1 job is ever given to it"),
+        Bound::Lifetime(_) => write!(text, "at most {total} jobs are ever given to it"),
+    }
+}
+
+/// Appends the number of the pool's threads, such as `4 threads`, or `2 to 4 threads` if the core
+/// size and the maximum differ. A pool with an unbounded queue never has more threads than core.
+pub(crate) fn push_threads(text: &mut String, pool: &Pool) -> Result<(), AllocError>
+    ensures { Pushes result text.old text.new (spec.threads_text pool.now) }
+{
+    let core = pool.core;
+    let max = pool.max;
+    if !pool.unbounded && core != max {
+        return write!(text, "{core} to {max} threads");
+    }
+    match core {
+        1 => text.push_str("1 thread"),
+        _ => write!(text, "{core} threads"),
+    }
+}
+
+/// Appends the shares in the total of a vector that are not 0, such as `200 browser, 8 from threads
+/// of web`.
+fn push_shares(
+    alloc: Global,
+    text: &mut String,
+    plan: &Plan,
+    vector: &Vector,
+) -> Result<(), AllocError>
+    requires { IsTrue (vector_fits plan.now vector.now) }
+    ensures { Pushes result text.old text.new (spec.separated (spec.share_texts plan.now vector.now)) }
+{
+    let Shares { clients, workers } = shares_of(alloc, plan, vector)?;
+    let mut parts = Vec::new(alloc);
+    push_clients(alloc, &mut parts, plan, &clients)?;
+    push_workers(alloc, &mut parts, plan, &workers)?;
+    push_separated(alloc, text, &parts)
+}
+
+fn push_clients(
+    alloc: Global,
+    parts: &mut Vec<String>,
+    plan: &Plan,
+    shares: &[u64],
+) -> Result<(), AllocError>
+    ensures { OnOk result
+        (map string_bytes parts.new.items
+        ≡ map string_bytes parts.old.items ++ spec.client_parts plan.now shares.now) }
+{
+    for (kind, share) in shares.iter().enumerate() {
+        push_share(alloc, parts, *share, "", plan.client_name(kind))?;
+    }
+    Ok(())
+}
+
+fn push_workers(
+    alloc: Global,
+    parts: &mut Vec<String>,
+    plan: &Plan,
+    shares: &[u64],
+) -> Result<(), AllocError>
+    ensures { OnOk result
+        (map string_bytes parts.new.items
+        ≡ map string_bytes parts.old.items ++ spec.worker_parts plan.now shares.now) }
+{
+    for (pool, share) in shares.iter().enumerate() {
+        push_share(
+            alloc,
+            parts,
+            *share,
+            "from threads of ",
+            plan.pool_name(pool),
+        )?;
+    }
+    Ok(())
+}
+
+/// Appends the text of one share, such as `8 from threads of web`, unless the share is 0. `from` is
+/// the text between the number and the name.
+#[tactic(auto, using(std::proofs::lemmas::List::map_push))]
+fn push_share(
+    alloc: Global,
+    parts: &mut Vec<String>,
+    share: u64,
+    from: &str,
+    name: &str,
+) -> Result<(), AllocError>
+    ensures { OnOk result
+        (map string_bytes parts.new.items
+        ≡ map string_bytes parts.old.items ++ spec.share_text share from.now name.now) }
+{
+    if share == 0 {
+        return Ok(());
+    }
+    parts.push(format!(in alloc; "{share} {from}{name}")?)?;
+    Ok(())
+}
+
+/// Appends the parts, with a comma and a space between them.
+#[tactic(auto, using(crate::proofs::Rows::row_seen))]
+pub(crate) fn push_separated(
+    alloc: Global,
+    text: &mut String,
+    parts: &[String],
+) -> Result<(), AllocError>
+    ensures { Pushes result text.old text.new (spec.separated (map string_bytes parts.now)) }
+{
+    let row = parts.join(alloc, ", ")?;
+    text.push_str(&row)
+}

@@ -1,0 +1,14 @@
+-- The plan of a recording is its own effective plan.
+use Rattle.std.proofs.Common.{◌≡◌, List, map, sym, ap, subst}
+use Rattle.job_bodies.specs.Plan.{Pool, Plan}
+use Rattle.plan_text.specs.EffectivePlan.{effective_plan}
+use Rattle.recordings.specs.RecordingLine.{RecordedLine}
+use Rattle.conformance.specs.RejectingPools.{with_rejecting_pools}
+use Rattle.learning.specs.declared.inference_result.InferredPlan.{InferredPlan}
+use Rattle.learning.proofs.NormalPools.{learned_pools_are_normal}
+use Rattle.sizing_cli.specs.Learn.{IsSeen}
+
+-- a plan with the pools of a recording, in which the pools that reject jobs there may reject jobs, is its own effective plan
+pub learned_is_effective : (seen : InferredPlan) (plan : Plan) (lines : List RecordedLine) → IsSeen lines seen → plan ≡ with_rejecting_pools seen.plan lines → effective_plan plan ≡ plan
+learned_is_effective seen plan lines is_seen marked =
+    subst (λ (p : Plan). effective_plan p ≡ p) (sym marked) (ap (λ (pools : List Pool). record (with_rejecting_pools seen.plan lines) { pools = pools }) (learned_pools_are_normal seen.plan lines is_seen.pools))
