@@ -9,7 +9,7 @@ with a certificate that is no JSON:
 - Each format has the exit status of `ask`.
 - `ask --json` writes one object on one line, which Python's json reads. The object always has the same keys, in order. Its answer, its
   faults and its warnings are those of `ask`, with the same positions and texts.
-- The shares of clients and threads in a bound add up to the bound, and a standing bound is at most the queue.
+- The shares of clients and threads in a bound add up to the bound, and a standing bound is at most the queue, unless this is unbounded.
 - In `sizing replay`, the events of a witness end in a refused submit or in jobs that are stuck.
 - The sizes are those of `sizing fit`.
 - `ask --dot` writes a graph that has each pool, and that Graphviz draws, if `dot` is installed.
@@ -42,6 +42,8 @@ KEYS = ["answer", "assumptions", "faults", "file", "format", "omitted", "plan", 
 POOL_KEYS = ["blocked", "bound", "core", "max", "name", "prestart", "queue", "waits_for"]
 # The further keys of a pool that may reject jobs.
 REJECTING_KEYS = ["may_reject", "rejects_after"]
+# The queue of a pool without a capacity.
+UNBOUNDED = "unbounded"
 # The kinds of warnings that are notes: whether they matter depends on the code around a submit.
 NOTES = {"open future", "run in caller"}
 ANSWERS = {"SAFE", "NOT SAFE", "NOT DECIDED"}
@@ -146,11 +148,11 @@ def place_in(file, it):
 
 
 def differences_of_bounds(value):
-    """Yields a line for each wrong bound. Pools have bounds exactly when the plan is safe, except that a pool that may reject jobs needs
-    none, and the shares in a bound add up to it."""
+    """Yields a line for each wrong bound. Pools have bounds exactly when the plan is safe, except that a pool that may reject jobs or has
+    an unbounded queue needs none, and the shares in a bound add up to it."""
     for pool in value["pools"]:
         bound = pool["bound"]
-        may_lack_it = value["answer"] != "SAFE" or "may_reject" in pool
+        may_lack_it = value["answer"] != "SAFE" or "may_reject" in pool or pool["queue"] == UNBOUNDED
         if (bound is None and not may_lack_it) or (bound is not None and value["answer"] != "SAFE"):
             yield f"pool {pool['name']} has the bound {bound}"
         if bound is None:
@@ -158,7 +160,7 @@ def differences_of_bounds(value):
         paid = sum(share["jobs"] for share in [*bound["clients"], *bound["threads"]])
         if paid != bound["total"]:
             yield f"pool {pool['name']}: the shares add up to {paid}, and the bound is {bound['total']}"
-        if bound["kind"] == "standing" and bound["total"] > pool["queue"]:
+        if bound["kind"] == "standing" and pool["queue"] != UNBOUNDED and bound["total"] > pool["queue"]:
             yield f"pool {pool['name']}: {bound['total']} may wait in a queue of {pool['queue']}"
         if pool["blocked"]["most"] + pool["blocked"]["left"] != pool["core"]:
             yield f"pool {pool['name']}: {pool['blocked']}, of {pool['core']} core threads"
@@ -173,8 +175,9 @@ def differences_of_sizes(program, plan, value):
         if fit.stdout != f"no fitting sizes found\n{sizes['cause']['text']}\n":
             yield f"the cause is {sizes['cause']!r}, and that of fit is {fit.stdout!r}"
         return
-    fitted = re.findall(r"(?m)^pool (\w+): core (\d+).*, max (\d+).*, queue (\d+)", fit.stdout)
-    sizes_of_json = [(it["name"], str(it["core"]), str(it["max"]), str(it["queue"])) for it in sizes["pools"]]
+    # there is no maximum beside an unbounded queue
+    fitted = re.findall(r"(?m)^pool (\w+): core (\d+)(?: \(now \d+\))?(?:, max (\d+).*)?, queue (\w+)", fit.stdout)
+    sizes_of_json = [(it["name"], str(it["core"]), "" if it["queue"] == UNBOUNDED else str(it["max"]), str(it["queue"])) for it in sizes["pools"]]
     if sizes_of_json != fitted:
         yield f"the sizes are {sizes_of_json}, and those of fit are {fitted}"
 

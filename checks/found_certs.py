@@ -20,9 +20,10 @@ trial that the program computes.
 4. In each round, from round 0, each pool without a rank whose blocked vector is found gets the number of the round as its rank. A
    get is not counted if its jobs depend only on pools with ranks. In round 0 each pool also needs a standing vector or, if there is
    none, a lifetime vector: all jobs of the pool weigh at least 1 at every point, gets subtract nothing, and no pool lends. A pool that
-   may reject jobs needs neither: if none is found, it has no bound.
+   may reject jobs needs neither: if none is found, it has no bound. For a pool with an unbounded queue only a standing vector is
+   searched for, whatever its total is: pools lend as long as a loan reduces the total. If there is none, the pool has no bound.
 
-In a third of the plans, pools may reject jobs.
+In a third of the plans, pools may reject jobs. In half of them, queues may be unbounded.
 
     python3 checks/found_certs.py [PLANS [SEED]]     # by default 2,000 plans and seed 1
 
@@ -37,6 +38,7 @@ import sys
 sys.dont_write_bytecode = True
 
 from asking import built_program, each, written
+from small_plans import NO_CAPACITY, size_lines
 
 MOST_WEIGHT = 1_000_000_000
 MOST_LOANS = 256
@@ -48,7 +50,7 @@ def main():
     words = [int(word) for word in sys.argv[1:]]
     count, seed = (words + [2000, 1][len(words):])[:2]
     chance = random.Random(seed)
-    plans = [plan_by_chance(chance, rejecting=number % 3 == 2) for number in range(count)]
+    plans = [plan_by_chance(chance, *kinds_of(number)) for number in range(count)]
     answers = [answer(plan) for plan in plans]
     printed = each(lambda plan: output_for(program, text(plan)), plans)
     differing = [number for number in range(count) if printed[number] != answers[number]]
@@ -57,8 +59,10 @@ def main():
     found = sum(printed != NONE for printed in answers)
     lifetimes = sum("lifetime" in printed for printed in answers)
     rejecting = sum("may reject" in printed for printed in answers)
+    bounded, unbounded = (sum(words in printed for printed in answers) for words in (" of unbounded", ": unbounded"))
     print(f"{count} plans, {len(differing)} differ; {found} get a certificate, {lifetimes} of them with a lifetime vector, "
-          f"{rejecting} with a pool that may reject jobs and has no bound")
+          f"{rejecting} with a pool that may reject jobs and has no bound, {bounded} with a bound of an unbounded queue, "
+          f"{unbounded} with an unbounded queue that has no bound")
     return 1 if differing else 0
 
 
@@ -74,8 +78,14 @@ NONE = "no certificate found"
 
 
 class Pool:
-    def __init__(self, core, most, queue, prestart, may_reject=False):
+    def __init__(self, core, most, queue, prestart, may_reject=False, unbounded=False):
         self.core, self.most, self.queue, self.prestart, self.may_reject = core, most, queue, prestart, may_reject
+        self.unbounded = unbounded
+        if unbounded:
+            self.most, self.queue = core, NO_CAPACITY
+
+    def needs_no_bound(self):
+        return self.may_reject or self.unbounded
 
 
 class Class:
@@ -104,10 +114,15 @@ class Plan:
         return found
 
 
-def plan_by_chance(chance, rejecting=False):
+def kinds_of(number):
+    """Returns whether pools of the random plan with this number may reject jobs, and whether they may have unbounded queues."""
+    return number % 3 == 2, number % 2 == 1
+
+
+def plan_by_chance(chance, rejecting=False, unbounded=False):
     """Returns a random plan. If it is rejecting, each of its pools may reject jobs with a chance of one half, and may then have a queue
-    of 0."""
-    pools = [pool_by_chance(chance, rejecting) for _ in range(chance.randint(1, 4))]
+    of 0. If it is unbounded, each of its pools has an unbounded queue with a chance of two fifths."""
+    pools = [pool_by_chance(chance, rejecting, unbounded) for _ in range(chance.randint(1, 4))]
     count = chance.randint(1, 5)
     # In most plans, a class submits only classes before it. A few plans have cycles of submits.
     free = chance.random() < 0.05
@@ -124,11 +139,12 @@ def plan_by_chance(chance, rejecting=False):
     return Plan(pools, *renumbered(classes, clients, order))
 
 
-def pool_by_chance(chance, rejecting):
+def pool_by_chance(chance, rejecting, unbounded):
     core = chance.randint(1, 4)
     most, queue, prestart = core + chance.choice([0, 0, 1, 3]), chance.choice([1, 2, 3, 5, 10, 30]), chance.random() < 0.2
     may_reject = rejecting and chance.random() < 0.5
-    return Pool(core, most, 0 if may_reject and chance.random() < 0.3 else queue, prestart, may_reject)
+    synchronous = may_reject and chance.random() < 0.3
+    return Pool(core, most, 0 if synchronous else queue, prestart, may_reject, unbounded and chance.random() < 0.4)
 
 
 def body_by_chance(chance, classes):
@@ -162,7 +178,7 @@ def renumbered(classes, clients, order):
 def text(plan):
     lines = []
     for number, pool in enumerate(plan.pools):
-        lines += ["[[pool]]", f'name = "p{number}"', f"core = {pool.core}", f"max = {pool.most}", f"queue = {pool.queue}"]
+        lines += ["[[pool]]", f'name = "p{number}"', *size_lines(pool.core, pool.most, pool.queue, pool.unbounded)]
         lines += ["prestart = true"] if pool.prestart else []
         lines += ["may_reject = true"] if pool.may_reject else []
     for number, entry in enumerate(plan.classes):
@@ -203,7 +219,7 @@ def answer(plan):
         for pool in unranked:
             if rank == 0:
                 bounds[pool] = bound(plan, levels, pool)
-                if bounds[pool] is None and not plan.pools[pool].may_reject:
+                if bounds[pool] is None and not plan.pools[pool].needs_no_bound():
                     return NONE
             blocked[pool] = blocked_total(plan, levels, pool, reached, rank)
         placed = [pool for pool in unranked if blocked[pool] is not None]
@@ -214,9 +230,14 @@ def answer(plan):
         rank += 1
     lines = ["yes"]
     for pool, sizes in enumerate(plan.pools):
-        bound_words = "{} {} of {}".format(*bounds[pool]) if bounds[pool] else "may reject"
-        lines.append(f"pool p{pool}: {bound_words}, blocked {blocked[pool]} of {sizes.core - 1}")
+        lines.append(f"pool p{pool}: {bound_words(sizes, bounds[pool])}, blocked {blocked[pool]} of {sizes.core - 1}")
     return "\n".join(lines)
+
+
+def bound_words(sizes, found):
+    if found is None:
+        return "unbounded" if sizes.unbounded else "may reject"
+    return "{} {} of {}".format(*found)
 
 
 def levels_of(plan):
@@ -249,6 +270,9 @@ def bound(plan, levels, pool):
     sizes = plan.pools[pool]
     queued = [1 if entry.pool == pool else 0 for entry in plan.classes]
     nothing = [[0] * (len(entry.body) + 1) for entry in plan.classes]
+    if sizes.unbounded:
+        total = lightest_total(plan, levels, queued, nothing)
+        return None if total is None else ("standing", total, "unbounded")
     total = least_total(plan, levels, queued, nothing, sizes.queue)
     if total is not None:
         return "standing", total, sizes.queue
@@ -270,6 +294,18 @@ def blocked_total(plan, levels, pool, reached, rank):
 
 def least_total(plan, levels, queued, needs, limit):
     """Returns the least total, with workers that lend, if it is at most the limit, or None if none is found."""
+    total = total_with_loans(plan, levels, queued, needs, limit)
+    return total if total <= limit else None
+
+
+def lightest_total(plan, levels, queued, needs):
+    """Returns the least total, with workers that lend, or None if there is no vector."""
+    total = total_with_loans(plan, levels, queued, needs, 0)
+    return None if total == float("inf") else total
+
+
+def total_with_loans(plan, levels, queued, needs, limit):
+    """Returns the total after loans: the first that is at most the limit, or the least one."""
     workers = [0] * len(plan.pools)
 
     def weights(workers):
@@ -291,9 +327,9 @@ def least_total(plan, levels, queued, needs, limit):
             loans.append((total_of(lent), pool, lent))
         least = min(loans)
         if not least[0] < total:
-            return None
+            return total
         total, _, workers = least
-    return None
+    return total
 
 
 class Weights:

@@ -45,9 +45,12 @@ def resolved(root, reference):
 
 
 def is_of_type(value, name):
-    """Returns whether a value has the type with this name. As in draft-07, 1.0 is an integer, and a boolean is not a number."""
+    """Returns whether a value has the type with this name, or one of the types if this is a list of names. As in draft-07, 1.0 is an
+    integer, and a boolean is not a number."""
     if name is None:
         return True
+    if isinstance(name, list):
+        return any(is_of_type(value, each) for each in name)
     if name == "integer":
         return not isinstance(value, bool) and (isinstance(value, int) or isinstance(value, float) and value.is_integer())
     return isinstance(value, {"object": dict, "array": list, "string": str, "boolean": bool}[name])

@@ -44,6 +44,9 @@ MISTAKES = [
     ("get_with_timeout", 2, [(28, "a get has no timeout")]),
     ("execute_for_submit", 2, [(28, "write submit page")]),
     ("body_is_text", 2, [(22, "an array of strings")]),
+    ("unquoted_unbounded", 2, [(12, "\"unbounded\" with its quotes")]),
+    ("unlimited_queue", 2, [(12, "did you mean \"unbounded\"?")]),
+    ("max_without_a_bound", 2, [(11, "needs queue = \"unbounded\"")]),
     ("count_missing", 2, [(24, "client browser: count is missing")]),
     ("a_bundle_for_a_plan", 2, [(35, "the plan ends here")]),
     ("two_slips", 2, [(26, "count is 0"), (17, "did you mean rows?")]),
@@ -52,6 +55,7 @@ MISTAKES = [
     ("client_forgotten", 1, [(1, "warning: the plan has no clients")]),
     ("class_nobody_submits", 1, [(36, "warning: class audit is never submitted")]),
     ("pool_without_jobs", 1, [(36, "warning: no job is ever submitted to pool mail")]),
+    ("queue_may_grow", 1, [(28, "it may grow until memory is used up")]),
     ("empty_file", 1, [(1, "warning: the plan has no pools and no clients")]),
 ]
 SOUND = ["sound", "crlf_and_tab"]

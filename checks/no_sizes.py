@@ -1,5 +1,5 @@
-"""The reasons why no sizes help a plan, derived from its bodies and from the pools that may reject jobs: a cycle of submits, or a
-submit to another pool that is repeated forever and never got."""
+"""The reasons why no sizes help a plan, derived from its bodies and from the pools that may reject jobs or have an unbounded queue: a
+cycle of submits, or a submit to another pool that is repeated forever and never got."""
 
 # The line of `fit` before the line with the reason.
 NOTHING_FOUND = "no fitting sizes found"
@@ -19,21 +19,30 @@ def circles(plan):
 
 
 def never_got(plan):
-    """Returns the lines for the repeated submits without a get, except those to pools that may reject jobs."""
+    """Returns the lines for the repeated submits without a get, except those to pools that may reject jobs or have an unbounded queue."""
     return {
         f"{name} action {place}: submits for ever, never got"
         for name, place, number in repeated_without_get(plan)
-        if not may_be_rejected(plan, number)
+        if not needs_no_bound(pool_of(plan, number))
     }
 
 
-def loses_rejected(plan):
-    """Returns whether a repeated submit without a get goes to a pool that may reject jobs."""
-    return any(may_be_rejected(plan, number) for _, _, number in repeated_without_get(plan))
+def loses_jobs(plan):
+    """Returns whether a repeated submit without a get goes to a pool that may reject jobs or has an unbounded queue."""
+    return any(needs_no_bound(pool_of(plan, number)) for _, _, number in repeated_without_get(plan))
 
 
-def may_be_rejected(plan, number):
-    return plan.pools[plan.classes[number].pool].may_reject
+def grows(plan):
+    """Returns whether a repeated submit without a get goes to a pool with an unbounded queue, so that the queue may grow forever."""
+    return any(pool_of(plan, number).unbounded for _, _, number in repeated_without_get(plan))
+
+
+def needs_no_bound(pool):
+    return pool.may_reject or pool.unbounded
+
+
+def pool_of(plan, number):
+    return plan.pools[plan.classes[number].pool]
 
 
 def repeated_without_get(plan):

@@ -3,15 +3,12 @@ the submits that fill them."""
 
 import tomllib
 
-from small_plans import Class, Client, Plan, Pool
+from small_plans import Class, Client, Plan, Pool, without_bound
 
 
 def read_plan(text):
     tables = tomllib.loads(text)
-    pools = [
-        Pool(pool["name"], pool["core"], pool["max"], pool["queue"], pool.get("prestart", False), pool.get("may_reject", False))
-        for pool in tables.get("pool", [])
-    ]
+    pools = [read_pool(pool) for pool in tables.get("pool", [])]
     pool_numbers = {pool.name: number for number, pool in enumerate(pools)}
     class_numbers = {entry["name"]: number for number, entry in enumerate(tables.get("class", []))}
     classes = [
@@ -23,6 +20,11 @@ def read_plan(text):
         for entry in tables.get("client", [])
     ]
     return Plan(pools, classes, clients)
+
+
+def read_pool(keys):
+    pool = Pool(keys["name"], keys["core"], keys["max"], keys["queue"], keys.get("prestart", False), keys.get("may_reject", False))
+    return without_bound(pool) if pool.queue == "unbounded" else pool
 
 
 def read_body(actions, class_numbers):

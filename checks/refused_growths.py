@@ -45,7 +45,7 @@ CASES = [
     *[("run", name) for name in [*JUDGED, "there-and-back", "front-and-back"]],
     *[("refute", name) for name in [*REFUTED, "two-clients-queue-of-two"]],
     *[("refute --bundle", name) for name in REFUTED],
-    *[("ask", name) for name in ["two-clients", "two-clients-queue-of-two", "nested-one-worker"]],
+    *[("ask", name) for name in ["two-clients", "two-clients-queue-of-two", "nested-one-worker", "fixed-pool-unbounded", "audit-log"]],
     *[("ask --json", name) for name in ["two-clients", "nested-two-workers"]],
     ("ask --dot", "nested-two-workers"),
     *[(f"ask --format {form}", "two-clients") for form in ("html", "github", "sarif")],

@@ -3,7 +3,7 @@
 
     python3 checks/runs.py [RUNS [SEED]]     # by default 1,000 runs and seed 1
 
-A plan has 1 to 64 clients, and pools with 1 to 64 threads in total. If `sizing certify` finds a certificate, the program runs the
+A plan has 1 to 64 clients, and pools with 1 to 64 threads in total, some of them with unbounded queues. If `sizing certify` finds a certificate, the program runs the
 plan for a number of rounds within the limits of a run. The run must end within ten seconds, with the numbers of jobs and units that
 this check computes from the bodies alone. If the number of rounds is too large for the plan, the program must return a fault.
 README.md describes how about half of the runs are disturbed.
@@ -26,7 +26,7 @@ sys.dont_write_bytecode = True
 
 from found_certs import body_by_chance
 from refused_growths import Unable, built, compile_object
-from small_plans import Class, Client, Plan, Pool, run, text_of
+from small_plans import Class, Client, Plan, Pool, run, text_of, without_bound
 
 MOST_CLIENTS = 64
 MOST_CARRIERS = 64
@@ -176,7 +176,8 @@ def parts(chance, whole, most):
 def pool_by_chance(chance, threads, clients):
     core = chance.choice([threads, chance.randint(1, threads)])
     queue = chance.choice([1, 2, clients, 3 * clients, 10 * clients])
-    return Pool("", core, threads, queue, chance.random() < 0.2)
+    pool = Pool("", core, threads, queue, chance.random() < 0.2)
+    return without_bound(pool) if chance.random() < 0.2 else pool
 
 
 def body(chance, classes):

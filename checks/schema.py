@@ -44,6 +44,8 @@ SCHEMA = {
     "body_is_text": "class.1.body",
     "name_with_dash": "pool.1.name",
     "size_zero": "pool.0.queue",
+    "unlimited_queue": "pool.1.queue",
+    "max_without_a_bound": "pool.1.max",
     "work_without_number": "class.1.body.0",
     "two_spaces": "class.1.body.0",
     "get_with_timeout": "client.0.body.1",
@@ -60,6 +62,7 @@ SYNTAX = [
     "one_bracket",
     "yes_for_true",
     "capital_true",
+    "unquoted_unbounded",
     "utf16",
     "a_bundle_for_a_plan",
 ]
@@ -78,6 +81,7 @@ BEYOND = {
     "client_forgotten": VALID,
     "class_nobody_submits": VALID,
     "pool_without_jobs": VALID,
+    "queue_may_grow": VALID,
     "empty_file": VALID,
 }
 
@@ -114,12 +118,17 @@ BODIES = [
 
 # The two kinds of changes that concern a queue of 0: may_reject beside a queue of 0, and the queue beside may_reject = true.
 SYNCHRONOUS, REJECTING = "may_reject beside queue 0", "queue beside may_reject"
+# The kind of changes that concerns an unbounded queue: the maximum beside it.
+UNBOUNDED = "max beside queue unbounded"
+TEXTS = ['"unbounded"', '"Unbounded"', '"unbounded "', '"unbounded\\n"', '""', '["unbounded"]']
 
 # The boundaries at which the schema accepts a plan that has a fault for `sizing ask`, each with the reason.
 DIFFERENT = {
     ("pool", "core", "1.0"): "1.0 is an integer in JSON Schema, and not in TOML",
+    ("pool", "max", "1.0"): "1.0 is an integer in JSON Schema, and not in TOML",
     ("pool", "queue", "1.0"): "1.0 is an integer in JSON Schema, and not in TOML",
     ("pool", REJECTING, "1.0"): "1.0 is an integer in JSON Schema, and not in TOML",
+    ("pool", UNBOUNDED, "1.0"): "1.0 is an integer in JSON Schema, and not in TOML",
     ("client", "count", "1.0"): "1.0 is an integer in JSON Schema, and not in TOML",
 }
 
@@ -158,7 +167,10 @@ def files_differ(schema):
 
 def boundaries():
     """Yields the plans at the boundaries of each rule: the table, the key, the value of the key, and the text of the plan."""
-    changes = [(table, key, value) for table, key in (("pool", "core"), ("pool", "queue"), ("client", "count")) for value in NUMBERS]
+    sizes = (("pool", "core"), ("pool", "max"), ("pool", "queue"), ("client", "count"))
+    changes = [(table, key, value) for table, key in sizes for value in NUMBERS]
+    changes += [("pool", key, value) for key in ("core", "max", "queue", REJECTING, UNBOUNDED) for value in TEXTS]
+    changes += [("pool", UNBOUNDED, value) for value in [*NUMBERS, None]]
     changes += [(table, "name", value) for table in BASE for value in NAMES]
     changes += [("client", "body", value) for value in BODIES]
     changes += [("pool", "prestart", "true"), ("pool", "prestart", "1"), ("pool", "note", '"x"'), ("client", "repeat", '"yes"')]
@@ -171,12 +183,15 @@ def boundaries():
             plan[table] |= {"queue": "0"} | ({} if value is None else {"may_reject": value})
         elif key == REJECTING:
             plan[table] |= {"queue": value, "may_reject": "true"}
+        elif key == UNBOUNDED:
+            plan[table] = {name: text for name, text in plan[table].items() if name != "max"} | {"queue": '"unbounded"'}
+            plan[table] |= {} if value is None else {"max": value}
         elif value is None:
             del plan[table][key]
         else:
             plan[table][key] = value
         # another value changes with this one, so that nothing else is wrong
-        if value and (table, key) == ("pool", "core"):
+        if value in NUMBERS and (table, key) == ("pool", "core"):
             plan["pool"]["max"] = value
         if value and (table, key) == ("pool", "name"):
             plan["class"]["pool"] = value

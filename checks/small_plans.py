@@ -20,13 +20,20 @@ import sys
 from collections import Counter, namedtuple
 from pathlib import Path
 
+from no_sizes import grows
+
 BUILT = Path(__file__).resolve().parent.parent / "crates" / "sizing" / "out" / "sizing"
 # The maximum number of states of a plan that are visited. A plan with more states is counted separately.
 MOST_STATES = 20_000
+# The same for a plan in which an unbounded queue may grow forever, so that it has infinitely many states.
+MOST_STATES_OF_A_GROWING_QUEUE = 1_000
 STEPS_OF_A_WALK = 40
 SECONDS = 120
 
-Pool = namedtuple("Pool", "name core max queue prestart may_reject", defaults=[False])
+# The queue of a pool whose queue is unbounded. The number has no effect.
+NO_CAPACITY = 1_000_000
+
+Pool = namedtuple("Pool", "name core max queue prestart may_reject unbounded", defaults=[False, False])
 Class = namedtuple("Class", "name pool body")
 Client = namedtuple("Client", "name count repeat body")
 Plan = namedtuple("Plan", "pools classes clients")
@@ -113,7 +120,7 @@ class Machine:
         of = self.plan.classes[kind].pool
         pool = self.plan.pools[of]
         threads = self.threads(state, of)
-        room = len(state.queues[of]) < queue_limit(pool.queue, state.idle[of])
+        room = pool.unbounded or len(state.queues[of]) < queue_limit(pool.queue, state.idle[of])
         if threads < pool.core or (not room and threads < pool.max):
             phase, queues, outcome = 0, state.queues, f"started job {number}"
         elif room:
@@ -177,6 +184,11 @@ def queue_limit(capacity, idle):
     return capacity or idle
 
 
+def without_bound(pool):
+    """Returns the pool with an unbounded queue. No thread above core ever starts over such a queue, so its maximum is core."""
+    return pool._replace(max=pool.core, queue=NO_CAPACITY, unbounded=True)
+
+
 def at_work(job):
     return job.phase not in (QUEUED, DONE)
 
@@ -211,10 +223,11 @@ def renamed(state):
 def explored(plan):
     """Visits the states of a plan. Returns their number, the fault of a bad state or None, and whether there are too many states."""
     machine = Machine(plan)
+    most = min(MOST_STATES, MOST_STATES_OF_A_GROWING_QUEUE if grows(plan) else MOST_STATES)
     first = renamed(machine.start())
     seen, front = {first}, [first]
     while front:
-        if len(seen) > MOST_STATES:
+        if len(seen) > most:
             return len(seen), None, True
         state = front.pop()
         goes_on = False
@@ -262,6 +275,22 @@ def plans():
     sizes = [(1, 1), (1, 2), (2, 2)]
     pools = [Pool("p", core, top, queue, first) for core, top in sizes for queue in (1, 2, 3) for first in (False, True)]
     pools += [Pool("p", core, top, 0, first, True) for core, top in sizes for first in (False, True)]
+    yield from plans_of_one(pools)
+    pairs = [(Pool("p", *one, two, False), Pool("q", *other, three, False)) for one in sizes for other in sizes for two in (1, 2) for three in (1, 2)]
+    # None of the two pools may reject jobs, or one of them, with the queue above or with a queue of 0.
+    rejections = [(None, False), *itertools.product((0, 1), (False, True))]
+    for pair, (rejecting, is_synchronous), repeat in itertools.product(pairs, rejections, (False, True)):
+        both = [with_rejections(pool, is_synchronous) if number == rejecting else pool for number, pool in enumerate(pair)]
+        yield from plans_of_two(both, repeat, rejecting is not None)
+    unbounded = [without_bound(Pool("p", core, core, 1, first)) for core in (1, 2) for first in (False, True)]
+    yield from plans_of_one(unbounded)
+    others = [pool for pool in pools if pool.queue < 2]
+    for both, repeat in itertools.product([*itertools.product(unbounded, [*unbounded, *others]), *itertools.product(others, unbounded)], (False, True)):
+        yield from plans_of_two([pool._replace(name=name) for pool, name in zip(both, "pq")], repeat, True)
+
+
+def plans_of_one(pools):
+    """Yields plans of one pool, each of these."""
     asks = ["a+ -", "a", "a+ a+ - -", "a a+ -"]
     for pool, body, ask, count, repeat in itertools.product(pools, ["1", ""], asks, (1, 2), (False, True)):
         yield Plan([pool], [Class("a", 0, bodies(body))], [Client("c", count, repeat, bodies(ask))])
@@ -269,18 +298,17 @@ def plans():
     for pool, outer, ask, count, repeat in itertools.product(pools, outers, ["a+ -", "a"], (1, 2), (False, True)):
         classes = [Class("a", 0, bodies(outer)), Class("b", 0, bodies("1"))]
         yield Plan([pool], classes, [Client("c", count, repeat, bodies(ask))])
-    pairs = [(Pool("p", *one, two, False), Pool("q", *other, three, False)) for one in sizes for other in sizes for two in (1, 2) for three in (1, 2)]
-    # None of the two pools may reject jobs, or one of them, with the queue above or with a queue of 0.
-    rejections = [(None, False), *itertools.product((0, 1), (False, True))]
-    for pair, (rejecting, is_synchronous), repeat in itertools.product(pairs, rejections, (False, True)):
-        both = [with_rejections(pool, is_synchronous) if number == rejecting else pool for number, pool in enumerate(pair)]
-        there_and_back = [Class("a", 0, bodies("b+ -")), Class("b", 1, bodies("1")), Class("c", 1, bodies("d+ -")), Class("d", 0, bodies("1"))]
-        yield Plan(both, there_and_back, [Client("u", 1, repeat, bodies("a+ -")), Client("w", 1, repeat, bodies("c+ -"))])
-        chain = [Class("a", 0, bodies("b+ -")), Class("b", 1, bodies("c+ -")), Class("c", 0, bodies("1"))]
-        yield Plan(both, chain, [Client("u", 1, repeat, bodies("a+ -"))])
-        yield Plan(both, chain[:2] + [Class("c", 1, bodies("1"))], [Client("u", 2, repeat, bodies("a+ -"))])
-        if rejecting is not None:
-            yield Plan(both, chain, [Client("u", 2, repeat, bodies("a")), Client("w", 1, repeat, bodies("b+ -"))])
+
+
+def plans_of_two(both, repeat, has_lost_jobs):
+    """Yields plans of two pools that call each other. In the last one, if it is wanted, clients never get a job."""
+    there_and_back = [Class("a", 0, bodies("b+ -")), Class("b", 1, bodies("1")), Class("c", 1, bodies("d+ -")), Class("d", 0, bodies("1"))]
+    yield Plan(both, there_and_back, [Client("u", 1, repeat, bodies("a+ -")), Client("w", 1, repeat, bodies("c+ -"))])
+    chain = [Class("a", 0, bodies("b+ -")), Class("b", 1, bodies("c+ -")), Class("c", 0, bodies("1"))]
+    yield Plan(both, chain, [Client("u", 1, repeat, bodies("a+ -"))])
+    yield Plan(both, chain[:2] + [Class("c", 1, bodies("1"))], [Client("u", 2, repeat, bodies("a+ -"))])
+    if has_lost_jobs:
+        yield Plan(both, chain, [Client("u", 2, repeat, bodies("a")), Client("w", 1, repeat, bodies("b+ -"))])
 
 
 def with_rejections(pool, is_synchronous):
@@ -290,7 +318,7 @@ def with_rejections(pool, is_synchronous):
 def text_of(plan):
     lines = []
     for pool in plan.pools:
-        lines += ["[[pool]]", f'name = "{pool.name}"', f"core = {pool.core}", f"max = {pool.max}", f"queue = {pool.queue}"]
+        lines += ["[[pool]]", f'name = "{pool.name}"', *size_lines(pool.core, pool.max, pool.queue, pool.unbounded)]
         lines += ["prestart = true"] if pool.prestart else []
         lines += ["may_reject = true"] if pool.may_reject else []
     for one in plan.classes:
@@ -299,6 +327,14 @@ def text_of(plan):
         lines += ["[[client]]", f'name = "{client.name}"', f"count = {client.count}", f"repeat = {str(client.repeat).lower()}"]
         lines += [f"body = {body_text(plan, client.body)}"]
     return "\n".join(lines) + "\n"
+
+
+def size_lines(core, most, queue, unbounded):
+    """Returns the lines of a plan with the sizes of a pool. Beside an unbounded queue the maximum has no effect, so for an even core it is
+    above core, and otherwise it is unbounded too."""
+    if unbounded:
+        most, queue = ('"unbounded"' if core % 2 else core + 7), '"unbounded"'
+    return [f"core = {core}", f"max = {most}", f"queue = {queue}"]
 
 
 def body_text(plan, body):

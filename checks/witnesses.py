@@ -3,7 +3,7 @@
 the crates.
 
 The random plans are those for which the second search of found_certs.py finds no certificate. In a third of them, pools may reject
-jobs, which is no refusal. For each of them:
+jobs, which is no refusal. In half of them, queues may be unbounded. For each of them:
 
 - Each event of a witness is possible, and only the last event may be a refused submit. If it is not, the named jobs are unfinished
   and wait only for each other after it.
@@ -31,7 +31,7 @@ sys.dont_write_bytecode = True
 
 import small_plans
 from asking import SECONDS, built_program, each
-from found_certs import NONE, answer, plan_by_chance, text
+from found_certs import NONE, answer, kinds_of, plan_by_chance, text
 from read_plans import read_plan
 from small_plans import DONE, Machine, explored
 
@@ -86,7 +86,7 @@ def uncertified(count, chance):
     """Returns the texts of random plans without a certificate, `count` in all."""
     texts = []
     while len(texts) < count:
-        plan = plan_by_chance(chance, rejecting=len(texts) % 3 == 2)
+        plan = plan_by_chance(chance, *kinds_of(len(texts)))
         if answer(plan) == NONE:
             texts.append(text(plan))
     return texts

@@ -15,7 +15,7 @@ final class GatedPool {
         HandOverGate handOver = new HandOverGate();
         gate = pool.queue() == 0 ? handOver : new Gate();
         queue = pool.queue() == 0 ? new HandOverQueue(handOver)
-                : kind.equals("linked") ? new LinkedQueue(pool.queue(), gate) : new ArrayQueue(pool.queue(), gate);
+                : kind.equals("linked") || pool.isUnbounded() ? new LinkedQueue(pool.queue(), gate) : new ArrayQueue(pool.queue(), gate);
         executor = new ThreadPoolExecutor(pool.core(), pool.max(), 1_000_000, TimeUnit.SECONDS, queue, work -> {
             Thread thread = new Thread(work);
             thread.setDaemon(true);

@@ -43,7 +43,8 @@ final class Loops {
         roundsLeft = new AtomicInteger(rounds);
         for (Plan.Pool pool : plan.pools()) {
             Moments moments = new SlowTaking(slow.equals("all") || slow.equals(pool.name()) ? microseconds : 0);
-            BlockingQueue<Runnable> queue = kind.equals("linked") ? new LinkedQueue(pool.queue(), moments) : new ArrayQueue(pool.queue(), moments);
+            BlockingQueue<Runnable> queue = kind.equals("linked") || pool.isUnbounded()
+                    ? new LinkedQueue(pool.queue(), moments) : new ArrayQueue(pool.queue(), moments);
             pools.add(new ThreadPoolExecutor(pool.core(), pool.max(), 1, TimeUnit.MILLISECONDS, queue));
             if (pool.prestart()) {
                 pools.get(pools.size() - 1).prestartAllCoreThreads();
@@ -79,7 +80,8 @@ final class Loops {
             pool.awaitTermination(10, TimeUnit.SECONDS);
         }
         long completed = pools.stream().mapToLong(ThreadPoolExecutor::getCompletedTaskCount).sum();
-        return "rounds " + rounds + ", jobs " + jobs + ", completed " + completed + ", refused " + refused;
+        long above = pools.stream().filter(pool -> pool.getLargestPoolSize() > pool.getCorePoolSize()).count();
+        return "rounds " + rounds + ", jobs " + jobs + ", completed " + completed + ", refused " + refused + ", grown " + above;
     }
 
     private void client(Plan.Kind kind) {

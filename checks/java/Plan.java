@@ -4,7 +4,12 @@ import java.util.List;
 
 /** A plan as the Python side writes it: a line for each pool, class and client, with numbers in place of names. */
 record Plan(List<Pool> pools, List<Kind> classes, List<Kind> clients) {
-    record Pool(String name, int core, int max, int queue, boolean prestart, boolean mayReject) {}
+    record Pool(String name, int core, int max, int queue, boolean prestart, boolean mayReject) {
+        /** Returns whether the queue is unbounded: its capacity is that of a {@code LinkedBlockingQueue} that is made without one. */
+        boolean isUnbounded() {
+            return queue == Integer.MAX_VALUE;
+        }
+    }
 
     /** An action 'w', 's' or 'g'; the operand is the units, the class, or the position of the submit. */
     record Action(char what, int operand) {}

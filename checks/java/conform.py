@@ -22,7 +22,8 @@ from read_plans import read_plan
 from recording import read
 
 
-# The greatest number in a name NAME_2, NAME_3, and so on, which is that of every number in a recording.
+# The greatest number in a name NAME_2, NAME_3, and so on, which is that of every number in a recording. The capacity of an unbounded queue
+# is written so.
 MAX_NUMBER = 1_000_000_000
 # The sorts of findings, in the order in which those of one line come.
 POOLS, LABELS, PATHS, COUNTS, GETS, VOIDS = range(6)
@@ -278,7 +279,7 @@ class Comparison:
     def is_allowed(self, act):
         """Returns whether the plan allows the rejection in a `refused` line."""
         job, handlers = act.job, {sizes.handler for sizes in self.recording.pools[act.job.pool]}
-        if not any(pool.name == job.pool and pool.may_reject for pool in self.plan.pools):
+        if not any(pool.name == job.pool and pool.may_reject and not pool.unbounded for pool in self.plan.pools):
             return False
         if handlers == {"caller_runs"}:
             shutdowns = [line for line, word, what in self.recording.notes if (word, what) == ("shutdown", job.pool)]
@@ -318,16 +319,24 @@ def differences(sizes, pool, is_first):
     """Yields the differences between a line of the pool and the plan. The number of prestarted threads counts only in the first line."""
     if sizes.core != pool.core:
         yield f"core {sizes.core}, plan {pool.core}"
-    if sizes.max != pool.max:
+    # the maximum has no effect over an unbounded queue
+    if not pool.unbounded and sizes.max != pool.max:
         yield f"max {sizes.max}, plan {pool.max}"
-    if sizes.kind not in (("array", "linked") if pool.queue else ("synchronous",)):
+    if sizes.kind not in kinds_of(pool):
         yield f"queue of another kind ({sizes.kind})"
-    if sizes.queue != pool.queue:
-        yield f"queue {sizes.queue}, plan {pool.queue}"
+    if sizes.queue != (MAX_NUMBER if pool.unbounded else pool.queue):
+        yield f"queue {sizes.queue}, plan {'unbounded' if pool.unbounded else pool.queue}"
     if sizes.timeout:
         yield "core threads may time out"
     if is_first and sizes.prestarted != (pool.core if pool.prestart else 0):
         yield f"{sizes.prestarted} threads prestarted, plan {pool.core if pool.prestart else 0}"
+
+
+def kinds_of(pool):
+    """Returns the kinds of queue that the pool may have."""
+    if pool.unbounded:
+        return ("linked",)
+    return ("array", "linked") if pool.queue else ("synchronous",)
 
 
 def compared(plan_text, recording_text):

@@ -127,6 +127,15 @@ ROWS = [
      ["line 3: pool p: queue of another kind (synchronous)", "line 3: pool p: queue 0, plan 2"], []),
     ("a plan with a queue of 0", PLAN.replace("queue = 2", "queue = 0, may_reject = true"), [POOL.replace("array 2", "synchronous 0")],
      ["line 2: pool p: queue of another kind (array)", "line 2: pool p: queue 2, plan 0"], []),
+    ("a plan with an unbounded queue", PLAN.replace("queue = 2", 'queue = "unbounded"'), [],
+     ["line 2: pool p: queue of another kind (array)", "line 2: pool p: queue 2, plan unbounded"], []),
+    ("another size beside an unbounded queue", PLAN.replace("queue = 2", 'queue = "unbounded"'),
+     [POOL.replace("array 2", queue).replace("max 1", max) for queue, max in
+      (("linked 1000000000", "max 8"), ("linked 999999999", "max 1"), ("other 1000000000", "max 1"), ("linked 1000000000", "max 1000000000"))],
+     ["line 2: pool p: queue of another kind (array)", "line 2: pool p: queue 2, plan unbounded",
+      "line 4: pool p: queue 999999999, plan unbounded", "line 5: pool p: queue of another kind (other)"], []),
+    ("an unbounded queue, and a plan with a capacity", PLAN.replace("queue = 2", "queue = 1000000"), [POOL.replace("array 2", "linked 1000000000")],
+     ["line 2: pool p: queue 2, plan 1000000", "line 3: pool p: queue 1000000000, plan 1000000"], []),
     ("a plan that prestarts", PLAN.replace("queue = 2", "queue = 2, prestart = true"), [], ["line 2: pool p: 0 threads prestarted, plan 1"], []),
     ("a pool of the plan alone", PLAN.replace("pool = [", 'pool = [{name = "q", core = 1, max = 1, queue = 1}, '), [], ["pool q: in the plan and not in the recording"], []),
 ]

@@ -35,6 +35,13 @@ About pools over a `SynchronousQueue`, which is the queue of 0 of a plan:
   never rejected if the thread waits in the queue.
 - A thread above core that is idle for the keep-alive time ends. If a job is handed to it at that moment, the job still runs.
 - `DiscardOldestPolicy` finds no job in the queue to discard, and calls `execute` again, until the stack overflows.
+
+About pools over a `LinkedBlockingQueue` without a capacity, which is the unbounded queue of a plan, as that of `newFixedThreadPool`:
+
+- An offer to the queue never fails. So no thread above core starts, whatever the maximum is, and the handler is called only after
+  `shutdown`. With core 0 one thread starts.
+- If each of the n core threads runs a job that submits a job to the pool and gets it, all of them wait forever. A pool with n - 1
+  such jobs at a time serves all rounds. Over a bounded queue that is full, a thread above core helps.
 """
 
 EXECUTORS = {
@@ -88,8 +95,25 @@ HAND_OVERS = {
     "discard oldest": "threw StackOverflowError, ran false",
     "caller runs": "returned, done true, by the caller true, ran true",
 }
+UNBOUNDED_QUEUES = {
+    "one thread, 1 outer job": "outer done 0, threads 1, at work 1, queued 1",
+    "three threads, 2 outer jobs": "outer done 2, threads 3, at work 0, queued 0",
+    "three threads, 3 outer jobs": "outer done 0, threads 3, at work 3, queued 3",
+    "core 3, max 8, 3 outer jobs": "outer done 0, threads 3, at work 3, queued 3",
+    "core 3, max 8, queue 2, 3 outer jobs": "outer done 3, threads 4, at work 0, queued 0",
+    "three threads, 2 clients": "all served true, largest 3",
+    "three threads, 3 clients": "all served false, largest 3",
+    "core 2, max 8": "accepted 10000, threads 2, at work 2, queued 9998",
+    "core 2, max 8, queue 100": "accepted 108, threads 8, at work 8, queued 100",
+    "core 0, max 8": "accepted 10000, threads 1, at work 1, queued 9999",
+    "core 2, max 8, submitters": "some rejected false, accepted jobs that never ran 0, largest 2",
+    "core 2, max 8, queue 100, submitters": "some rejected true, accepted jobs that never ran 0, largest 8",
+    "caller runs over a queue without a capacity": "by the caller 0, queued 10000",
+    "caller runs over a queue of 100": "by the caller 9900, queued 100",
+    "a submit after shutdown": "accepted before true, after false",
+}
 # The facts, by the program that prints them.
-BY_HAND = {"Facts": EXECUTORS, "Rejections": REJECTIONS, "HandOvers": HAND_OVERS}
+BY_HAND = {"Facts": EXECUTORS, "Rejections": REJECTIONS, "HandOvers": HAND_OVERS, "UnboundedQueues": UNBOUNDED_QUEUES}
 # Pairs that differ only in the cause of a fact, so their outcomes must differ.
 PAIRS = (("prestarted late", "not prestarted"), ("execute throws, max 2", "execute throws, max 3"),
          ("keep-alive, core 1, max 1", "keep-alive, core 1, max 2"),
@@ -107,7 +131,13 @@ PAIRS = (("prestarted late", "not prestarted"), ("execute throws, max 2", "execu
          ("two idle threads, max 2", "two idle threads, max 3"),
          ("submits at once after a get", "submits when the thread is back"),
          ("keep-alive, core 1, max 4", "keep-alive, core 4, max 4"),
-         ("discard", "discard oldest"), ("discard", "caller runs"))
+         ("discard", "discard oldest"), ("discard", "caller runs"),
+         ("three threads, 2 outer jobs", "three threads, 3 outer jobs"),
+         ("core 3, max 8, 3 outer jobs", "core 3, max 8, queue 2, 3 outer jobs"),
+         ("three threads, 2 clients", "three threads, 3 clients"),
+         ("core 2, max 8", "core 2, max 8, queue 100"), ("core 2, max 8", "core 0, max 8"),
+         ("core 2, max 8, submitters", "core 2, max 8, queue 100, submitters"),
+         ("caller runs over a queue without a capacity", "caller runs over a queue of 100"))
 
 
 def part(tools):

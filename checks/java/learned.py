@@ -13,7 +13,7 @@ from pathlib import Path
 from typing import NamedTuple
 
 from conform import compared
-from java_text import case
+from java_text import UNBOUNDED, case
 from read_plans import read_plan
 from recording import read
 from replays import KINDS, on_executors
@@ -22,7 +22,8 @@ from small_plans import Plan, text_of
 
 SERVICES = [name for name in VOIDS if name != "example"]
 HEAD = re.compile(r"# Learned from a recording\. Rounds: (\d+)\. Jobs: (\d+)\.\n# What was not taken is not here: .*\n(?:# Not at their ends yet\. .*\n)?")
-POOL = re.compile(r"pool (\w+): core (\d+)(?: \(now \d+\))?, max (\d+)(?: \(now \d+\))?, queue (\d+)(?: \(now \d+\))?")
+# The line of a pool. It has no maximum if the queue is unbounded.
+POOL = re.compile(r"pool (\w+): core (\d+)(?: \(now \d+\))?(?:, max (\d+)(?: \(now \d+\))?, queue (\d+)(?: \(now \d+\))?|, queue unbounded)")
 ROUNDS = 1000
 # The number of rounds of a run, for services that need several runs. Their clients do not repeat, so each has one round in a run.
 ROUNDS_OF_A_RUN = {"orders": 10, "hurried-prices": 50}
@@ -57,6 +58,8 @@ WITNESS = {
     "importer": "refused by rows",
     # the prices of two patient clients and of four hurried clients, all of them queued while the one thread is idle
     "hurried-prices": "refused by prices",
+    # three pages hold all of three threads, and no thread is left for their parts
+    "fixed-pools": "stuck forever",
 }
 
 
@@ -232,7 +235,7 @@ def sizes_of(tools, plans):
     sizes for the plans in NEVER_GOT if all clients repeat."""
     sized, wrong = [], []
     for name, derived in plans.items():
-        ones = derived.plan._replace(pools=[pool._replace(core=1, max=1, queue=1) for pool in derived.plan.pools])
+        ones = derived.plan._replace(pools=[of_one(pool) for pool in derived.plan.pools])
         for began, plan in (("its own sizes", derived.plan), (FROM_ONE, ones)):
             found, said = fitted(tools, plan)
             if found is None:
@@ -247,8 +250,13 @@ def sizes_of(tools, plans):
     return sized, wrong
 
 
+def of_one(pool):
+    """Returns the pool with sizes of 1. An unbounded queue stays unbounded."""
+    return pool._replace(core=1, max=1, queue=pool.queue if pool.unbounded else 1)
+
+
 def sizes_text(plan):
-    return ", ".join(f"{pool.name} {pool.core}/{pool.max}/{pool.queue}" for pool in plan.pools)
+    return ", ".join(f"{pool.name} {pool.core}/unbounded" if pool.unbounded else f"{pool.name} {pool.core}/{pool.max}/{pool.queue}" for pool in plan.pools)
 
 
 def fitted(tools, plan):
@@ -258,7 +266,7 @@ def fitted(tools, plan):
     sizes = [POOL.fullmatch(line) for line in lines[:-1]]
     if not sizes or not all(sizes):
         return None, " ".join(lines)
-    pools = [pool._replace(core=int(core), max=int(most), queue=int(queue))
+    pools = [pool._replace(core=int(core), max=int(most or core), queue=int(queue or pool.queue))
              for pool, (name, core, most, queue) in zip(plan.pools, (size.groups() for size in sizes), strict=True) if pool.name == name]
     changes = printed.count(" (now ")
     _, bundle = tools.sizing("fit", text_of(plan), "--bundle")
@@ -269,7 +277,12 @@ def fitted(tools, plan):
 
 
 def numbers_changed(pools, others):
-    return sum(one != other for pair in zip(pools, others, strict=True) for one, other in zip(*pair))
+    """Returns the number of sizes that differ. Beside an unbounded queue the maximum is no size."""
+    return sum(one != other for pool, found in zip(pools, others, strict=True) for one, other in zip(numbers_of(pool), numbers_of(found)))
+
+
+def numbers_of(pool):
+    return (pool.core, pool.queue) if pool.unbounded else (pool.core, pool.max, pool.queue)
 
 
 # ---- runs
@@ -278,7 +291,7 @@ def numbers_changed(pools, others):
 def runs(tools, name, plan, slow=0, seconds=SECONDS, number=None):
     """Runs the service with the plan's sizes, `number` times. By default there are enough runs for all rounds."""
     rounds = ROUNDS_OF_A_RUN.get(name, ROUNDS)
-    sizes = " ".join(f"{pool.name} {pool.core} {pool.max} {pool.queue}" for pool in plan.pools)
+    sizes = " ".join(f"{pool.name} {pool.core} {pool.max} {UNBOUNDED if pool.unbounded else pool.queue}" for pool in plan.pools)
     with tempfile.TemporaryDirectory() as folder:
         files = [Path(folder) / f"{at}.recording" for at in range(number or ROUNDS // rounds)]
         printed = tools.run_java("services.Sized", given="".join(f"{name} {rounds} {seconds} {slow} {file} {sizes}\n" for file in files))
@@ -336,11 +349,12 @@ def slips_of_sizes(tools, ran):
 
 
 def less(plan):
-    """Yields the plan with one size lowered by one, for each size in order. If core and max are equal, lowers both."""
+    """Yields the plan with one size lowered by one, for each size in order. If core and max are equal, lowers both. An unbounded queue
+    stays unbounded."""
     for at, pool in enumerate(plan.pools):
         changes = [{"core": pool.core - 1, "max": pool.max - (pool.core == pool.max)}]
         changes += [{"max": pool.max - 1}] if pool.max > pool.core else []
-        for change in [*changes, {"queue": pool.queue - 1}]:
+        for change in [*changes, *([] if pool.unbounded else [{"queue": pool.queue - 1}])]:
             if 0 not in change.values():
                 yield f"{pool.name} " + " ".join(f"{what} {number}" for what, number in change.items() if number != getattr(pool, what)), \
                     plan._replace(pools=put(plan.pools, at, pool._replace(**change)))

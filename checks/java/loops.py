@@ -3,12 +3,16 @@ place fewer.
 
 The total of the certificate is a bound for the queue that the plan needs. If one place fewer is not safe (derived by hand), some submit
 must be refused.
+
+Some of the plans are run with unbounded queues too. The executors then have maximums above core. No submit may be refused, each job must
+be done, and no pool may have a thread above core. With a queue of 1 in place of an unbounded one, some pool must have one, or refuse a job.
 """
 
 from pathlib import Path
 
-from java_text import plan_lines
+from java_text import MORE_THREADS, plan_lines
 from read_plans import read_plan
+from small_plans import without_bound
 
 EXAMPLES = Path(__file__).resolve().parent.parent.parent / "examples"
 ROUNDS = 100_000
@@ -41,10 +45,14 @@ ONE_LESS = {
     "one-client-loops": {},
     "one-burst": {},
 }
+# The plans that are run with unbounded queues, and the ways to run them.
+UNBOUNDED = ("audit-log", "two-clients-queue-of-two", "web-and-database-sized", "cross-pools-two-threads", "report-fan-out-core-3", "fan-out-of-two")
+UNBOUNDED_WAYS = ((ROUNDS, 0, 0), (20_000, PART_LEFT_OUT, SLOW))
 
 
 def part(tools):
-    return [line for name, sizes in ONE_LESS.items() for line in loops_of(tools, name, sizes)]
+    return [*(line for name, sizes in ONE_LESS.items() for line in loops_of(tools, name, sizes)),
+            *(line for name in UNBOUNDED for line in unbounded_loops_of(tools, name))]
 
 
 def loops_of(tools, name, sizes):
@@ -67,6 +75,25 @@ def loops_of(tools, name, sizes):
     rounds = ", ".join(str(rounds) for rounds, _, _ in WAYS) if repeats else "no"
     print(f"loops, {name}: two kinds of queue, {rounds} rounds each, {jobs} jobs, with {len(wrong)} wrong"
           + (f"; with one place fewer refused in {', '.join(less)} rounds" if less else ""), flush=True)
+    return wrong
+
+
+def unbounded_loops_of(tools, name):
+    """Runs a plan with unbounded queues, and with queues of 1 in their place."""
+    plan = read_plan((EXAMPLES / f"{name}.toml").read_text())
+    unbounded = plan._replace(pools=[without_bound(pool) for pool in plan.pools])
+    wrong, jobs = [], 0
+    for rounds, leaves, slow in UNBOUNDED_WAYS:
+        printed = looped(tools, unbounded, "linked", rounds, leaves, slow, "all", False)
+        jobs += printed["completed"]
+        if printed["refused"] or printed["grown"] or printed["completed"] != printed["jobs"] or printed["rounds"] != rounds:
+            wrong.append(f"loops, {name}, unbounded, slow {slow}, skips {leaves}: {printed}")
+    bounded = plan._replace(pools=[pool._replace(max=pool.core + MORE_THREADS, queue=1) for pool in plan.pools])
+    printed = looped(tools, bounded, "linked", ROUNDS, 0, SLOW_LESS, "all", True)
+    if not printed["grown"] and not printed["refused"]:
+        wrong.append(f"loops, {name}, queues of 1 in place of unbounded ones: {printed}")
+    print(f"loops, {name}, with unbounded queues: {', '.join(str(rounds) for rounds, _, _ in UNBOUNDED_WAYS)} rounds, {jobs} jobs, with "
+          f"{len(wrong)} wrong; with queues of 1, {printed['grown']} pools have threads above core, and {printed['refused']} jobs are refused", flush=True)
     return wrong
 
 

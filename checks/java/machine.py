@@ -4,6 +4,7 @@ A submit is one event or, with `in_steps`, up to three: with fewer than core thr
 offered to the queue; and if the offer fails, the pool tries to add a thread. If the pool has all its threads, it refuses the job, or
 rejects it if it may: then the job is done at once. An actor can skip a submit, and then also skips its get. A queue of 0 is a
 `SynchronousQueue`: an offer succeeds if fewer jobs are queued than threads are idle, and a thread that was given a job does not end.
+An offer to an unbounded queue always succeeds.
 """
 
 from small_plans import counts_text, queue_limit
@@ -139,7 +140,7 @@ class Machine:
             if self.in_steps:
                 return actor.call
         if actor.call == "found core threads":
-            if len(self.queues[pool]) < self.limit(pool, self.idle[pool]):
+            if sizes.unbounded or len(self.queues[pool]) < self.limit(pool, self.idle[pool]):
                 return self.makes(actor, kind, pool, "queued")
             actor.call = "found the queue full"
             if self.in_steps:

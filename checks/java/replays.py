@@ -4,7 +4,7 @@ import random
 from collections import Counter
 from pathlib import Path
 
-from java_text import case
+from java_text import MORE_THREADS, case
 from machine import NOT_POSSIBLE, Machine
 from paths import on_the_paths, plan_of_paths
 from read_plans import read_plan
@@ -16,21 +16,24 @@ KINDS = ("array", "linked")
 LISTS = 1000
 # The number of lists for plans with pools that may reject jobs.
 REJECTING = 500
+# The number of lists for plans with unbounded queues.
+UNBOUNDED = 300
 # The number of plans on which each deliberate error is tried.
 SLIPPED = 100
 # The number of jobs that never finish after the events of an example, if all jobs and threads continue and no client acts. It is derived
 # by hand, and is 0 for all other examples.
 NEVER_FINISH = {
     "cross-pools": 4, "nested-one-worker": 2, "nested-unused-max": 2, "report-fan-out": 8, "stuck-by-a-dropped-get": 4,
-    "there-and-back": 3,
+    "there-and-back": 3, "fixed-pool-unbounded": 8,
 }
 PART_LEFT_OUT = 0.3
 
 
 def part(tools):
-    chance, rejecting = random.Random(1), random.Random(2)
+    chance, rejecting, unbounded = random.Random(1), random.Random(2), random.Random(3)
     return [*examples(tools), *lists(tools, chance, "random replays"), *slips(tools, chance),
-            *lists(tools, rejecting, "random replays with pools that may reject jobs", REJECTING, True), *slips_of_rejections(tools, rejecting)]
+            *lists(tools, rejecting, "random replays with pools that may reject jobs", REJECTING, rejecting=True), *slips_of_rejections(tools, rejecting),
+            *lists(tools, unbounded, "random replays with unbounded queues", UNBOUNDED, unbounded=True), *slips_of_unbounded(tools, unbounded)]
 
 
 def numbered(answers):
@@ -97,10 +100,10 @@ class List:
         return plan, events, numbered(answers) + self.wanted[len(self.answers) : len(self.answers) + 1]
 
 
-def lists(tools, chance, name, number=LISTS, rejecting=False):
+def lists(tools, chance, name, number=LISTS, **kinds):
     wrong, count, found, certified = [], Counter(), [], []
     for _ in range(number):
-        one = List(chance, plan_by_chance(chance, rejecting))
+        one = List(chance, plan_by_chance(chance, **kinds))
         found.append(one)
         status, _ = tools.sizing("certify", text_of(one.plan))
         certified.append(status == 0)
@@ -122,6 +125,7 @@ def lists(tools, chance, name, number=LISTS, rejecting=False):
         count["refused"] += sum(printed.startswith("refused") for printed in one.answers)
         count["rejected"] += one.machine.rejections
         count["with a queue of 0"] += any(not pool.queue for pool in one.plan.pools)
+        count["with an unbounded queue"] += any(pool.unbounded for pool in one.plan.pools)
         count["stuck yes"] += one.answers.count("stuck yes")
         count["retired"] += one.answers.count("retired")
         count["certified"] += sure
@@ -216,6 +220,36 @@ def slips_of_rejections(tools, chance):
     for name, rule in (("no job is handed over", NeverHandsOver), ("a thread ends with a job", EndsWithAJob)):
         some = [List(chance, plan_by_chance(chance, True), rule) for _ in range(SLIPPED)]
         found[name] = sum(printed != one.wanted for one, printed in zip(some, on_executors(tools, [one.case() for one in some])))
+    print(f"deliberate errors, by the number of {SLIPPED} lists that find them: " + ", ".join(f"'{name}' {number}" for name, number in found.items()), flush=True)
+    return [f"replays: the deliberate error '{name}' is not found" for name, number in found.items() if not number]
+
+
+class StartsThreadsFirst(Machine):
+    """A machine with a deliberate error: threads above core start over an unbounded queue, up to the maximum of the executor."""
+
+    def submit(self, actor, kind):
+        pool = self.plan.classes[kind].pool
+        sizes = self.plan.pools[pool]
+        if actor.call is None and sizes.unbounded and self.threads(pool) < sizes.core + MORE_THREADS:
+            return self.makes(actor, kind, pool, "running")
+        return super().submit(actor, kind)
+
+
+def slips_of_unbounded(tools, chance):
+    """Makes each deliberate error that concerns unbounded queues, in the executors' pools, in the plan of `sizing replay` or in the machine,
+    and checks that it is found."""
+    some = [List(chance, plan_by_chance(chance, unbounded=True)) for _ in range(SLIPPED)]
+
+    def bounded(pool):
+        return {"queue": 2, "unbounded": False} if pool.unbounded else {}
+
+    printed = on_executors(tools, [one.case(with_pools(one.plan, bounded)) for one in some])
+    found = {"a queue of 2 in place of an unbounded one": sum(printed != one.wanted for one, printed in zip(some, printed))}
+    shown = list(filter(None, (one.of_program() for one in some)))
+    answers = [tools.sizing("replay", f"{text_of(with_pools(plan, bounded))}%%\n" + "\n".join(events))[1].splitlines() for plan, events, _ in shown]
+    found["the same, in sizing's plan"] = sum(printed != wanted for printed, (_, _, wanted) in zip(answers, shown))
+    printed = on_executors(tools, [one.case() for one in some])
+    found["threads above core start"] = sum(by_rule(StartsThreadsFirst, one) != answers for one, answers in zip(some, printed))
     print(f"deliberate errors, by the number of {SLIPPED} lists that find them: " + ", ".join(f"'{name}' {number}" for name, number in found.items()), flush=True)
     return [f"replays: the deliberate error '{name}' is not found" for name, number in found.items() if not number]
 

@@ -26,6 +26,7 @@ VOIDS = {
     "orders": [],
     "importer": [],
     "hurried-prices": ["job N of class slow in pool prices was cancelled"],
+    "fixed-pools": [],
 }
 VOID = r"^line \d+: a yes is void from here on: "
 RUNS = 4
@@ -38,8 +39,9 @@ IN_BODY = "body"
 SLIPS = {
     "path": r"; its body has no such submit |; its body has only \d+ at some point before its next such submit$|ended without a get of job .*; its body has a get before its end$",
     "count": r"kind .*: [0-9]+ (at once|in all), count is ",
-    "size": r"^line 2: pool .*: max ",
-    "change": r"pool .*: max ",
+    # over an unbounded queue the core
+    "size": r"^line 2: pool .*: (max|core) ",
+    "change": r"pool .*: (max|core) ",
 }
 
 
@@ -110,8 +112,8 @@ def other_plans(plan):
     """Yields plans that differ from the service's plan in one size, count or body. The service does not follow them, since it reaches each
     count of its plan, and takes each path that the plan has."""
     for at, pool in enumerate(plan.pools):
-        for key, value in (("core", pool.core + 1), ("max", pool.max + 1), ("queue", pool.queue - 1), ("prestart", True)):
-            yield f"{pool.name} {key} {value}", plan._replace(pools=put(plan.pools, at, pool._replace(**{key: value})))
+        for what, change in other_sizes(pool):
+            yield f"{pool.name} {what}", plan._replace(pools=put(plan.pools, at, pool._replace(**change)))
     for at, client in enumerate(plan.clients):
         yield f"{client.name} count {client.count - 1}", plan._replace(clients=put(plan.clients, at, client._replace(count=client.count - 1)))
         if client.repeat:
@@ -121,6 +123,17 @@ def other_plans(plan):
     for at, one in enumerate(plan.classes):
         for change, body in narrower(one.body):
             yield f"{one.name} {change}", plan._replace(classes=put(plan.classes, at, one._replace(body=body)))
+
+
+def other_sizes(pool):
+    """Yields the changes of one size of a pool. Over an unbounded queue the maximum has no effect, and the queue gets a capacity."""
+    if pool.unbounded:
+        yield f"core {pool.core + 1}", {"core": pool.core + 1, "max": pool.core + 1}
+        yield "queue 1000000", {"unbounded": False}
+    else:
+        for key, value in (("core", pool.core + 1), ("max", pool.max + 1), ("queue", pool.queue - 1)):
+            yield f"{key} {value}", {key: value}
+    yield "prestart True", {"prestart": True}
 
 
 def put(entries, at, entry):

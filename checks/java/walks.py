@@ -7,21 +7,23 @@ sys.path.insert(0, str(Path(__file__).resolve().parent.parent))
 
 from found_certs import body_by_chance
 from machine import NOT_POSSIBLE, Machine
-from small_plans import Class, Client, Plan, Pool
+from small_plans import Class, Client, Plan, Pool, without_bound
 
 MOST_JOBS = 60
 # The weights with which the next event is chosen at random among the possible events, by the kind of event.
 WEIGHTS = {"client": 4, "job": 4, "take": 2, "retire": 1, "leave": 2}
 
 
-def plan_by_chance(chance, rejecting=False):
-    """Returns a random plan. If it is rejecting, about two thirds of its pools may reject jobs, and some of these have a queue of 0."""
+def plan_by_chance(chance, rejecting=False, unbounded=False):
+    """Returns a random plan. If it is rejecting, about two thirds of its pools may reject jobs, and some of these have a queue of 0. If it
+    is unbounded, about two thirds of its pools have an unbounded queue."""
     pools = []
     for number in range(chance.choice([1, 1, 2, 3])):
         core = chance.choice([1, 1, 2, 3])
         pool = Pool("pqr"[number], core, core + chance.choice([0, 1, 2]), chance.choice([1, 1, 2, 3]), chance.random() < 0.3,
                     rejecting and chance.random() < 0.67)
-        pools.append(pool._replace(queue=0) if pool.may_reject and chance.random() < 0.4 else pool)
+        pool = pool._replace(queue=0) if pool.may_reject and chance.random() < 0.4 else pool
+        pools.append(without_bound(pool) if unbounded and chance.random() < 0.67 else pool)
     classes = [
         Class("abcd"[number], chance.randrange(len(pools)), body_by_chance(chance, number))
         for number in range(chance.choice([1, 2, 3, 4]))

@@ -31,7 +31,7 @@ pub struct Certificate {
 #[derive(Serialize)]
 pub struct PoolCertificate {
     pub blocked: Vector,
-    /// `None` only for a pool that may reject jobs.
+    /// `None` only for a pool that may reject jobs or has an unbounded queue.
     #[serde(flatten)]
     pub bound: Option<Bound>,
 }
@@ -128,7 +128,7 @@ fn are_standing(pools: &[PoolCertificate]) -> bool {
 
 impl PoolCertificate {
     fn fits(&self, plan: &Plan, pool: &Pool) -> bool {
-        (self.bound.is_some() || pool.may_reject) && self.vectors().all(|vector| vector.fits(plan))
+        (self.bound.is_some() || pool.needs_no_bound()) && self.vectors().all(|vector| vector.fits(plan))
     }
 
     fn vectors(&self) -> impl Iterator<Item = &Vector> {

@@ -2,9 +2,12 @@
 
 use crate::answer::Answer;
 use crate::certificate::{Bound, Certificate, Ranks, Vector};
-use crate::plan::{Action, Body, Plan};
+use crate::plan::{Action, Body, Plan, Pool};
 use std::fmt::{self, Write};
 use std::ops::ControlFlow;
+
+/// The word for a queue without a bound.
+const UNBOUNDED: &str = "unbounded";
 
 #[derive(Clone, Copy, Debug)]
 enum Rule {
@@ -77,14 +80,25 @@ pub fn check(plan: &Plan, certificate: &Certificate) -> Answer {
     for (pool, of_pool) in plan.pools.iter().zip(&certificate.pools) {
         let blocked = total(plan, &of_pool.blocked);
         let bound = match &of_pool.bound {
-            Some(Bound::Standing(vector)) => format!("standing {} of {}", total(plan, vector), pool.queue),
-            Some(Bound::Lifetime(vector)) => format!("lifetime {} of {}", total(plan, vector), pool.most_jobs()),
+            Some(Bound::Standing(vector)) => format!("standing {} of {}", total(plan, vector), limit(pool, pool.queue)),
+            Some(Bound::Lifetime(vector)) => {
+                format!("lifetime {} of {}", total(plan, vector), limit(pool, pool.most_jobs()))
+            }
+            None if pool.unbounded => UNBOUNDED.into(),
             None => "may reject".into(),
         };
         let (name, limit) = (&pool.name, pool.core - 1);
         writeln!(text, "pool {name}: {bound}, blocked {blocked} of {limit}").unwrap();
     }
     Answer { text: text.into_bytes(), is_no: !is_accepted }
+}
+
+/// Returns the limit of the total of a bound.
+fn limit(pool: &Pool, number: u64) -> String {
+    match pool.unbounded {
+        true => UNBOUNDED.into(),
+        false => number.to_string(),
+    }
 }
 
 pub fn explain(plan: &Plan, certificate: &Certificate) -> Answer {
@@ -163,6 +177,9 @@ fn each_of_standing(
     let pool = &plan.pools[number];
     let section = &format!("pool {} standing", pool.name);
     each_of_vector(plan, section, vector, true, visit)?;
+    if pool.unbounded {
+        return ControlFlow::Continue(());
+    }
     for (class, row) in plan.classes.iter().zip(&vector.classes).filter(|(class, _)| class.pool == number) {
         let place = Place::Class(&class.name);
         visit(Condition { section, place, rule: Rule::S1, left: 1, right: row[0] })?;
@@ -183,6 +200,9 @@ fn each_of_lifetime(
         visit(Condition { section, place, rule: Rule::L1, left: *weight, right: 0 })?;
     }
     each_of_vector(plan, section, vector, false, visit)?;
+    if pool.unbounded {
+        return ControlFlow::Continue(());
+    }
     for (class, row) in plan.classes.iter().zip(&vector.classes).filter(|(class, _)| class.pool == number) {
         let place = Place::Class(&class.name);
         for weight in row {

@@ -8,6 +8,13 @@ use indexmap::IndexMap;
 const MOST_LOANS: usize = 256;
 const TOO_HEAVY: u64 = u64::MAX;
 
+/// The classes of a plan in the order of their levels, and for each class whether clients submit it, directly or through
+/// other jobs. A class that is never submitted never has a job.
+pub struct Classes {
+    pub order: Vec<usize>,
+    pub submitted: Vec<bool>,
+}
+
 /// The points at which the jobs of the pool must weigh at least 1.
 #[derive(Clone, Copy)]
 pub enum Need<'a> {
@@ -19,12 +26,13 @@ pub enum Need<'a> {
     Everywhere,
 }
 
-/// The vector of a pool that is searched for. Its total must be at most the limit.
+/// The vector of a pool that is searched for.
 #[derive(Clone, Copy)]
 pub struct Target<'a> {
     pub pool: usize,
     pub need: Need<'a>,
-    pub limit: u64,
+    /// The limit of its total. Without a limit, the vector with the least total that is found is wanted.
+    pub limit: Option<u64>,
 }
 
 impl Target<'_> {
@@ -61,7 +69,17 @@ impl Target<'_> {
     /// Returns whether workers may have weight. With a limit of 0 they may not, since their weight alone would exceed
     /// it.
     fn may_lend(&self) -> bool {
-        self.gives_back() && self.limit > 0
+        self.gives_back() && self.limit != Some(0)
+    }
+
+    /// Returns whether a vector with this total is as wanted, so that no loan is needed.
+    fn is_met(&self, total: u64) -> bool {
+        total <= self.limit.unwrap_or(0)
+    }
+
+    /// Returns whether the target has no vector if this is the least total.
+    fn is_missed(&self, total: u64) -> bool {
+        total == TOO_HEAVY || self.limit.map_or(false, |limit| total > limit)
     }
 }
 
@@ -98,14 +116,13 @@ struct Sketch {
     queued: Vec<u64>,
     done: Vec<u64>,
     starts: Vec<u64>,
-    /// The greatest weight of a job of each pool.
+    /// The greatest weight of a job of each pool, without the classes that are never submitted.
     peaks: Vec<u64>,
     total: u64,
 }
 
 impl Sketch {
-    /// Computes the sketch. `order` has the classes in the order of their levels.
-    fn new(plan: &Plan, order: &[usize], target: &Target, workers: &[u64]) -> Sketch {
+    fn new(plan: &Plan, classes: &Classes, target: &Target, workers: &[u64]) -> Sketch {
         let mut sketch = Sketch {
             queued: vec![0; plan.classes.len()],
             done: vec![0; plan.classes.len()],
@@ -113,8 +130,12 @@ impl Sketch {
             peaks: vec![0; plan.pools.len()],
             total: workers_weigh(plan, workers),
         };
-        for number in order {
-            sketch.add_class(target, workers, *number, &plan.classes[*number]);
+        for &number in &classes.order {
+            let peak = sketch.add_class(target, workers, number, &plan.classes[number]);
+            if classes.submitted[number] {
+                let highest = &mut sketch.peaks[plan.classes[number].pool];
+                *highest = peak.max(*highest);
+            }
         }
         for client in &plan.clients {
             sketch.add_client(target, client);
@@ -122,7 +143,8 @@ impl Sketch {
         sketch
     }
 
-    fn add_class(&mut self, target: &Target, workers: &[u64], number: usize, class: &Class) {
+    /// Adds the weights of a class, and returns the greatest weight of its jobs.
+    fn add_class(&mut self, target: &Target, workers: &[u64], number: usize, class: &Class) -> u64 {
         let worker = workers[class.pool];
         let mut weight = Weight::at_end(worker).at_least(target.need_at_end(class));
         let mut peak = weight.number;
@@ -133,10 +155,10 @@ impl Sketch {
         let queued = weight.less(worker).at_least(target.need_queued(class));
         self.queued[number] = queued.number;
         self.done[number] = queued.number.min(queued.slack);
-        self.peaks[class.pool] = self.peaks[class.pool].max(peak);
         if peak > MOST_WEIGHT || queued.number > MOST_WEIGHT {
             self.total = TOO_HEAVY;
         }
+        peak
     }
 
     fn add_client(&mut self, target: &Target, client: &Client) {
@@ -217,7 +239,7 @@ fn workers_weigh(plan: &Plan, workers: &[u64]) -> u64 {
 /// A cache of the sketches for the weights of workers that were tried.
 struct Tried<'a> {
     plan: &'a Plan,
-    order: &'a [usize],
+    classes: &'a Classes,
     target: &'a Target<'a>,
     sketches: IndexMap<Vec<u64>, Sketch>,
 }
@@ -228,7 +250,7 @@ impl Tried<'_> {
         if let Some(place) = self.sketches.get_index_of(workers) {
             return place;
         }
-        let sketch = Sketch::new(self.plan, self.order, self.target, workers);
+        let sketch = Sketch::new(self.plan, self.classes, self.target, workers);
         self.sketches.insert_full(workers.to_vec(), sketch).0
     }
 
@@ -268,14 +290,15 @@ impl Tried<'_> {
 }
 
 /// Returns the least vector whose total is at most the target's limit, if one is found. While the total exceeds the
-/// limit, the pool whose loan lowers the total most lends: its workers get the greatest weight of its jobs.
-pub fn least_vector(plan: &Plan, order: &[usize], target: &Target) -> Option<Vector> {
+/// limit, the pool whose loan lowers the total most lends: its workers get the greatest weight of its jobs. Without a
+/// limit, pools lend as long as that lowers the total.
+pub fn least_vector(plan: &Plan, classes: &Classes, target: &Target) -> Option<Vector> {
     let mut workers = vec![0; plan.pools.len()];
-    let mut tried = Tried { plan, order, target, sketches: IndexMap::new() };
+    let mut tried = Tried { plan, classes, target, sketches: IndexMap::new() };
     let mut place = tried.place(&workers);
     let loans = if target.may_lend() { MOST_LOANS } else { 0 };
     for _ in 0..loans {
-        if tried.sketches[place].total <= target.limit {
+        if target.is_met(tried.sketches[place].total) {
             break;
         }
         let (pool, weight, next) = match tried.best_loan(&mut workers, place) {
@@ -286,7 +309,7 @@ pub fn least_vector(plan: &Plan, order: &[usize], target: &Target) -> Option<Vec
         place = next;
     }
     let sketch = &tried.sketches[place];
-    if sketch.total > target.limit {
+    if target.is_missed(sketch.total) {
         return None;
     }
     sketch.vector(plan, target, workers)

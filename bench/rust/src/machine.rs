@@ -253,7 +253,7 @@ impl State {
         let phase = if pool.threads < sizes.core {
             pool.threads += 1;
             Phase::AtWork
-        } else if (pool.queue.len() as u64) < queue_limit(sizes.queue, pool.idle) {
+        } else if sizes.unbounded || (pool.queue.len() as u64) < queue_limit(sizes.queue, pool.idle) {
             pool.queue.push_back(number);
             Phase::Queued
         } else if pool.threads < sizes.max {

@@ -2,7 +2,7 @@
 
 use crate::faults::{Entry, Fault, Kind};
 use crate::object::Object;
-use crate::plan_text::{self, ClassText, PlanText, PoolText};
+use crate::plan_text::{self, ClassText, PlanText, PoolText, Size};
 use indexmap::{IndexMap, IndexSet};
 use std::ops::RangeInclusive;
 
@@ -11,7 +11,8 @@ pub const MOST_CLASSES: usize = 256;
 pub const MOST_CLIENTS: usize = 256;
 pub const MOST_ACTIONS: usize = 256;
 const MOST_NAME: usize = 32;
-const SIZES: RangeInclusive<u64> = 1..=1_000_000;
+const MOST_SIZE: u64 = 1_000_000;
+const SIZES: RangeInclusive<u64> = 1..=MOST_SIZE;
 
 pub struct Plan {
     pub pools: Vec<Pool>,
@@ -22,11 +23,14 @@ pub struct Plan {
 pub struct Pool {
     pub name: String,
     pub core: u64,
+    /// The maximum number of threads. It is core if the queue is unbounded: then no thread above core starts.
     pub max: u64,
-    /// The capacity of the queue. Only a pool that may reject jobs can have 0, that of a `SynchronousQueue`.
+    /// The capacity of the queue. Only a pool that may reject jobs can have 0, that of a `SynchronousQueue`. It has no
+    /// effect if the queue is unbounded.
     pub queue: u64,
     pub prestart: bool,
     pub may_reject: bool,
+    pub unbounded: bool,
 }
 
 pub struct Class {
@@ -70,6 +74,11 @@ impl Pool {
         } else {
             0
         }
+    }
+
+    /// Returns whether a certificate needs no bound of the pool's queue.
+    pub fn needs_no_bound(&self) -> bool {
+        self.may_reject || self.unbounded
     }
 
     /// Returns the number of jobs that the pool may be given in all without ever being full.
@@ -116,8 +125,15 @@ fn check_pools(pools: &[Object<PoolText>]) -> Result<IndexSet<&str>, Fault> {
     let mut names = IndexSet::new();
     for (index, Object(pool)) in pools.iter().enumerate() {
         add_name(&mut names, Entry::Pool(index), &pool.name)?;
-        let is_queue = is_size(pool.queue) || pool.queue == 0 && pool.may_reject;
-        if !is_size(pool.core) || !is_size(pool.max) || !is_queue || pool.max < pool.core {
+        let is_queue = match pool.queue {
+            Size::Number(queue) => is_size(queue) || queue == 0 && pool.may_reject,
+            Size::Unbounded => true,
+        };
+        let is_max = match pool.max {
+            Size::Number(max) => is_size(max) && max >= pool.core,
+            Size::Unbounded => matches!(pool.queue, Size::Unbounded),
+        };
+        if !is_size(pool.core) || !is_max || !is_queue {
             return Err(Kind::BadNumber.at(Entry::Pool(index)));
         }
     }
@@ -157,14 +173,12 @@ fn is_size(number: i64) -> bool {
 }
 
 fn pool(Object(text): Object<PoolText>) -> Pool {
-    Pool {
-        name: text.name,
-        core: text.core as u64,
-        max: text.max as u64,
-        queue: text.queue as u64,
-        prestart: text.prestart,
-        may_reject: text.may_reject,
-    }
+    let core = text.core as u64;
+    let (max, queue, unbounded) = match (text.max, text.queue) {
+        (Size::Number(max), Size::Number(queue)) => (max as u64, queue as u64, false),
+        _ => (core, MOST_SIZE, true),
+    };
+    Pool { name: text.name, core, max, queue, prestart: text.prestart, may_reject: text.may_reject, unbounded }
 }
 
 /// A parsed action, with the names of its class and slot.

@@ -3,11 +3,15 @@
 use crate::faults::{Entry, Fault, Kind};
 use crate::object::Object;
 use crate::plan::{MOST_ACTIONS, MOST_CLASSES, MOST_CLIENTS, MOST_POOLS};
-use serde::Deserialize;
+use serde::de::{Error, Visitor};
+use serde::{Deserialize, Deserializer};
+use std::fmt;
 use toml::value::Table;
 use toml::Value;
 
 const MOST_BYTES: usize = 1_048_576;
+/// The text of a maximum or of a queue without a bound.
+const UNBOUNDED: &str = "unbounded";
 
 #[derive(Deserialize)]
 #[serde(deny_unknown_fields)]
@@ -25,12 +29,19 @@ pub struct PlanText {
 pub struct PoolText {
     pub name: String,
     pub core: i64,
-    pub max: i64,
-    pub queue: i64,
+    pub max: Size,
+    pub queue: Size,
     #[serde(default)]
     pub prestart: bool,
     #[serde(default)]
     pub may_reject: bool,
+}
+
+/// A maximum or a queue: a number, or the text `unbounded`.
+#[derive(Clone, Copy)]
+pub enum Size {
+    Number(i64),
+    Unbounded,
 }
 
 #[derive(Deserialize)]
@@ -49,6 +60,33 @@ pub struct ClientText {
     #[serde(default)]
     pub repeat: bool,
     pub body: Vec<String>,
+}
+
+impl<'de> Deserialize<'de> for Size {
+    fn deserialize<D: Deserializer<'de>>(from: D) -> Result<Size, D::Error> {
+        struct SizeVisitor;
+
+        impl Visitor<'_> for SizeVisitor {
+            type Value = Size;
+
+            fn expecting(&self, f: &mut fmt::Formatter) -> fmt::Result {
+                f.write_str("a number or the text `unbounded`")
+            }
+
+            fn visit_i64<E: Error>(self, number: i64) -> Result<Size, E> {
+                Ok(Size::Number(number))
+            }
+
+            fn visit_str<E: Error>(self, text: &str) -> Result<Size, E> {
+                match text {
+                    UNBOUNDED => Ok(Size::Unbounded),
+                    _ => Err(E::custom("this text is no size")),
+                }
+            }
+        }
+
+        from.deserialize_any(SizeVisitor)
+    }
 }
 
 /// Parses the tables of a plan's text. Does not check the names, numbers and actions.
@@ -117,8 +155,8 @@ fn pool(index: usize, value: Value) -> Result<PoolText, Fault> {
     Ok(PoolText {
         name: keys.text("name")?,
         core: keys.number("core")?,
-        max: keys.number("max")?,
-        queue: keys.number("queue")?,
+        max: keys.size("max")?,
+        queue: keys.size("queue")?,
         prestart: keys.flag("prestart")?,
         may_reject: keys.flag("may_reject")?,
     })
@@ -167,6 +205,14 @@ impl Keys {
 
     fn number(&mut self, key: &str) -> Result<i64, Fault> {
         self.value(key)?.as_integer().ok_or_else(|| Kind::WrongType.at(self.entry))
+    }
+
+    fn size(&mut self, key: &str) -> Result<Size, Fault> {
+        match self.value(key)? {
+            Value::Integer(number) => Ok(Size::Number(number)),
+            Value::String(text) if text == UNBOUNDED => Ok(Size::Unbounded),
+            _ => Err(Kind::WrongType.at(self.entry)),
+        }
     }
 
     fn flag(&mut self, key: &str) -> Result<bool, Fault> {

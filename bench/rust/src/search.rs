@@ -4,8 +4,8 @@ use crate::answer::Answer;
 use crate::certificate::{Bound, Certificate, PoolCertificate, Ranks, Vector, MOST_BYTES};
 use crate::conditions::accepts;
 use crate::faults::Fault;
-use crate::least_vector::{least_vector, Need, Target};
-use crate::plan::{Action, Plan};
+use crate::least_vector::{least_vector, Classes, Need, Target};
+use crate::plan::{Action, Body, Plan};
 
 pub fn certify(mut input: Vec<u8>) -> Result<Answer, Fault> {
     if input.last().map_or(false, |last| *last != b'\n') {
@@ -33,25 +33,32 @@ fn search(plan: &Plan) -> Option<Certificate> {
     let levels = levels(plan)?;
     let mut order: Vec<usize> = (0..plan.classes.len()).collect();
     order.sort_by_key(|class| levels[*class]);
-    let bounds: Vec<_> = (0..plan.pools.len()).map(|pool| bound(plan, &order, pool)).collect::<Option<_>>()?;
-    let blocked = ranked(plan, &order)?;
+    let submitted = submitted(plan, &order);
+    let classes = Classes { order, submitted };
+    let bounds: Vec<_> = (0..plan.pools.len()).map(|pool| bound(plan, &classes, pool)).collect::<Option<_>>()?;
+    let blocked = ranked(plan, &classes)?;
     let ranks: Vec<u64> = blocked.iter().map(|(rank, _)| *rank).collect();
-    let reach = reach(plan, &order, &ranks);
+    let reach = reach(plan, &classes.order, &ranks);
     let pools = bounds.into_iter().zip(blocked).map(|(bound, (_, blocked))| PoolCertificate { blocked, bound });
     let certificate = Certificate::new(pools.collect(), Ranks { levels, pools: ranks, reach });
     Some(certificate).filter(|certificate| accepts(plan, certificate))
 }
 
 /// Returns a standing vector of the pool or, if none is found, a lifetime vector. If that is not found either, a pool that
-/// may reject jobs has no bound, and `None` is returned for any other pool.
-fn bound(plan: &Plan, order: &[usize], number: usize) -> Option<Option<Bound>> {
+/// may reject jobs has no bound, and `None` is returned for any other pool. For an unbounded queue only a standing vector
+/// is searched for, that with the least total. The pool has no bound if none is found.
+fn bound(plan: &Plan, classes: &Classes, number: usize) -> Option<Option<Bound>> {
     let pool = &plan.pools[number];
-    let standing = Target { pool: number, need: Need::WhileQueued, limit: pool.queue };
-    if let Some(vector) = least_vector(plan, order, &standing) {
+    let limit = if pool.unbounded { None } else { Some(pool.queue) };
+    let standing = Target { pool: number, need: Need::WhileQueued, limit };
+    if let Some(vector) = least_vector(plan, classes, &standing) {
         return Some(Some(Bound::Standing(vector)));
     }
-    let lifetime = Target { pool: number, need: Need::Everywhere, limit: pool.most_jobs() };
-    match least_vector(plan, order, &lifetime) {
+    if pool.unbounded {
+        return Some(None);
+    }
+    let lifetime = Target { pool: number, need: Need::Everywhere, limit: Some(pool.most_jobs()) };
+    match least_vector(plan, classes, &lifetime) {
         Some(vector) => Some(Some(Bound::Lifetime(vector))),
         None if pool.may_reject => Some(None),
         None => None,
@@ -61,16 +68,16 @@ fn bound(plan: &Plan, order: &[usize], number: usize) -> Option<Option<Bound>> {
 /// Returns the rank and the blocked vector of each pool. They are found in rounds. A pool whose vector is found in a
 /// round gets the number of the round as its rank. In later rounds a get is not counted if it depends only on pools
 /// with a rank.
-fn ranked(plan: &Plan, order: &[usize]) -> Option<Vec<(u64, Vector)>> {
+fn ranked(plan: &Plan, classes: &Classes) -> Option<Vec<(u64, Vector)>> {
     let mut found: Vec<Option<(u64, Vector)>> = plan.pools.iter().map(|_| None).collect();
     for rank in 0..plan.pools.len() as u64 {
         let ranks: Vec<u64> = found.iter().map(|pool| pool.as_ref().map_or(rank, |(rank, _)| *rank)).collect();
-        let reach = reach(plan, order, &ranks);
+        let reach = reach(plan, &classes.order, &ranks);
         let mut has_moved = false;
         for (number, pool) in found.iter_mut().enumerate().filter(|(_, pool)| pool.is_none()) {
             let need = Need::AtGets { reach: &reach, rank };
-            let blocked = Target { pool: number, need, limit: plan.pools[number].core - 1 };
-            *pool = least_vector(plan, order, &blocked).map(|vector| (rank, vector));
+            let blocked = Target { pool: number, need, limit: Some(plan.pools[number].core - 1) };
+            *pool = least_vector(plan, classes, &blocked).map(|vector| (rank, vector));
             has_moved |= pool.is_some();
         }
         if found.iter().all(Option::is_some) {
@@ -81,6 +88,30 @@ fn ranked(plan: &Plan, order: &[usize]) -> Option<Vec<(u64, Vector)>> {
         }
     }
     found.into_iter().collect()
+}
+
+/// Returns, for each class, whether clients submit it, directly or through the jobs of other classes.
+fn submitted(plan: &Plan, order: &[usize]) -> Vec<bool> {
+    let mut submitted = vec![false; plan.classes.len()];
+    for client in &plan.clients {
+        mark_submits(&client.body, &mut submitted);
+    }
+    // a class is submitted only by classes of higher levels
+    for number in order.iter().rev() {
+        if submitted[*number] {
+            mark_submits(&plan.classes[*number].body, &mut submitted);
+        }
+    }
+    submitted
+}
+
+/// Marks the classes that a body submits.
+fn mark_submits(body: &Body, submitted: &mut [bool]) {
+    for action in &body.actions {
+        if let Action::Submit { class, .. } = *action {
+            submitted[class] = true;
+        }
+    }
 }
 
 /// Returns the reach of each class: the highest rank among its own pool and the pools of the jobs for which its jobs

@@ -10,6 +10,8 @@ import java.util.Queue;
 import java.util.concurrent.ConcurrentLinkedQueue;
 import java.util.concurrent.CountDownLatch;
 import java.util.concurrent.ExecutorService;
+import java.util.concurrent.Executors;
+import java.util.concurrent.LinkedBlockingQueue;
 import java.util.concurrent.RejectedExecutionException;
 import java.util.concurrent.ThreadPoolExecutor;
 import java.util.concurrent.TimeUnit;
@@ -66,9 +68,24 @@ final class Run {
 
     /** Creates a pool with an `ArrayBlockingQueue`. A slip of sizes affects the first pool. */
     ExecutorService pool(String name, int core, int max, int queue) {
-        int more = slip.equals("size") && executors.isEmpty() ? 1 : 0;
-        Settings.Sizes sizes = settings.of(name, new Settings.Sizes(core, max + more, queue));
-        ThreadPoolExecutor executor = new ThreadPoolExecutor(sizes.core(), sizes.max(), 1, TimeUnit.SECONDS, settings.queueOf(sizes));
+        Settings.Sizes sizes = settings.of(name, new Settings.Sizes(core, max + moreThreads(), queue));
+        return pool(name, new ThreadPoolExecutor(sizes.core(), sizes.max(), 1, TimeUnit.SECONDS, settings.queueOf(sizes)));
+    }
+
+    /** Creates the pool of `Executors.newFixedThreadPool`, whose queue is unbounded. */
+    ExecutorService fixedPool(String name, int threads) {
+        if (!settings.areGiven()) {
+            return pool(name, (ThreadPoolExecutor) Executors.newFixedThreadPool(threads + moreThreads()));
+        }
+        Settings.Sizes sizes = settings.of(name, null);
+        return pool(name, new ThreadPoolExecutor(sizes.core(), sizes.max(), 0, TimeUnit.SECONDS, settings.queueOf(sizes)));
+    }
+
+    private int moreThreads() {
+        return slip.equals("size") && executors.isEmpty() ? 1 : 0;
+    }
+
+    private ExecutorService pool(String name, ThreadPoolExecutor executor) {
         if (settings.areGiven()) {
             executor.setRejectedExecutionHandler(this::refuse);
         }
@@ -134,6 +151,10 @@ final class Run {
         if (slip.equals("change")) {
             ThreadPoolExecutor first = executors.values().iterator().next();
             first.setMaximumPoolSize(first.getMaximumPoolSize() + 1);
+            if (first.getQueue() instanceof LinkedBlockingQueue) {
+                // over an unbounded queue the maximum has no effect
+                first.setCorePoolSize(first.getMaximumPoolSize());
+            }
         }
         if (slip.equals("none")) {
             end();

@@ -28,6 +28,7 @@ final class Services {
             case "orders" -> new Orders();
             case "importer" -> new Importer();
             case "hurried-prices" -> new HurriedPrices();
+            case "fixed-pools" -> new FixedPools();
             default -> throw new IllegalArgumentException(name);
         };
     }

@@ -3,13 +3,19 @@ package services;
 import java.util.Map;
 import java.util.concurrent.ArrayBlockingQueue;
 import java.util.concurrent.BlockingQueue;
+import java.util.concurrent.LinkedBlockingQueue;
 
 /**
  * The settings that replace those of the service: the sizes of its pools by name, the number of rounds in all, and the maximum
  * number of microseconds that a thread waits before it takes a job.
  */
 record Settings(Map<String, Sizes> pools, int rounds, int microseconds) {
-    record Sizes(int core, int max, int queue) {}
+    /** The sizes of a pool. An unbounded queue has the capacity of a `LinkedBlockingQueue` that is made without one. */
+    record Sizes(int core, int max, int queue) {
+        boolean isUnbounded() {
+            return queue == Integer.MAX_VALUE;
+        }
+    }
 
     /** The service has its own sizes and rounds. */
     static final Settings NONE = new Settings(Map.of(), 0, 0);
@@ -26,6 +32,9 @@ record Settings(Map<String, Sizes> pools, int rounds, int microseconds) {
     }
 
     BlockingQueue<Runnable> queueOf(Sizes sizes) {
+        if (sizes.isUnbounded()) {
+            return microseconds > 0 ? new SlowlyTakenUnbounded(microseconds) : new LinkedBlockingQueue<>();
+        }
         return microseconds > 0 ? new SlowlyTaken(sizes.queue(), microseconds) : new ArrayBlockingQueue<>(sizes.queue());
     }
 }

@@ -17,17 +17,17 @@ final class SlowlyTaken extends ArrayBlockingQueue<Runnable> {
 
     @Override
     public Runnable take() throws InterruptedException {
-        waitALittle();
+        waitALittle(microseconds);
         return super.take();
     }
 
     @Override
     public Runnable poll(long time, TimeUnit unit) throws InterruptedException {
-        waitALittle();
+        waitALittle(microseconds);
         return super.poll(time, unit);
     }
 
-    private void waitALittle() {
+    static void waitALittle(int microseconds) {
         LockSupport.parkNanos(1000L * ThreadLocalRandom.current().nextInt(microseconds));
     }
 }

@@ -32,9 +32,10 @@ class ClosedPackageTest {
         executor.awaitTermination(60, TimeUnit.SECONDS);
         recorder.close();
         text.toString().lines().filter(line -> line.startsWith("round ")).forEach(System.out::println);
-        Path plan = Files.writeString(Files.createTempFile("sizing", ".toml"), "pool = [{name = 'p', core = 1, max = 1, queue = 7}]");
+        Path plan = Files.writeString(Files.createTempFile("sizing", ".toml"), "pool = [{name = 'p', core = 1, max = 1, queue = 7}, "
+                + "{name = 'q', core = 1, max = 'unbounded', queue = 'unbounded'}]");
         ExecutorService single = Executors.newSingleThreadExecutor();
-        PlanCheck.differences(plan, Map.of("p", single)).forEach(System.out::println);
+        PlanCheck.differences(plan, Map.of("p", single, "q", single)).forEach(System.out::println);
         single.shutdown();
         Files.delete(plan);
     }
@@ -50,7 +51,9 @@ class ClosedPackageTest {
         assertLines(lines.lines().toList(), "round 0 begin main", "round 0 submit 0 async_supply p", "round 0 end",
                 "round 1 begin main", "round 1 submit 1 async_supply p", "round 1 end",
                 "pool p: FinalizableDelegatedExecutorService hides its executor: pass new ThreadPoolExecutor(1, 1, 0, SECONDS, "
-                + "new LinkedBlockingQueue<>(7)), or run the JVM with --add-opens java.base/java.util.concurrent=ALL-UNNAMED");
+                + "new LinkedBlockingQueue<>(7)), or run the JVM with --add-opens java.base/java.util.concurrent=ALL-UNNAMED",
+                "pool q: FinalizableDelegatedExecutorService hides its executor: pass new ThreadPoolExecutor(1, 1, 0, SECONDS, "
+                + "new LinkedBlockingQueue<>()), or run the JVM with --add-opens java.base/java.util.concurrent=ALL-UNNAMED");
         List<String> warnings = log.lines().filter(line -> line.startsWith("WARNING: ")).toList();
         assertEquals(List.of("WARNING: stages of CompletableFutures are recorded as submits without gets: run the JVM with "
                 + "--add-opens java.base/java.util.concurrent=ALL-UNNAMED (tried on OpenJDK 17)"), warnings);

@@ -15,11 +15,13 @@ import java.util.concurrent.ExecutorService;
 import java.util.concurrent.Executors;
 import java.util.concurrent.ForkJoinPool;
 import java.util.concurrent.LinkedBlockingQueue;
+import java.util.concurrent.PriorityBlockingQueue;
 import java.util.concurrent.RejectedExecutionHandler;
 import java.util.concurrent.ScheduledThreadPoolExecutor;
 import java.util.concurrent.SynchronousQueue;
 import java.util.concurrent.ThreadPoolExecutor;
 import java.util.concurrent.TimeUnit;
+import java.util.concurrent.atomic.AtomicBoolean;
 import org.junit.jupiter.api.Test;
 
 /** Differences between executors and a plan. */
@@ -59,6 +61,7 @@ class PlanCheckTest {
             pool = "db"
             body = []
             """;
+    private static final String UNBOUNDED = "pool = [{name = 'tasks', core = 2, max = 'unbounded', queue = 'unbounded'}]";
     private static final String SYNCHRONOUS = "pool = [{name = 'bulkhead', core = 8, max = 8, queue = 0, may_reject = true}]";
 
     private static final String GETS = """
@@ -137,6 +140,78 @@ class PlanCheckTest {
                 "pool bulkhead: queue 8, plan 0", "pool bulkhead: queue LinkedBlockingQueue, plan SynchronousQueue");
         ThreadPoolExecutor made = PlanCheck.newExecutor(plan, "bulkhead");
         compared(plan, Map.of("bulkhead", made));
+        made.shutdown();
+    }
+
+    @Test
+    void anUnboundedQueueIsALinkedBlockingQueueWithoutACapacity() throws Exception {
+        Path plan = file(UNBOUNDED);
+        compared(plan, Map.of("tasks", Recording.executor(2, 2, new LinkedBlockingQueue<>())));
+        compared(plan, Map.of("tasks", (ThreadPoolExecutor) Executors.newFixedThreadPool(2)));
+        compared(plan, Map.of("tasks", Recording.executor(2, 2, new LinkedBlockingQueue<>(200))), "pool tasks: queue 200, plan unbounded");
+        compared(plan, Map.of("tasks", Recording.executor(2, 2, 200)),
+                "pool tasks: queue 200, plan unbounded", "pool tasks: queue ArrayBlockingQueue, plan LinkedBlockingQueue");
+        compared(plan, Map.of("tasks", Recording.executor(2, 2, new SynchronousQueue<>())),
+                "pool tasks: queue 0, plan unbounded", "pool tasks: queue SynchronousQueue, plan LinkedBlockingQueue");
+        compared(plan, Map.of("tasks", Recording.executor(2, 2, new PriorityBlockingQueue<>())),
+                "pool tasks: queue PriorityBlockingQueue, plan LinkedBlockingQueue");
+        ThreadPoolExecutor cores = Recording.executor(3, 3, new LinkedBlockingQueue<>());
+        cores.allowCoreThreadTimeOut(true);
+        compared(plan, Map.of("tasks", cores), "pool tasks: core 3, plan 2", "pool tasks: allowCoreThreadTimeOut true, plan false");
+    }
+
+    @Test
+    void theMaximumBesideAnUnboundedQueueIsNotCompared() throws Exception {
+        for (int max : new int[] {2, 8, Integer.MAX_VALUE}) {
+            Map<String, ThreadPoolExecutor> executors = Map.of("tasks", Recording.executor(2, max, new LinkedBlockingQueue<>()));
+            compared(file(UNBOUNDED), executors);
+            compared(file(UNBOUNDED.replace("max = 'unbounded'", "max = 4")), executors);
+        }
+    }
+
+    @Test
+    void aBusyUnboundedQueueHasItsCapacity() throws Exception {
+        ThreadPoolExecutor executor = Recording.executor(2, 2, new LinkedBlockingQueue<>());
+        AtomicBoolean over = new AtomicBoolean();
+        Thread submitter = new Thread(() -> {
+            while (!over.get()) {
+                if (executor.getQueue().size() < 1000) {
+                    executor.submit(() -> 1);
+                }
+            }
+        });
+        submitter.start();
+        try {
+            for (int time = 0; time < 20; time++) {
+                compared(file(UNBOUNDED), Map.of("tasks", executor));
+            }
+        } finally {
+            over.set(true);
+            submitter.join();
+            executor.shutdownNow();
+        }
+    }
+
+    @Test
+    void aPoolWithAnUnboundedQueueNeverCallsItsHandler() throws Exception {
+        ThreadPoolExecutor executor = Recording.executor(2, 2, new LinkedBlockingQueue<>());
+        executor.setRejectedExecutionHandler(new ThreadPoolExecutor.DiscardOldestPolicy());
+        for (String key : new String[] {"", ", may_reject = true"}) {
+            Path plan = file(UNBOUNDED.replace("}]", key + "}]"));
+            PlanCheck.check(plan, Map.of("tasks", executor));
+            assertEquals(List.of("pool tasks: handler DiscardOldestPolicy, which a safe plan never calls"), PlanCheck.differences(plan, Map.of("tasks", executor)));
+        }
+    }
+
+    @Test
+    void anExecutorWithAnUnboundedQueueIsMade() throws Exception {
+        ThreadPoolExecutor made = PlanCheck.newExecutor(file(UNBOUNDED), "tasks");
+        assertEquals(Integer.MAX_VALUE, made.getMaximumPoolSize());
+        assertEquals(Integer.MAX_VALUE, made.getQueue().remainingCapacity());
+        compared(file(UNBOUNDED), Map.of("tasks", made));
+        made.shutdown();
+        made = PlanCheck.newExecutor(file("pool = [{name = 'tasks', core = 2, max = 8, queue = 'unbounded', prestart = true}]"), "tasks");
+        assertEquals(List.of(2, 8, 2), List.of(made.getCorePoolSize(), made.getMaximumPoolSize(), made.getPoolSize()));
         made.shutdown();
     }
 
@@ -320,6 +395,9 @@ class PlanCheckTest {
         String pool = "[[pool]]\nname = 'p'\ncore = 1\nmax = 1\nqueue = 1\n";
         wrong(pool + "prestart = 1", "invalid prestart in pool {name=p, core=1, max=1, queue=1, prestart=1}");
         wrong(pool + "may_reject = 'yes'", "invalid may_reject in pool {name=p, core=1, max=1, queue=1, may_reject=yes}");
+        wrong("[[pool]]\nname = 'p'\ncore = 1\nmax = 'unbounded'\nqueue = 1", "invalid max in pool {name=p, core=1, max=unbounded, queue=1}");
+        wrong("[[pool]]\nname = 'p'\ncore = 1\nmax = 1\nqueue = 'Unbounded'", "invalid queue in pool {name=p, core=1, max=1, queue=Unbounded}");
+        wrong("[[pool]]\nname = 'p'\ncore = 'unbounded'\nmax = 1\nqueue = 1", "invalid core in pool {name=p, core=unbounded, max=1, queue=1}");
         wrong("[[pool]]\nname = 'p'\ncore = 1\nmax = 1\nqueue = 0", "invalid queue in pool {name=p, core=1, max=1, queue=0}");
         wrong("[[pool]]\nname = 'p'\ncore = 1\nmax = 1\nqueue = 0\nmay_reject = false",
                 "invalid queue in pool {name=p, core=1, max=1, queue=0, may_reject=false}");

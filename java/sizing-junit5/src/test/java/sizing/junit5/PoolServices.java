@@ -28,29 +28,68 @@ import java.util.function.Supplier;
 final class PoolServices {
     private PoolServices() {}
 
+    /** As Spring makes it. */
     static void springDefaults(ServiceRun run) throws Exception {
+        ExecutorService tasks = run.pool("tasks", new ThreadPoolExecutor(1, Integer.MAX_VALUE, 60, TimeUnit.SECONDS, new LinkedBlockingQueue<>()));
+        run.rounds("request", 20, 5, () -> tasks.submit(task("task", 1)).get());
+    }
+
+    /** The executor that `Sizing.pool` makes. */
+    static void springDefaultsOfThePlan(ServiceRun run) throws Exception {
         ExecutorService tasks = run.pool("tasks");
         run.rounds("request", 20, 5, () -> tasks.submit(task("task", 1)).get());
     }
 
-    static void springDefaultsUnbounded(ServiceRun run) throws Exception {
-        ExecutorService tasks = run.pool("tasks", new ThreadPoolExecutor(1, Integer.MAX_VALUE, 60, TimeUnit.SECONDS, new LinkedBlockingQueue<>()));
+    static void springWithQueueCapacity(ServiceRun run) throws Exception {
+        ExecutorService tasks = run.pool("tasks", new ThreadPoolExecutor(1, Integer.MAX_VALUE, 60, TimeUnit.SECONDS, new LinkedBlockingQueue<>(200)));
+        run.rounds("request", 2, 2, () -> tasks.submit(task("task", 1)).get());
+    }
+
+    static void springWithCoreTimeout(ServiceRun run) throws Exception {
+        ThreadPoolExecutor executor = new ThreadPoolExecutor(1, Integer.MAX_VALUE, 60, TimeUnit.SECONDS, new LinkedBlockingQueue<>());
+        executor.allowCoreThreadTimeOut(true);
+        ExecutorService tasks = run.pool("tasks", executor);
         run.rounds("request", 2, 2, () -> tasks.submit(task("task", 1)).get());
     }
 
     static void fixedThreadPool(ServiceRun run) throws Exception {
-        ExecutorService queries = run.pool("queries");
+        ExecutorService queries = run.pool("queries", (ThreadPoolExecutor) Executors.newFixedThreadPool(16));
         run.rounds("request", 40, 5, () -> queries.submit(task("query", 1)).get());
     }
 
-    static void fixedThreadPoolUnbounded(ServiceRun run) throws Exception {
-        ExecutorService queries = run.pool("queries", (ThreadPoolExecutor) Executors.newFixedThreadPool(16));
+    static void fixedThreadPoolWithABoundedQueue(ServiceRun run) throws Exception {
+        ExecutorService queries = run.pool("queries", new ThreadPoolExecutor(16, 16, 0, TimeUnit.SECONDS, new ArrayBlockingQueue<>(200)));
         run.rounds("request", 40, 5, () -> queries.submit(task("query", 1)).get());
+    }
+
+    static void fixedThreadPoolWithOneThreadMore(ServiceRun run) throws Exception {
+        ExecutorService queries = run.pool("queries", (ThreadPoolExecutor) Executors.newFixedThreadPool(17));
+        run.rounds("request", 2, 2, () -> queries.submit(task("query", 1)).get());
     }
 
     static void fixedThreadPoolWithoutGet(ServiceRun run) throws Exception {
         ExecutorService queries = run.pool("queries");
         run.rounds("request", 2, 2, () -> queries.submit(task("query", 1)));
+    }
+
+    /** Nothing waits for the lines of the log. */
+    static void auditLog(ServiceRun run) throws Exception {
+        ExecutorService web = run.pool("web");
+        ExecutorService audit = label("line", run.pool("audit", (ThreadPoolExecutor) Executors.newFixedThreadPool(1)));
+        run.rounds("request", 20, 5, () -> {
+            web.submit(task("page", 1)).get();
+            audit.execute(() -> work(1));
+        });
+    }
+
+    /** The thread of the log asks for a page itself. */
+    static void auditLogThatWaits(ServiceRun run) throws Exception {
+        ExecutorService web = run.pool("web");
+        ExecutorService audit = run.pool("audit", (ThreadPoolExecutor) Executors.newFixedThreadPool(1));
+        run.rounds("request", 1, 1, () -> {
+            web.submit(task("page", 1)).get();
+            audit.submit(label("line", () -> web.submit(task("page", 1)).get())).get();
+        });
     }
 
     static void cachedPoolReplaced(ServiceRun run) throws Exception {

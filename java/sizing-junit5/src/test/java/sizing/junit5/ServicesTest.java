@@ -63,7 +63,9 @@ class ServicesTest {
         return Stream.of(
                 // pools
                 new Case("spring_defaults", "spring-defaults", PoolServices::springDefaults),
+                new Case("spring_defaults_of_the_plan", "spring-defaults", PoolServices::springDefaultsOfThePlan),
                 new Case("fixed_thread_pool", "fixed-thread-pool", PoolServices::fixedThreadPool),
+                new Case("audit_log", "audit-log", PoolServices::auditLog),
                 new Case("cached_pool_replaced", "cached-pool-replaced", PoolServices::cachedPoolReplaced),
                 new Case("async_joined", "async-joined", PoolServices::asyncJoined),
                 new Case("async_combined", "async-joined", PoolServices::asyncCombined),
@@ -130,10 +132,16 @@ class ServicesTest {
     static Stream<Case> otherUses() {
         return Stream.of(
                 // pools
-                new Case("spring_defaults_unbounded", "spring-defaults", PoolServices::springDefaultsUnbounded,
-                        "pool tasks: queue 1000000000, plan 200"),
-                new Case("fixed_thread_pool_unbounded", "fixed-thread-pool", PoolServices::fixedThreadPoolUnbounded,
-                        "pool queries: queue 1000000000, plan 1000000"),
+                new Case("spring_with_queue_capacity", "spring-defaults", PoolServices::springWithQueueCapacity,
+                        "pool tasks: queue 200, plan unbounded"),
+                new Case("spring_with_core_timeout", "spring-defaults", PoolServices::springWithCoreTimeout,
+                        "pool tasks: core threads may time out"),
+                new Case("fixed_thread_pool_with_a_bounded_queue", "fixed-thread-pool", PoolServices::fixedThreadPoolWithABoundedQueue,
+                        "pool queries: queue 200, plan unbounded"),
+                new Case("fixed_thread_pool_with_one_thread_more", "fixed-thread-pool", PoolServices::fixedThreadPoolWithOneThreadMore,
+                        "pool queries: core 17, plan 16"),
+                new Case("audit_log_that_waits", "audit-log", PoolServices::auditLogThatWaits,
+                        "of class line in pool audit submitted page to pool web; " + NO_SUBMIT + "at its begin"),
                 new Case("fixed_thread_pool_without_get", "fixed-thread-pool", PoolServices::fixedThreadPoolWithoutGet,
                         "round 0 of kind request " + NO_GET),
                 new Case("cached_pool", "cached-pool-replaced", PoolServices::cachedPool,

@@ -14,6 +14,7 @@ import java.nio.file.Path;
 import java.util.List;
 import java.util.Map;
 import java.util.concurrent.ExecutorService;
+import java.util.concurrent.Executors;
 import java.util.concurrent.LinkedBlockingQueue;
 import java.util.concurrent.ThreadPoolExecutor;
 import java.util.concurrent.TimeUnit;
@@ -34,6 +35,7 @@ import org.opentest4j.TestAbortedException;
 class SizingPlanTest {
     private static final String SHOP = Path.of("target", "test-classes", "shop.toml").toString();
     private static final String SMALL_SHOP = Path.of("target", "test-classes", "shop-small.toml").toString();
+    private static final String UNBOUNDED = Path.of("target", "test-classes", "shop-unbounded.toml").toString();
     private static final String SHEDDING = Path.of("target", "test-classes", "shop-shedding.toml").toString();
     private String program;
     private String optional;
@@ -118,6 +120,27 @@ class SizingPlanTest {
         @Test
         void visitors(Sizing sizing) throws Exception {
             sizing.pool("web", new ThreadPoolExecutor(2, 4, 1, TimeUnit.SECONDS, new LinkedBlockingQueue<>(6), new ThreadPoolExecutor.CallerRunsPolicy()));
+        }
+    }
+
+    /** One executor is the service's own, and one has the sizes of the plan. */
+    @SizingPlan("shop-unbounded.toml")
+    static class Fixed {
+        @Test
+        void visitors(Sizing sizing) throws Exception {
+            ThreadPoolExecutor executor = (ThreadPoolExecutor) Executors.newFixedThreadPool(2);
+            ExecutorService web = sizing.pool("web", executor);
+            ExecutorService database = sizing.pool("database");
+            sizing.clients("visitor", 6, 20, () -> assertEquals("rows as a page", visit(web, database)));
+            executor.shutdown();
+        }
+    }
+
+    @SizingPlan("shop-unbounded.toml")
+    static class OtherQueue {
+        @Test
+        void visitors(Sizing sizing) throws Exception {
+            sizing.pool("web", new ThreadPoolExecutor(2, 8, 1, TimeUnit.SECONDS, new LinkedBlockingQueue<>(6)));
         }
     }
 
@@ -233,6 +256,26 @@ class SizingPlanTest {
             assertEquals("the executor is not that of " + SHOP + ":\n  pool web: max 4, plan 2", failureOf(OtherSizes.class));
             assertEquals(1, stub.runs().size());
         }
+    }
+
+    @Test
+    void executorsWithUnboundedQueuesAreThoseOfThePlan() throws Exception {
+        try (StubProgram stub = new StubProgram(0, "SAFE", 0, "conforms")) {
+            assertPasses(Fixed.class, 1);
+            Path recording = Path.of("target", "sizing", Fixed.class.getName() + ".recording");
+            assertEquals(List.of("ask --strict " + UNBOUNDED, "conform " + UNBOUNDED + " " + recording), stub.runs());
+            List<String> pools = Files.readAllLines(recording).stream().filter(line -> line.startsWith("pool ")).toList();
+            assertEquals(List.of("pool web core 2 max 2 queue linked 1000000000 timeout no prestarted 0 handler abort",
+                    "pool database core 1 max 1 queue linked 1000000000 timeout no prestarted 0 handler abort"), pools);
+            assertEquals("the executor is not that of " + UNBOUNDED + ":\n  pool web: queue 6, plan unbounded", failureOf(OtherQueue.class));
+        }
+    }
+
+    @Test
+    void theProgramItselfKnowsUnboundedQueues() {
+        System.setProperty("sizing.optional", "true");
+        SizingAssertions.assertSafe(Path.of(UNBOUNDED));
+        assertPasses(Fixed.class, 1);
     }
 
     @Test

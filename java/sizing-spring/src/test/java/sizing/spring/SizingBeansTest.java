@@ -222,6 +222,59 @@ class SizingBeansTest {
         assertConforms(PERMITS, recording);
     }
 
+    /** A bean with Spring's own sizes, or with a queue that has a capacity. */
+    static class Defaults {
+        static Path plan;
+        static Recorder recorder;
+        static int queue;
+
+        @Bean
+        static SizingBeans sizing() {
+            return new SizingBeans(plan, recorder);
+        }
+
+        @Bean
+        ThreadPoolTaskExecutor tasks() {
+            ThreadPoolTaskExecutor tasks = new ThreadPoolTaskExecutor();
+            if (queue > 0) {
+                tasks.setQueueCapacity(queue);
+            }
+            return tasks;
+        }
+    }
+
+    @Test
+    void theDefaultsOfSpringAreAPoolWithAnUnboundedQueue() throws Exception {
+        Path recording = Files.createDirectories(Path.of("target", "sizing")).resolve("defaults.recording");
+        Defaults.plan = Files.writeString(Path.of("target", "sizing", "defaults.toml"), """
+                pool = [{name = "tasks", core = 1, max = "unbounded", queue = "unbounded"}]
+                class = [{name = "task", pool = "tasks", body = []}]
+                client = [{name = "request", count = 1, repeat = true, body = ["submit task as t", "get t"]}]
+                """);
+        Defaults.recorder = Recorder.toFile(recording);
+        Defaults.queue = 0;
+        AnnotationConfigApplicationContext context = new AnnotationConfigApplicationContext(Defaults.class);
+        ThreadPoolTaskExecutor tasks = context.getBean(ThreadPoolTaskExecutor.class);
+        for (int at = 0; at < 20; at++) {
+            try (Recorder.Round round = Defaults.recorder.round("request")) {
+                assertEquals(at, tasks.submit(Recorder.label("task", Integer.valueOf(at)::intValue)).get());
+            }
+        }
+        context.close();
+        assertTrue(Files.readAllLines(recording).contains("pool tasks core 1 max 1000000000 queue linked 1000000000 timeout no prestarted 0 handler abort"));
+        assertConforms(Defaults.plan, recording);
+    }
+
+    @Test
+    void aQueueWithACapacityIsNoUnboundedQueue() throws Exception {
+        Defaults.plan = Files.writeString(Files.createTempFile("sizing", ".toml"), "pool = [{name = 'tasks', core = 1, max = 1, queue = 'unbounded'}]");
+        Defaults.recorder = null;
+        Defaults.queue = 200;
+        PlanMismatchException thrown = assertThrows(PlanMismatchException.class, () -> new AnnotationConfigApplicationContext(Defaults.class));
+        assertEquals(List.of("pool tasks: queue 200, plan unbounded"), thrown.lines());
+        Files.delete(Defaults.plan);
+    }
+
     /** A bean of the JDK's class. */
     static class Plain {
         static Recorder recorder;
