@@ -60,7 +60,7 @@ no_events_added lines old = record { more = []; after = sym (append-nil old); so
 pub event_left : (lines : List RecordedLine) (without : Bool) (old : List Finding) (one : Invalidation) → is_counted without one ≡ false → Adds old (AreInvalidationsOf lines (filter (is_counted without) (one ∷ []))) old
 event_left lines without old one uncounted = subst (λ (xs : List Invalidation). Adds old (AreInvalidationsOf lines xs) old) (sym (left_by (is_counted without one) one uncounted)) (no_events_added lines old)
 
--- The findings of all events that count.
+-- The findings of the filtered events and of the first refusal are those of all events of `counted_with`.
 pub events_counted : (lines : List RecordedLine) (refusals : Option Rejections) (old mid new : List Finding) (without : Bool) (all : List Invalidation) (first : Option Invalidation) → without ≡ is_some refusals → all ≡ invalidations_of lines → first ≡ first_refusal_in refusals
     → Adds old (AreInvalidationsOf lines (filter (is_counted without) all)) mid → Adds mid (AreInvalidationsOf lines (option_to_list first)) new → Adds old (AreInvalidationsOf lines (counted_with refusals lines)) new
 events_counted lines refusals old mid new without all first e1 e2 e3 a b =

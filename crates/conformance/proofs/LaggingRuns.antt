@@ -77,7 +77,7 @@ Grows s s' = length s'.machine.jobs ≡ suc (length s.machine.jobs)
 no_growth : (n : ℕ) → n ≡ suc n → ⊥
 no_growth n e = omega (arith, e)
 
--- The state after the third step finds max threads.
+-- The state after a third step that finds max threads.
 abbrev declined : Plan → Parent → ℕ → ℕ → JavaState → Bool → JavaState
 declined plan a i k s may = let x : State × Outcome = cond may (skipped s.machine a i k, outcome.Rejected (pool_of plan k) (length s.machine.jobs)) (record s.machine { refusals = s.machine.refusals + 1 }, outcome.Refused (pool_of plan k)) in ends_with s a x.0
 
@@ -129,7 +129,7 @@ may_get_from actor_kind.Job body m q class le has = record { get = has.get; subm
 may_get_from actor_kind.Round body m q class le has = has
 
 module _ (plan : Plan) (cert : Cert) (a : Parent) (body : List Action) (is_ordered : HasValidBodies plan) (laws : CertLaws plan cert) where
-  -- The relation after the pool takes or rejects the job.
+  -- `Lags` still holds after the pool takes or rejects the job.
   taken_lags : (jobs : List MachineJob) (p q k : ℕ) (s s' : JavaState) → Lags plan cert a body jobs q q s → slice_get body q ≡ Some (action.Submit k) → choice_step plan s (Acts (event_of_actor a)) ≡ Some s' → IsTaken a q k s s'
       → IsWithin (map as_open (jobs ++ record { job = p; class = k; number = length s.machine.jobs } ∷ [])) body (suc q)
       → Lags plan cert a body (jobs ++ record { job = p; class = k; number = length s.machine.jobs } ∷ []) (suc q) (suc q) s' × IsQuiet a s'

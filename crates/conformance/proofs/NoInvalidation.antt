@@ -21,7 +21,7 @@ use Rattle.conformance.specs.Rejections.{AreRejectionsOf}
 use Rattle.conformance.proofs.Among.{here, later, head_or_later, is_among_none, stays}
 use Rattle.conformance.proofs.LineByLine.{nothing_first, nothing_last}
 
--- The line invalidates a SAFE answer, and it is no refusal if refusals do not count.
+-- The line invalidates a SAFE answer. If `without` is true, it is also not a refusal.
 abbrev counts : Bool → RecordedLine → Bool
 counts without (Refused actor job) = not without
 counts without line = invalidates line
@@ -185,7 +185,7 @@ by_plan false plan lines none = λ before after line is h.
 pub not_invalidation : (plan : Plan) (lines : List RecordedLine) → counted_invalidations plan lines ≡ [] → HasNoInvalidation plan lines
 not_invalidation plan lines none = by_plan (has_rejecting_pool plan) plan lines none
 
--- The events that are found are those that count.
+-- With the rejections of the recording, the events of `counted_with` are those of `counted_invalidations`.
 pub counted_is : (plan : Plan) (lines : List RecordedLine) (rejections : Option Rejections) → AreRejectionsOf plan lines rejections → counted_with rejections lines ≡ counted_invalidations plan lines
 counted_is plan lines None are = ap (λ (b : Bool). filter (is_counted b) (invalidations_of lines) ++ (if b then option_to_list (first_refusal plan lines) else [])) (sym are)
 counted_is plan lines (Some rejections) are =

@@ -1,4 +1,4 @@
--- What a recording says of its refusals, after one more line.
+-- The facts about the refusals of a recording, after one more line.
 use Rattle.std.proofs.Common.{◌≡◌, ◌+◌, ℕ, ◌==◌, ◌||◌, Bool, true, false, if◌then◌else◌, List, [], ◌∷◌, ◌++◌, length, is_some, Option, Some, None, slice_get, refl, ap, sym, ◌∙◌, append-nil}
 use Rattle.std.specs.List.{list_any, filter_map}
 use Rattle.std.specs.Option.{option_map, option_and_then, option_to_list}
@@ -226,7 +226,7 @@ flattened plan lines job stored is = ap flat is ∙ flat_map_is (pool_named plan
 pub own_refusal : (actor : RecordedActor) (job : ℕ) → refuses_job job (Refused actor job) ≡ true
 own_refusal actor job = eq-eqb job job refl
 
--- A line that is neither of the two does not count.
+-- A line other than `refused` and `shutdown` refuses no job and shuts no pool down.
 pub is_other : (line : Line) → ((actor : RecordedActor) (job : ℕ) → line ≡ code.Refused actor job → ⊥) → ((pool : _) → line ≡ code.ShutDown pool → ⊥) → (refuses_none (line_view line) ≡ true) × ((name : List ℕ) → shuts name (line_view line) ≡ false)
 is_other (code.Refused actor job) not_refused not_shut = absurd (not_refused actor job refl)
 is_other (code.ShutDown pool) not_refused not_shut = absurd (not_shut pool refl)

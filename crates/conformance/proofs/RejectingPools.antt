@@ -1,4 +1,4 @@
--- Plans whose pools differ only in the key `may_reject`.
+-- Plans that differ only in the key `may_reject` of their pools.
 use Rattle.std.proofs.Common.{◌≡◌, ℕ, ◌+◌, Bool, true, cond, eqb, ◌&&◌, ◌||◌, List, [], ◌∷◌, ◌++◌, length, map, refl, ap, ap₂, sym, ◌∙◌, arith}
 use Rattle.std.specs.Prelude.{nat_lt}
 use Rattle.std.specs.List.{list_all, enumerate_from}

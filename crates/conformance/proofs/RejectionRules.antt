@@ -40,7 +40,7 @@ allowed_is by by' acted acted' started started' closed e1 e2 e3 =
     ap (λ (r : RejectionRule). is_allowed_by r acted started closed) e1 ∙ ap (λ (a : Bool). is_allowed_by by' a started closed) e2 ∙ ap (λ (s : Bool). is_allowed_by by' acted' s closed) e3
 
 -- ---- the rules of all pools
--- The list has the rules of the first pools.
+-- The list has the rules of the first `count` pools.
 pub record AreFirstRules (plan : Plan) (lines : List RecordedLine) (count : ℕ) (rules : List RejectionRule) : Type 0 where
   pub long : length rules ≡ count
   pub rules_so : (pool : ℕ) → pool < count → get_or rules pool rule.Never ≡ rule_of plan lines pool

@@ -1,4 +1,4 @@
--- The pool takes the job of a submit that an actor has reached, or rejects it if it may, within three events of the actor.
+-- Within three events of an actor that has reached a submit, the pool takes the job or rejects it.
 use Rattle.std.proofs.Common.{◌≡◌, ℕ, suc, ◌+◌, inl, inr, Bool, true, false, cond, ltb, eqb, ◌&&◌, ◌||◌, not, List, [], ◌∷◌, ◌++◌, length, slice_get, Some, refl, sym, ap, ap₂, subst, ◌∙◌, arith}
 use Rattle.std.proofs.lemmas.Bool.{and_from, eq-eqb, false_from_ne_true}
 use Rattle.std.proofs.lemmas.List.{length_push}
@@ -102,12 +102,12 @@ module _ (plan : Plan) (cert : Cert) (a : Parent) (body : List Action) (q k : �
       let long = length-moved s.machine a (q + 1) in
       omega (arith, grown, long)
 
-  -- The state after the third step finds max threads.
+  -- The state after a third step that finds max threads.
   abbrev declined : JavaState → Bool → JavaState
   declined s may = let x : State × Outcome = cond may (skipped s.machine a q k, outcome.Rejected (pool_of plan k) (length s.machine.jobs)) (record s.machine { refusals = s.machine.refusals + 1 }, outcome.Refused (pool_of plan k)) in ends_with s a x.0
 
-  -- The third step finds max threads. If the pool may not reject the job, this is not possible, because the state after a refusal is
-  -- not safe.
+  -- The third step finds max threads. The pool then may reject the job: otherwise the step refuses it, and the state after a refusal is not
+  -- safe.
   decline : (later : JavaState → Type 0) (s : JavaState) → IsAtSubmit s → (may : Bool) → choice_step plan s (Acts (event_of_actor a)) ≡ Some (declined s may) → NextOfSubmit plan a s later
   decline later s at true stepped = record { next = declined s true; is_next = stepped; onward = inl (one_more_job s Stage.Done) }
   decline later s at false stepped =

@@ -20,7 +20,7 @@ plan_of may_reject body = record {
   clients = record { name = 99 ∷ []; count = 1; repeat = true; body = body } ∷ [];
 }
 
--- The plan, in which the queue of each pool is unbounded.
+-- The same plan with unbounded queues.
 abbrev without_bounds : Plan → Plan
 without_bounds plan = record plan { pools = map (λ (pool : plans.Pool). record pool { unbounded = true }) plan.pools }
 
@@ -95,7 +95,7 @@ pub discards_oldest : rejected (plan_of true submits) (refusal DiscardOldest (Jo
 unfolding is_got has_handler is_shut has_acted submit_pool rule_for pools_in has_started
 discards_oldest = refl
 
--- The plan gets the job.
+-- A body of the plan gets the job, which the handler dropped.
 pub discards_and_gets : rejected (plan_of true submits_and_gets) (refusal Discard []) ≡ []
 unfolding is_got has_handler is_shut has_acted submit_pool rule_for pools_in has_started
 discards_and_gets = refl

@@ -26,7 +26,7 @@ any_max = refl
 pub bounded_in_the_recording : differences true (recorded 2 Linked 50) (planned 2 true) ≡ BoundedQueue 50 ∷ []
 bounded_in_the_recording = refl
 
--- The largest queue of a plan is not unbounded.
+-- A recorded queue of 1,000,000, the largest bounded queue of a plan, is not unbounded.
 pub largest_in_the_recording : differences true (recorded 2 Linked 1000000) (planned 2 true) ≡ BoundedQueue 1000000 ∷ []
 largest_in_the_recording = refl
 

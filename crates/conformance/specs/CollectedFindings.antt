@@ -59,17 +59,17 @@ abbrev pub is_refusal : InvalidatingEvent → Bool
 is_refusal (event.Refused actor job) = true
 is_refusal event = false
 
--- The event invalidates the result even if the actor's path matches a body, and it is no refusal if refusals do not count.
+-- The event invalidates the result even if the actor's path matches a body. If `without_refusals` is true, it is also not a refusal.
 abbrev pub is_counted : Bool → Invalidation → Bool
 is_counted without_refusals invalidation = not (without_refusals && is_refusal invalidation.event) && is_path_independent_event invalidation.event
 
--- The first refusal that is no allowed rejection, if some pool of the plan may reject jobs.
+-- The first refusal that the plan does not allow, if some pool of the plan may reject jobs.
 abbrev pub first_refusal_in : Option Rejections → Option Invalidation
 first_refusal_in None = None
 first_refusal_in (Some rejections) = rejections.first_refusal
 
 -- The first event of each type that invalidates the result even if the actor's path matches a body. If some pool of the plan may reject
--- jobs, the rejections that the plan allows do not count, and the first other refusal comes last.
+-- jobs, the list has no rejection that the plan allows, and the first other refusal is its last element.
 abbrev pub counted_with : Option Rejections → List RecordedLine → List Invalidation
 counted_with rejections lines = filter (is_counted (is_some rejections)) (invalidations_of lines) ++ option_to_list (first_refusal_in rejections)
 

@@ -63,6 +63,7 @@ invalidates (JobThrew job) = true
 invalidates (Unseen pool jobs) = true
 invalidates line = false
 
--- Each line that invalidates a SAFE answer is a rejection that the plan allows. Without a pool that may reject jobs there are none.
+-- Each line that invalidates a SAFE answer is a rejection that the plan allows. If no pool of the plan may reject jobs, there is no such
+-- line.
 abbrev pub HasNoInvalidation : Plan → List RecordedLine → Type 0
 HasNoInvalidation plan lines = (before after : List RecordedLine) (line : RecordedLine) → before ++ line ∷ after ≡ lines → invalidates line ≡ true → is_allowed_rejection plan lines before line ≡ true

@@ -43,8 +43,8 @@ is_not_decided (finding.Pool deviation) = false
 is_not_decided (finding.ForeignGet get label job) = false
 is_not_decided (finding.Invalidation invalidation label) = false
 
--- The first event of each type that invalidates a SAFE answer, whatever the paths are. If some pool of the plan may reject jobs, the
--- rejections that the plan allows do not count, and the first other refusal comes last.
+-- The first event of each type that invalidates a SAFE answer, whatever the paths are. If some pool of the plan may reject jobs, the list
+-- has no rejection that the plan allows, and the first other refusal is its last element.
 abbrev pub counted_invalidations : Plan → List RecordedLine → List Invalidation
 counted_invalidations plan lines = filter (is_counted (has_rejecting_pool plan)) (invalidations_of lines) ++ (if has_rejecting_pool plan then option_to_list (first_refusal plan lines) else [])
 

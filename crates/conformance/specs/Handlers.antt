@@ -9,7 +9,8 @@ use Rattle.conformance.specs.declared.rejection_rule.RejectionRule.TheVariants.{
 use Rattle.conformance.specs.PoolComparison.{has_name}
 use Rattle.conformance.specs.RejectionRule.{is_abort, is_caller_runs, is_discard, has_other_handler, shuts, rule_of}
 
--- The state has the pools with a handler of another kind, and those that are shut down.
+-- For each of the handlers `abort`, `caller_runs` and `discard`, the state has the pools with another handler in some line. It also has the
+-- pools that are shut down.
 pub record AreHandlersOf (lines : List RecordedLine) (handlers : Handlers) : Type 0 where
   pub not_abort : (pool : List ℕ) → has_name handlers.not_abort pool ≡ list_any (has_other_handler is_abort pool) lines
   pub not_caller_runs : (pool : List ℕ) → has_name handlers.not_caller_runs pool ≡ list_any (has_other_handler is_caller_runs pool) lines

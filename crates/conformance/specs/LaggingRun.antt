@@ -95,8 +95,8 @@ pub record CanReach (plan : Plan) (actor : Parent) (body : List Action) (jobs : 
   pub after : JavaState
   pub passes : Passes plan actor body jobs position s index after
 
--- The actor submits one job, which gets this number. A submit is one or more events of the actor. Only the last of them changes
--- the machine: the pool takes the job, or rejects it if it may, and the job is then done at once. Others may act in between.
+-- The actor submits one job, which gets this number. A submit is one or more events of the actor, and others may act between them. Of the
+-- actor's events only the last one changes the machine: the pool takes the job or rejects it. A rejected job is done at once.
 pub data IsSubmitted (plan : Plan) (actor : Parent) : JavaState → ℕ → JavaState → Type 0 where
   others_act : {s next s' : JavaState} {number : ℕ} (x : Choice) → is_choice_of actor x ≡ false
       → choice_step plan s x ≡ Some next
@@ -110,22 +110,22 @@ pub data IsSubmitted (plan : Plan) (actor : Parent) : JavaState → ℕ → Java
       → length s'.machine.jobs ≡ suc (length s.machine.jobs)
       → IsSubmitted plan actor s (length s.machine.jobs) s'
 
--- The actor's next event is possible. Either the pool takes a job with it, or rejects it if it may, or the machine does not change and
--- `later` holds then.
+-- The actor's next event is possible. After it, either there is one more job, which the pool took or rejected, or the machine is unchanged
+-- and `later` holds.
 pub record NextOfSubmit (plan : Plan) (actor : Parent) (s : JavaState) (later : JavaState → Type 0) : Type 0 where
   pub next : JavaState
   pub is_next : choice_step plan s (Acts (event_of_actor actor)) ≡ Some next
   pub onward : (length next.machine.jobs ≡ suc (length s.machine.jobs)) ⊎ ((next.machine ≡ s.machine) × later next)
 
--- The pool takes the job that the actor submits, or rejects it if it may, with one of the next events of the actor, of which there
--- are at most this many. Each of them is possible, whatever others do before it.
+-- The pool takes or rejects the actor's job at one of the actor's next events, of which there are at most this many. Each of these events
+-- is possible, whatever others do before it.
 abbrev pub IsTakenWithin : ℕ → Plan → Parent → JavaState → Type 0
 IsTakenWithin zero plan actor s = ⊥
 IsTakenWithin (suc more) plan actor s = (s' : JavaState) → OthersAct plan actor s s' → NextOfSubmit plan actor s' (IsTakenWithin more plan actor)
 
 -- ---- steps of the path
--- The path submits a job: the actor can reach a submit of a class of this job. The pool takes the job, or rejects it if it may,
--- within three events of the actor. A rejected job is done at once. After that, `next` holds.
+-- The path submits a job: the actor can reach a submit of a class of this job. The pool takes or rejects the job within three events of the
+-- actor. A rejected job is done at once. After that, `next` holds.
 pub record CanSubmit (plan : Plan) (actor : Parent) (body : List Action) (jobs : List MachineJob) (one : PathStep) (s : JavaState) (next : ℕ → ℕ → JavaState → Type 0) : Type 0 where
   pub index : ℕ
   pub class : ℕ

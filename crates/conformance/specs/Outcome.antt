@@ -18,7 +18,7 @@ abbrev pub IfCompared : Conformance → (List Finding → Type 0) → Type 0
 IfCompared (Invalid fault) P = ⊤
 IfCompared (Compared findings rejections) P = P findings.items
 
--- `P` holds of the numbers of rejections, unless a line is invalid.
+-- `P` holds for the numbers of rejections, unless a line is invalid.
 abbrev pub IfCounted : Conformance → (List PoolRejections → Type 0) → Type 0
 IfCounted (Invalid fault) P = ⊤
 IfCounted (Compared findings rejections) P = P rejections.items

@@ -1,4 +1,4 @@
--- What a whole recording says of its refusals.
+-- The facts about the refusals of a whole recording.
 use Rattle.std.specs.Prelude.{◌≡◌, ℕ, List, slice_index_or}
 use Rattle.job_bodies.specs.Plan.{Plan}
 use Rattle.recordings.specs.LineSteps.{is_refused}

@@ -1,4 +1,4 @@
--- What a recording says of its refused jobs, as a function of the lines read.
+-- The facts about the refused jobs of a recording, as a function of the lines read.
 use Rattle.std.specs.Prelude.{◌≡◌, ℕ, ◌==◌, Bool, true, if◌then◌else◌, List, Option, Some, None}
 use Rattle.std.specs.Option.{option_map}
 use Rattle.support.specs.Numbered.{value_at}

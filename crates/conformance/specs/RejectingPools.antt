@@ -7,7 +7,8 @@ use Rattle.recordings.specs.RecordingLine.{RecordedLine}
 use Rattle.conformance.specs.RejectionRule.{pools_in, refusing_pools_in}
 
 -- ---- the plan in which every pool may reject jobs
--- The pool with this value of its key. A pool with a queue of 0 keeps the key, because no other pool has such a queue.
+-- The pool with this value of the key `may_reject`. A pool with a queue of 0 always has the key, because only a pool with the key may have
+-- such a queue.
 abbrev pub with_key : Bool → plans.Pool → plans.Pool
 with_key key pool = record pool { may_reject = key || pool.queue == 0 }
 
@@ -18,11 +19,11 @@ with_all_keys plan = record plan { pools = map (with_key true) plan.pools }
 abbrev pub is_among : ℕ → List ℕ → Bool
 is_among pool pools = list_any (λ one. one == pool) pools
 
--- One of the rejections is by the pool, and none of the other refusals.
+-- At least one of the rejections is by the pool, and none of the other refusals is.
 abbrev pub only_rejects_by : List ℕ → List ℕ → ℕ → Bool
 only_rejects_by rejecting refusing pool = is_among pool rejecting && not (is_among pool refusing)
 
--- The recording shows a refusal by the pool, and each of its refusals is a rejection that the plan allows if every pool may reject jobs.
+-- The pool refuses a job in the recording, and `with_all_keys plan` allows each refusal by the pool.
 abbrev pub only_rejects : Plan → List RecordedLine → ℕ → Bool
 only_rejects plan lines pool = let all = with_all_keys plan in
     only_rejects_by (pools_in all lines lines) (refusing_pools_in all lines lines) pool
@@ -31,6 +32,6 @@ only_rejects plan lines pool = let all = with_all_keys plan in
 abbrev pub with_keys : (ℕ → Bool) → List plans.Pool → List plans.Pool
 with_keys rejects pools = map (λ (number, pool). with_key (rejects number) pool) (enumerate_from 0 pools)
 
--- The plan, in which a pool may reject jobs exactly if it only rejects jobs in the recording, or has a queue of 0.
+-- The plan in which a pool may reject jobs exactly if `only_rejects` holds for it, or its queue is 0.
 abbrev pub with_rejecting_pools : Plan → List RecordedLine → Plan
 with_rejecting_pools plan lines = record plan { pools = with_keys (only_rejects plan lines) plan.pools }

@@ -1,4 +1,4 @@
--- The rejections that a plan allows, and the other refusals, by the lines of a recording.
+-- The rejections that a plan allows, and the other refusals, in a recording.
 use Rattle.std.specs.Prelude.{ℕ, ◌+◌, ◌==◌, ◌&&◌, ◌||◌, not, Bool, true, false, if◌then◌else◌, List, length, count_by, is_some, Option, Some, None}
 use Rattle.std.specs.List.{list_any, filter_map, slice_get}
 use Rattle.std.specs.Option.{option_and_then}
@@ -64,7 +64,7 @@ is_discard handler.Discard = true
 is_discard handler.DiscardOldest = false
 is_discard handler.Other = false
 
--- The line is a `pool` line of the pool whose handler is not of this kind.
+-- The line is a `pool` line of the pool, and its handler is not of this kind.
 abbrev pub has_other_handler : (HandlerKind → Bool) → List ℕ → RecordedLine → Bool
 has_other_handler is_kind name (Pool one sizes) = bytes_eq one name && not (is_kind sizes.handler)
 has_other_handler is_kind name line = false
@@ -102,7 +102,7 @@ abbrev pub is_job : ℕ → Option ℕ → Bool
 is_job job None = false
 is_job job (Some one) = one == job
 
--- The line is one of the job as an actor, other than its end.
+-- In this line the job submits, gets or cancels a job, or calls `invokeAny`.
 abbrev pub acts : ℕ → RecordedLine → Bool
 acts job line = is_job job (acting_job line)
 
@@ -122,9 +122,9 @@ submit_pool lines job = slice_get (filter_map (pool_by job) lines) 0
 abbrev pub rule_by : Bool → Bool → Bool → Bool → RejectionRule
 rule_by aborts caller_runs closes drops = if aborts then rule.Always else (if caller_runs then rule.IfCallerRuns closes else (if drops then rule.Always else rule.Never))
 
--- When a refusal by the pool invalidates nothing, if the pool may reject jobs: always, if the handler is `abort`, or if it drops jobs
--- and no body of the plan gets a job of the pool; and if the handler is `caller_runs`, for a job that the caller ran and that was only
--- work.
+-- The rule for a pool that may reject jobs. Each refusal is allowed if the handler is `abort`, or if the handler is `discard` and no body
+-- of the plan gets a job of the pool. If the handler is `caller_runs`, it depends on the job. With any other handler, no refusal is
+-- allowed.
 unfoldable pub rule_for : Plan → List RecordedLine → ℕ → RejectionRule
 rule_for plan lines pool =
     let name = (pool_at plan pool).name in
@@ -134,13 +134,13 @@ rule_for plan lines pool =
 abbrev pub can_reject : plans.Pool → Bool
 can_reject pool = pool.may_reject && not pool.unbounded
 
--- The rule for a pool of the plan: a pool that must not reject jobs allows none, and neither does one whose queue is unbounded.
+-- The rule for a pool of the plan. No refusal is allowed if the pool must not reject jobs or has an unbounded queue.
 abbrev pub rule_of : Plan → List RecordedLine → ℕ → RejectionRule
 rule_of plan lines pool = if can_reject (pool_at plan pool) then rule_for plan lines pool else rule.Never
 
--- The rule allows the rejection of the job, which `before` precedes. With `caller_runs`, the job must have no line as an actor other than
--- its end. If the recording has a `shutdown` of the pool, the handler may have dropped the job: then the job must have a `start` line, and
--- no `shutdown` of the pool may precede the refusal.
+-- The rule allows the rejection of a job. With `caller_runs`, the job must submit, get and cancel no job and must not call `invokeAny`. If
+-- the recording also has a `shutdown` of the pool, the handler may have dropped the job: then the job must have a `start` line, and no
+-- `shutdown` of the pool may precede the refusal.
 abbrev pub is_allowed_by : RejectionRule → Bool → Bool → Bool → Bool
 is_allowed_by rule.Never acted started closed = false
 is_allowed_by rule.Always acted started closed = true
@@ -154,7 +154,7 @@ is_allowed_at plan lines before job by pool = is_allowed_by by (has_acted lines 
 abbrev pub pool_of_job : Plan → List RecordedLine → ℕ → Option ℕ
 pool_of_job plan lines job = option_and_then (pool_named plan) (submit_pool lines job)
 
--- The pool, if it allows the rejection of the job, which `before` precedes.
+-- The pool, if its rule allows the rejection of the job. The lines `before` precede the rejection.
 abbrev pub pool_if_allowed : Plan → List RecordedLine → List RecordedLine → ℕ → Option ℕ → Option ℕ
 pool_if_allowed plan lines before job None = None
 pool_if_allowed plan lines before job (Some pool) = if is_allowed_at plan lines before job (rule_of plan lines pool) pool then Some pool else None
@@ -168,7 +168,7 @@ abbrev pub pool_of_rejection : Plan → List RecordedLine → List RecordedLine 
 pool_of_rejection plan lines before (Refused actor job) = rejecting_pool plan lines before job
 pool_of_rejection plan lines before line = None
 
--- The pool of a refused job, if no pool rejected the job as the plan allows.
+-- The pool of a refused job. None if a pool rejected the job as the plan allows.
 abbrev pub unless_rejected : Option ℕ → Option ℕ → Option ℕ
 unless_rejected (Some rejecting) pool = None
 unless_rejected None pool = pool
@@ -183,28 +183,27 @@ abbrev pub is_allowed_rejection : Plan → List RecordedLine → List RecordedLi
 is_allowed_rejection plan lines before line = is_some (pool_of_rejection plan lines before line)
 
 -- ---- all lines
--- The pools of the allowed rejections, in the order of their lines. Only the rejections in `read`, the first lines of the recording,
--- count.
+-- The pools of the allowed rejections in `read`, the first lines of the recording, in the order of these lines.
 unfoldable pub pools_in : Plan → List RecordedLine → List RecordedLine → List ℕ
 pools_in plan lines read = filter_map (λ (before, line). pool_of_rejection plan lines before line) (with_lines_before read)
 
--- The pools of the refusals that the plan does not allow, in the order of their lines.
+-- The pools of the refusals in `read` that the plan does not allow, in the order of these lines.
 unfoldable pub refusing_pools_in : Plan → List RecordedLine → List RecordedLine → List ℕ
 refusing_pools_in plan lines read = filter_map (λ (before, line). pool_of_refusal plan lines before line) (with_lines_before read)
 
 abbrev pub refusal_unless : Bool → Invalidation → Option Invalidation
 refusal_unless allowed refusal = if allowed then None else Some refusal
 
--- The refusal in this line, if it is no allowed rejection.
+-- The refusal in this line, if the plan does not allow it.
 abbrev pub refusal_by : Plan → List RecordedLine → List RecordedLine → RecordedLine → Option Invalidation
 refusal_by plan lines before (Refused actor job) = refusal_unless (is_some (rejecting_pool plan lines before job)) (record { line = length before + 1; event = event.Refused actor job })
 refusal_by plan lines before line = None
 
--- The refusals that are no allowed rejections.
+-- The refusals that the plan does not allow.
 unfoldable pub refusals_in : Plan → List RecordedLine → List RecordedLine → List Invalidation
 refusals_in plan lines read = filter_map (λ (before, line). refusal_by plan lines before line) (with_lines_before read)
 
--- The first refusal that is no allowed rejection.
+-- The first refusal that the plan does not allow.
 abbrev pub first_refusal : Plan → List RecordedLine → Option Invalidation
 first_refusal plan lines = slice_get (refusals_in plan lines lines) 0
 

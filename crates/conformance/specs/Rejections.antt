@@ -28,8 +28,8 @@ AreRejectionsOf plan lines None = has_rejecting_pool plan ≡ false
 AreRejectionsOf plan lines (Some rejections) = (has_rejecting_pool plan ≡ true) × AreRejectionsSoFar plan lines lines rejections
 
 -- ---- one refusal
--- The line refuses the job: the pool of the plan that rejects it is appended to the pools of the rejections. If there is none, the pool of
--- the job is appended to the pools of the other refusals.
+-- The line refuses a job. If a pool of the plan rejects it as the plan allows, this pool is appended to the pools of the rejections.
+-- Otherwise the pool of the job is appended to the pools of the other refusals.
 abbrev pub pools_after : Option ℕ → List ℕ → List ℕ
 pools_after pool pools = pools ++ option_to_list pool
 
@@ -52,10 +52,10 @@ only_rejected_by rejections = only_rejects_by rejections.pools.items rejections.
 abbrev pub count_if : List ℕ → ℕ × plans.Pool → Option PoolRejections
 count_if pools (number, pool) = if pool.may_reject then Some (record { pool = number; count = count_by (λ one. one == number) pools }) else None
 
--- The number of rejections of each pool that may reject jobs, in the order of the plan.
+-- The number of rejections of each pool that may reject jobs, in the order of the plan. `pools` has the pools of the rejections.
 abbrev pub counts_by : Plan → List ℕ → List PoolRejections
 counts_by plan pools = filter_map (count_if pools) (enumerate_from 0 plan.pools)
 
--- The same, for a recording.
+-- The number of rejections of each pool that may reject jobs, in a recording.
 abbrev pub rejections_of : Plan → List RecordedLine → List PoolRejections
 rejections_of plan lines = counts_by plan (pools_in plan lines lines)

@@ -264,8 +264,8 @@ fn push_invalidations(
     push_refusal(findings, alloc, recording, first_refusal_in(refusals))
 }
 
-/// Returns the first refusal that is no allowed rejection, if some pool of the plan may reject
-/// jobs.
+/// Returns the first refusal that the plan does not allow. Returns `None` if there is none, or if
+/// no pool of the plan may reject jobs.
 fn first_refusal_in(refusals: &Option<Rejections>) -> Option<Invalidation>
     ensures { result ≡ spec.first_refusal_in refusals.now }
 {
@@ -384,8 +384,8 @@ fn subject_of(
     }
 }
 
-/// Returns true if the event invalidates a SAFE answer even if the actor's path matches a body, and
-/// it is no refusal if `without_refusals` is true.
+/// Returns true if the event invalidates a SAFE answer even if the actor's path matches a body. If
+/// `without_refusals` is true, returns false for a refusal.
 fn is_counted(without_refusals: bool, invalidation: Invalidation) -> bool
     ensures { result ≡ spec.is_counted without_refusals invalidation }
 {

@@ -57,20 +57,20 @@ pub enum Conformance {
 ///   round counts as the first kind that it can belong to. A round whose kind is undecided counts
 ///   in no kind;
 /// - the first get of a job by an actor other than its submitter, before the submitter got the job;
-/// - for each event type that invalidates a SAFE answer, whatever the paths are, its first line.
-///   A rejection that the plan allows does not count.
+/// - for each event type that invalidates a SAFE answer, whatever the paths are, its first line. A
+///   rejection that the plan allows does not count.
 ///
-/// A `refused` line is a rejection that the plan allows if the pool may reject jobs and has a
-/// bounded queue, and in each `pool` line of the pool, its handler
+/// A `refused` line is a rejection that the plan allows if the pool of the job may reject jobs and
+/// has a bounded queue, and one of these holds:
 ///
-/// - is `abort`;
-/// - is `caller_runs`, and no line has the job as an actor, other than its end. If the recording
-///   has a `shutdown` of the pool, the job must also have a `start` line, and no `shutdown` of the
-///   pool may precede the `refused` line;
-/// - or is `discard`, and no body of the plan gets a job of the pool.
+/// - In each `pool` line of the pool, the handler is `abort`.
+/// - In each of these lines it is `caller_runs`, and the job submits, gets and cancels no job and
+///   does not call `invokeAny`. If the recording has a `shutdown` of the pool, the job must also
+///   have a `start` line, and no `shutdown` of the pool may precede the `refused` line.
+/// - In each of these lines it is `discard`, and no body of the plan gets a job of the pool.
 ///
-/// If no finding concerns a label, a path or a number of rounds, all jobs and rounds behave as
-/// planned, whatever the pools are.
+/// If no finding is about a label, a path or a number of rounds, all jobs and rounds behave as
+/// planned. The other findings do not matter for this.
 ///
 /// A get that timed out or was interrupted is not a finding. If the actor's path without that get
 /// matches a body, the get invalidates nothing. Otherwise the path is a mismatch like any other.

@@ -21,15 +21,16 @@ pub fn rounds_are_within_plan()
     ensures within { RoundsAreWithinPlan }
 {}
 
-/// Proves that the plan allows only rejections by pools that may reject jobs. If no pool of the plan
-/// may reject jobs, every line that invalidates a SAFE answer counts.
+/// Proves that the plan allows only rejections by pools that may reject jobs. If no pool of the
+/// plan may reject jobs, the plan allows no line that invalidates a SAFE answer.
 pub fn rejections_need_the_key()
     ensures need { RejectionsNeedTheKey }
     ensures all { WithoutTheKeyAllCount }
 {}
 
-/// Proves that the plan allows no rejection by a pool with an unbounded queue, and that such a pool
-/// is never marked as one that rejects jobs in a recording.
+/// Proves that the plan allows no rejection by a pool with an unbounded queue.
+/// [`mark_rejecting_pools`](crate::mark_rejecting_pools) returns such a pool as one that must not
+/// reject jobs, unless its `queue` is 0.
 pub fn unbounded_pools_reject_nothing()
     ensures none { UnboundedPoolsRejectNothing }
     ensures no_key { UnboundedPoolsGetNoKey }

@@ -16,8 +16,8 @@ pub enum Difference {
     Core { recorded: u64, planned: u64 },
     /// The maximum pool size, in threads.
     Max { recorded: u64, planned: u64 },
-    /// A queue of this kind, which is not the plan's: an array queue or a linked one, a synchronous
-    /// one if the plan has `queue = 0`, and a linked one if the plan's queue is unbounded.
+    /// The kind of the queue, which is not that of the plan. A plan's unbounded queue is linked,
+    /// its queue of 0 is synchronous, and any other queue is an array queue or a linked one.
     KindOfQueue(QueueKind),
     /// The capacity of the queue, in jobs.
     Capacity { recorded: u64, planned: u64 },

@@ -114,9 +114,10 @@ impl Finding {
     }
 
     /// Returns the number that orders findings of the same line and type. For a difference, it is
-    /// the position among the variants of [`Difference`], of which the two about a capacity share
-    /// one. For a pool that is not recorded, an undecided actor or an excess of rounds, it is the
-    /// number of the pool, the actor or the client kind. It is 0 for all other findings.
+    /// the position of its variant in [`Difference`], where the two variants about a capacity have
+    /// the same position. For a pool that is not recorded, an undecided actor or an excess of
+    /// rounds, it is the number of the pool, the actor or the client kind. It is 0 for all other
+    /// findings.
     fn number(&self) -> usize
         ensures { result ≡ spec.number_of self.now }
     {

@@ -14,8 +14,8 @@ use job_bodies::Plan;
 use recordings::Line;
 use std::alloc::{AllocError, Global};
 
-/// The pools that have a handler of another kind in some line, for each kind, and the pools that
-/// are shut down.
+/// For each of the handlers `abort`, `caller_runs` and `discard`, the pools that have another
+/// handler in some line. Also the pools that are shut down.
 #[derive(Drop)]
 pub(crate) struct Handlers {
     not_abort: PoolNames,

@@ -9,9 +9,10 @@ ghost use Rattle.conformance.specs.LaggingRun.{PathsAreFollowed, RunsStayReachab
 /// actor, whatever other actors do in between. The machine's actor makes the submits of the path in
 /// their order. It passes the other actions of its body directly before a submit and before the
 /// end: it skips submits, and gets no job that is still open in the path. So each of its gets comes
-/// no sooner than the same get in the path. A pool takes the job of each submit, or rejects it if it
-/// may: the job is then done at once. While a job waits in a get of its path, its body still has a
-/// get of that class. The states of such a run are reachable, so they are safe.
+/// no sooner than the same get in the path. A pool takes the job of each submit or, if the pool may
+/// reject jobs, rejects it. A rejected job is done at once. While a job waits in a get of its path,
+/// its body still has a get of that class. The states of such a run are reachable, so they are
+/// safe.
 pub fn paths_are_followed()
     ensures followed { PathsAreFollowed }
     ensures reachable { RunsStayReachable }

@@ -1,4 +1,4 @@
-//! What a whole recording says of its refusals.
+//! The facts about the refusals of a whole recording.
 
 ghost use Rattle.std.specs.Prelude.{◌≡◌, ◌++◌, ◌∷◌, [], ℕ, true, List, OnOk, IfOk};
 ghost use Rattle.job_bodies.specs.Plan as plans;
@@ -16,7 +16,7 @@ use crate::well_formed_lines::WellFormedLines;
 use job_bodies::Plan;
 use std::alloc::{AllocError, Global};
 
-/// What a whole recording says of its refusals.
+/// The facts about the refusals of a whole recording: the rule of each pool, and the refused jobs.
 #[derive(Drop)]
 pub(crate) struct RefusalFacts {
     // The rule of each pool of the plan.
@@ -50,7 +50,7 @@ fn rule_at(rules: &[RejectionRule], pool: usize) -> RejectionRule
     }
 }
 
-/// Returns what the recording says of its refusals.
+/// Returns the facts about the refusals of the recording.
 ///
 /// # Errors
 ///

@@ -50,7 +50,7 @@ fn note_refusal(jobs: &mut JobSet, line: &Line<'_>) -> Result<(), AllocError>
     }
 }
 
-/// What the lines read so far say of some jobs.
+/// The facts about some jobs in the lines read so far.
 #[derive(Drop)]
 pub(crate) struct RefusedJobs {
     refused: JobSet,
@@ -95,6 +95,7 @@ impl RefusedJobs {
     }
 
     /// Returns the pool of the plan that the first `submit` line of the job names, if there is one.
+    /// The job must be one of those given to `new`.
     pub(crate) fn pool_of(&self, job: usize) -> Option<usize>
         ensures { (plan : plans.Plan) (lines : List RecordedLine)
             → spec.AreFactsOf plan lines self.now
@@ -107,7 +108,8 @@ impl RefusedJobs {
         }
     }
 
-    /// Returns whether the job has a line as an actor other than its end.
+    /// Returns whether the job submits, gets or cancels a job, or calls `invokeAny`. The job must
+    /// be one of those given to `new`.
     pub(crate) fn has_acted(&self, job: usize) -> bool
         ensures { (plan : plans.Plan) (lines : List RecordedLine)
             → spec.AreFactsOf plan lines self.now
@@ -117,7 +119,7 @@ impl RefusedJobs {
         self.acted.contains(job)
     }
 
-    /// Returns whether the job has a `start` line.
+    /// Returns whether the job has a `start` line. The job must be one of those given to `new`.
     pub(crate) fn has_started(&self, job: usize) -> bool
         ensures { (plan : plans.Plan) (lines : List RecordedLine)
             → spec.AreFactsOf plan lines self.now

@@ -12,10 +12,9 @@ use std::alloc::{AllocError, Global};
 /// Returns the plan in which a pool may reject jobs exactly if it rejects jobs in the recording, or
 /// has a queue of 0. Nothing else of the plan changes.
 ///
-/// A pool rejects jobs in the recording if at least one job that was submitted to it was refused,
-/// and each such refusal is a rejection that the plan allows if all its pools may reject jobs.
-/// [`conform`](crate::conform) lists when a plan allows a rejection. It allows none by a pool with
-/// an unbounded queue.
+/// A pool rejects jobs in the recording if at least one of its jobs was refused, and the plan with
+/// `may_reject` for every pool allows each refusal of its jobs. [`conform`](crate::conform) lists
+/// when a plan allows a rejection. No plan allows a rejection by a pool with an unbounded queue.
 ///
 /// Reads the recording three times. The memory grows with the number of refused jobs.
 ///
@@ -54,8 +53,8 @@ fn pools_with_key(alloc: Global, pools: &[Pool]) -> Result<Vec<Pool>, AllocError
     Ok(keyed)
 }
 
-/// Returns the pools, of which exactly those that only reject jobs in the recording, or have a queue
-/// of 0, may reject jobs.
+/// Returns copies of the pools. A copy may reject jobs exactly if `rejections.only_rejects` returns
+/// true for the pool, or if its queue is 0.
 fn with_keys(
     alloc: Global,
     pools: &[Pool],

@@ -1,4 +1,4 @@
-//! When a refusal by a pool that may reject jobs invalidates nothing.
+//! The rules for the refusals that invalidate nothing.
 
 ghost use Rattle.std.specs.Prelude.{◌≡◌};
 ghost use Rattle.std.specs.List.{list_any};
@@ -15,8 +15,9 @@ pub(crate) enum RejectionRule {
     Never,
     /// Every refusal.
     Always,
-    /// The refusal of a job that was only work, and that the caller ran unless the recording ends
-    /// before that.
+    /// The refusal of a job that submits, gets and cancels no job and does not call `invokeAny`. If
+    /// `closes` is true, the job must also have a `start` line, and no `shutdown` of the pool may
+    /// precede the refusal.
     IfCallerRuns {
         /// Whether the recording has a `shutdown` of the pool. The handler may then have dropped
         /// the job.
@@ -25,9 +26,9 @@ pub(crate) enum RejectionRule {
 }
 
 impl RejectionRule {
-    /// Returns whether the refusal of a job invalidates nothing. `acted` says whether the job has a
-    /// line as an actor other than its end, `started` whether it has a `start` line, and `closed`
-    /// whether a `shutdown` of the pool precedes the refusal.
+    /// Returns whether the refusal of a job invalidates nothing. `acted` says whether the job
+    /// submits, gets or cancels a job or calls `invokeAny`, `started` whether it has a `start`
+    /// line, and `closed` whether a `shutdown` of the pool precedes the refusal.
     pub(crate) fn allows(self, acted: bool, started: bool, closed: bool) -> bool
         ensures { result ≡ spec.is_allowed_by self acted started closed }
     {

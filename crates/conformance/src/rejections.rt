@@ -21,7 +21,7 @@ use job_bodies::{Plan, Pool};
 use recordings::{InvalidatingEvent, Invalidation, Line, RecordedActor};
 use std::alloc::{AllocError, Global};
 
-/// The number of jobs that a pool rejected. `pool` is the number of the pool in the plan.
+/// The number of jobs that the pool with the number `pool` rejected.
 #[derive(Clone, Copy, PartialEq, Eq)]
 pub struct PoolRejections {
     pub pool: usize,
@@ -165,8 +165,7 @@ impl Rejections {
         }
     }
 
-    /// Returns whether the pool rejected a job, as the plan allows, and no other refusal is by the
-    /// pool.
+    /// Returns whether the pool refused a job, and the plan allows each refusal by the pool.
     pub(crate) fn only_rejects(&self, pool: usize) -> bool
         ensures { result ≡ spec.only_rejected_by self.now pool }
     {

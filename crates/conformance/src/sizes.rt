@@ -13,7 +13,7 @@ use std::alloc::{AllocError, Global};
 ///
 /// The number of prestarted threads is compared only if this is the first line of the pool
 /// (`is_first`). The maximum is not compared if the plan's queue is unbounded, because it then has
-/// no effect. The handler is not compared, because it is never called if the plan is SAFE.
+/// no effect. The handler is not compared, because a plan has none.
 ///
 /// # Errors
 ///
