@@ -50,7 +50,7 @@ outcomes_more plan front rest e s found reached is_step =
     ∙ ap (λ (x : Option State). outcomes plan (Some (start plan)) front ++ outcomes plan x (e ∷ rest)) reached
     ∙ ap (λ (x : Option (State × Outcome)). outcomes plan (Some (start plan)) front ++ outcome_of x ∷ outcomes plan (state_after x) rest) is_step
 
--- an outcome that none of the events has, and the next event does not have either, is not among the outcomes with that event
+-- an outcome that is neither among those of the events nor that of the next event is not among the outcomes of all of them
 pub none_more : (plan : Plan) (front : List Event) (e : Event) (o other : Outcome) (s s' : State) → ¬ In (Some other) (outcomes plan (Some (start plan)) front) → Reaches plan front s → step plan s e ≡ Some (s', o) → o ≢ other
     → ¬ In (Some other) (outcomes plan (Some (start plan)) (front ++ e ∷ []))
 none_more plan front e o other s s' none reached is_step differs i =

@@ -1,4 +1,4 @@
--- A plan is well-formed if one of its pools must not reject jobs any more.
+-- A well-formed plan stays well-formed if one of its pools is replaced by its `refusing_pool`.
 use Rattle.std.proofs.Common.{◌≡◌, ℕ, ◌<◌, ◌≤◌, max, Bool, true, false, ◌&&◌, List, length, map, set, sym, ap, ◌∙◌, arith, refl}
 use Rattle.std.specs.Prelude.{nat_lt}
 use Rattle.std.specs.List.{list_all}
@@ -13,7 +13,7 @@ use Rattle.job_bodies.specs.Plan.{Pool, Class, Plan, no_pool, pool_at}
 use Rattle.job_bodies.specs.WellFormed.{is_valid_name, is_within, least_queue, has_valid_sizes, is_valid_pool, is_valid_body, are_distinct, IsWellFormed}
 use Rattle.counterexample.specs.Rejection.{refusing_pool, refusing}
 
--- a pool of the plan is still valid if it must not reject jobs and has a queue of at least 1
+-- the `refusing_pool` of a pool of the plan is valid exactly if the pool is
 refusing_is_valid : (plan : Plan) (p : ℕ) → IsWellFormed plan → p < length plan.pools → is_valid_pool (refusing_pool (pool_at plan p)) ≡ is_valid_pool (pool_at plan p)
 refusing_is_valid plan p well inside =
     let pool = pool_at plan p in

@@ -19,8 +19,8 @@ use Rattle.counterexample.specs.Witness.{LeadsTo, NoneRefused, EndsRefused}
 
 -- ---- the reasons for a permanent wait
 
--- `standing` has a vector for the pool that satisfies the conditions of a standing vector, and a rejected job does not increase the weight
--- of a state
+-- `standing` has a vector for the pool, it satisfies the conditions of a standing vector, and under it a rejected job does not increase the
+-- weight of a state
 pub record GivenStanding (plan : Plan) (standing : List Vector) (p : ℕ) : Type 0 where
   pub vector : Vector
   pub given : slice_get standing p ≡ Some vector

@@ -23,7 +23,8 @@ is_light plan v entry = not (pool_at plan entry.1.pool).may_reject || nat_le (do
 abbrev pub rejected_are_light : Plan → Vector → Bool
 rejected_are_light plan v = list_all (is_light plan v) (enumerate_from 0 plan.classes)
 
--- there is a vector, it satisfies all conditions of a standing vector of the pool, and rejected jobs do not increase the weight
+-- there is a vector, it satisfies all conditions of a standing vector of the pool, and under it a rejected job does not increase the weight
+-- of a state
 abbrev pub has_standing : Plan → ℕ → Option Vector → Bool
 has_standing plan p None = false
 has_standing plan p (Some v) = vector_fits plan v && not (is_some (first_failing (standing_rows plan p v))) && rejected_are_light plan v

@@ -12,8 +12,8 @@ use Rattle.weights.specs.Vector.{Vector}
 use Rattle.weights.specs.Standing.{standing_rows}
 use Rattle.soundness.specs.WeightLaws.{RejectedAreLight}
 
--- some vector satisfies the conditions of a standing vector of the pool, and a rejected job does not increase the weight of a state.
--- If no pool may reject jobs, the conditions are enough
+-- some vector satisfies the conditions of a standing vector of the pool, and under it a rejected job does not increase the weight of a
+-- state, which holds for every vector if no pool may reject jobs
 pub record HasStanding (plan : Plan) (p : ℕ) : Type 0 where
   pub vector : Vector
   pub hold : AllHold (standing_rows plan p vector)

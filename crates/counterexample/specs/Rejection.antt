@@ -1,4 +1,4 @@
--- Events that lead to a submit whose job a pool rejects, as the plan allows. There are none if the queue of the pool is unbounded.
+-- Events that lead to a submit whose job a pool rejects, as the plan allows.
 use Rattle.std.specs.Prelude.{◌≡◌, ℕ, ◌==◌, Bool, false, List, [], ◌∷◌, ◌++◌, Some, slice_set, max}
 use Rattle.support.specs.In.{In}
 use Rattle.job_bodies.specs.Plan.{Pool, Plan, pool_at}
@@ -33,11 +33,10 @@ pub record EndsRejected (plan : Plan) (events : List Event) (p : ℕ) : Type 0 w
   pub job : ℕ
   pub rejected : step plan before last ≡ Some (after, outcome.Rejected p job)
 
--- the pool that must not reject jobs, with a queue of at least 1
+-- the pool, changed so that it must not reject jobs and has a queue of at least 1
 abbrev pub refusing_pool : Pool → Pool
 refusing_pool pool = record pool { queue = max pool.queue 1; may_reject = false }
 
--- the plan in which pool p must not reject jobs, so that it refuses each job that it rejects in the given plan, if its queue has at least
--- one place there
+-- the plan with the `refusing_pool` of pool p in place of p
 abbrev pub refusing : Plan → ℕ → Plan
 refusing plan p = record plan { pools = slice_set plan.pools p (refusing_pool (pool_at plan p)) }

@@ -44,7 +44,7 @@ pub(crate) struct BestFirstResult {
     /// Events after which some jobs wait only for each other, if such a state was visited. A later
     /// event may end the wait.
     pub(crate) stuck_now: Option<Script>,
-    /// The number of further states that the search could have visited within its limit.
+    /// The number of states that the search could still have visited within its limit.
     pub(crate) left: usize,
 }
 
@@ -76,8 +76,7 @@ struct BestFirst<'a> {
     /// For each measure, a heap of the open states except the initial state, with the most
     /// promising one on top. The heap can also contain closed states.
     opens: Vec<BinaryHeap<(u64, usize), Global>>,
-    /// A lower bound of the numbers of the open states, from which the search for the oldest one
-    /// starts.
+    /// The search for the oldest open state starts at this number. No open state has a smaller one.
     oldest: usize,
     /// The number of states that the search may still visit.
     left: usize,

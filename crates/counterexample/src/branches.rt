@@ -105,9 +105,10 @@ impl<'a> Walk<'a> {
         threads.saturating_sub(waiting)
     }
 
-    /// Returns the least room of a pool that may refuse a job: its queue is bounded, and the pool
-    /// must not reject jobs. The room is the number of further jobs that the pool accepts if no
-    /// thread takes a job from its queue before that. Returns `u64::MAX` if there are no such pools.
+    /// Returns the least room among the pools that may refuse a job, which are those that have a
+    /// bounded queue and must not reject jobs. The room of a pool is the number of further jobs
+    /// that it accepts if no thread takes a job from its queue before that. Returns `u64::MAX` if
+    /// no pool may refuse a job.
     pub(crate) fn least_room(&self) -> u64 {
         let mut least = u64::MAX;
         for pool in &self.machine.pools {

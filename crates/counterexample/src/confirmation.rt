@@ -23,9 +23,10 @@ use weights::Vector;
 ///
 /// `members` are the numbers of the jobs that wait only for each other after the events, in
 /// ascending order and without duplicates. `standing` is empty or has one vector for each pool. A
-/// vector that satisfies all conditions of a standing vector proves that its pool never has more
-/// than `core` threads, if a done job of each class whose pool may reject jobs weighs at most as
-/// much as a queued job. Any other vector proves nothing.
+/// vector proves that its pool never has more than `core` threads if it satisfies all conditions of
+/// a standing vector, and if a rejected job does not increase the weight of a state: in each class
+/// whose pool may reject jobs, a done job weighs at most as much as a queued job. Any other vector
+/// proves nothing.
 ///
 /// The arguments are not trusted. The events are replayed in order. The replay stops at the first
 /// event that is a refused submit or that is not possible. If that event is a refused submit, the

@@ -14,10 +14,10 @@ pub fn witnessed_plans_are_not_safe()
     ensures { WitnessedPlansAreNotSafe }
 {}
 
-/// Proves that a pool never has more than `core` threads if some vector satisfies the conditions of
-/// a standing vector of the pool, and if a done job of each class whose pool may reject jobs weighs
-/// at most as much as a queued job. Nothing else is assumed about the other pools, which may even
-/// refuse submits.
+/// Proves that a pool never has more than `core` threads if some vector satisfies two conditions.
+/// It is a standing vector of the pool, and in each class whose pool may reject jobs, a done job
+/// weighs at most as much as a queued job. Nothing else is assumed about the other pools, which may
+/// even refuse submits.
 pub fn standing_pools_stay_at_core()
     ensures { StandingPoolsStayAtCore }
 {}

@@ -5,7 +5,7 @@
 //! only for each other after it. The search is not trusted: [`confirmed`] replays the events that
 //! the search finds.
 //!
-//! A pool that may reject jobs, as the plan allows, refuses none: a submit that it rejects is an
+//! A pool that may reject jobs, as the plan allows, refuses none. A submit that it rejects is an
 //! ordinary event of a witness. [`find_rejection`] searches for events that lead to a rejection. A
 //! pool whose queue is unbounded neither refuses nor rejects a job.
 #![tactic(auto)]

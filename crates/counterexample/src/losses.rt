@@ -37,8 +37,8 @@ impl WeightedBody<'_> {
         self.row.get(position).copied().unwrap_or(0)
     }
 
-    /// Returns the weight of an actor after it performed all consecutive work actions from this
-    /// position on, and whether the actor is then at the end of its body.
+    /// Returns the weight that an actor has after all consecutive work actions from this position
+    /// on, and whether it is then at the end of its body.
     fn settled(&self, position: usize) -> (u64, bool) {
         let mut position = position;
         for _ in 0..MAX_ACTIONS {

@@ -12,9 +12,9 @@ use interleaving::{Phase, World};
 use job_bodies::{Class, Plan};
 use weights::Vector;
 
-/// Returns `true` if no pool that has a member in its queue can start a thread. A pool counts as
-/// unable to start one if it has `max` threads, or if its vector in `standing` proves that it never
-/// has more than `core` threads. Allocates no memory.
+/// Returns `true` if no pool that has one of the jobs `members` in its queue can start a thread. A
+/// pool counts as unable to start one if it has `max` threads, or if its vector in `standing`
+/// proves that it never has more than `core` threads. Allocates no memory.
 pub(crate) fn all_start_no_thread(
     plan: &Plan,
     world: &World,

@@ -1,22 +1,22 @@
-//! The limits that a search sets itself for unbounded queues. Such a queue always has room, so that
-//! a search could add jobs to it forever. A search makes no submit to an unbounded queue that has
-//! as many jobs as its limit.
+//! The limits of a search for unbounded queues. Such a queue always has room, so a search could add
+//! jobs to it forever. A search makes no submit to an unbounded queue that already has as many jobs
+//! as the limit of this submit.
 //!
-//! The jobs in an unbounded queue of a witness are those that running jobs have submitted and may
-//! get, and a few more that become running jobs. The limits leave room for them.
+//! The limits leave room for the jobs that the running jobs of all pools can have submitted, and
+//! for a few more, which can become running jobs.
 
 use crate::pools::most_threads;
 use job_bodies::{Action, Plan};
 use std::alloc::{AllocError, Global};
 
-/// The limit for the submits of clients. The submits of jobs have a higher limit.
+/// The limit for the submits of clients, in queued jobs. The submits of jobs have a higher limit.
 const FOR_CLIENTS: u64 = 16;
 
 /// A limit for a submit to a pool whose queue is unbounded.
 #[derive(Clone, Copy, PartialEq, Eq)]
 pub(crate) struct QueueLimit {
     pub(crate) pool: usize,
-    /// The number of queued jobs from which on a search does not make the submit.
+    /// A search does not make the submit if the queue has at least this many jobs.
     pub(crate) jobs: u64,
 }
 
@@ -60,8 +60,8 @@ impl<'a> QueueLimits<'a> {
     }
 }
 
-/// Returns the number of jobs that a search puts into the pool's unbounded queue at most: the limit
-/// for clients, and the number of jobs that the running jobs of all pools can have submitted to
+/// Returns the maximum number of jobs that a search puts into the pool's unbounded queue: the limit
+/// for clients, plus the number of jobs that the running jobs of all pools can have submitted to
 /// this pool if each pool has all its threads.
 pub(crate) fn most_queued(plan: &Plan, pool: usize) -> u64 {
     let mut jobs = FOR_CLIENTS;

@@ -16,14 +16,13 @@ use std::alloc::{AllocError, Global};
 ///
 /// Returns the events up to the first rejection by the pool. Other pools may reject jobs before,
 /// but no submit is refused. Returns `None` if the search finds no such events, if the pool must
-/// not reject jobs, or if there is no such pool. If the search finds none, the pool may still
-/// reject jobs. A pool whose queue is unbounded never rejects a job, so the result for it is `None`,
-/// without a search. The result is the same for each call with the same arguments.
+/// not reject jobs, or if there is no such pool. Even if the search finds none, there can be such
+/// events. For a pool with an unbounded queue, which never rejects a job, returns `None` without a
+/// search. The result is the same for each call with the same arguments.
 ///
-/// The search is a search for a witness against the plan in which this pool must not reject jobs and
-/// has a queue of at least 1. The events are replayed in the given plan.
-/// It also ends at a refusal by another pool, and if jobs wait only for each other. There are no
-/// such states if a certificate accepts the plan.
+/// The search looks for a witness against the plan in which this pool must not reject jobs and has
+/// a queue of at least 1. The events of that witness are replayed in the given plan. The search
+/// also ends if another pool refuses a submit, or if jobs wait only for each other.
 ///
 /// # Errors
 ///
@@ -50,7 +49,7 @@ pub fn find_rejection(
     }
 }
 
-/// Returns the plan in which the pool must not reject jobs.
+/// Returns the plan in which the pool must not reject jobs and has a queue of at least 1.
 fn refusing_plan(alloc: Global, plan: &Plan, pool: usize) -> Result<Plan, AllocError>
     requires { pool < length plan.now.pools }
     ensures { IfOk result (λ refusing. refusing ≡ spec.refusing plan.now pool) }
@@ -69,7 +68,7 @@ fn refusing_pools(alloc: Global, plan: &Plan, pool: usize) -> Result<Vec<Pool>, 
     Ok(pools)
 }
 
-/// Changes the pool into one that must not reject jobs. Its queue then has at least one place.
+/// Changes the pool into one that must not reject jobs and has a queue of at least 1.
 fn forbid_rejections(pool: &mut Pool)
     ensures { pool.new ≡ spec.refusing_pool pool.old }
 {

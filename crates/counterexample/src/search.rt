@@ -296,8 +296,9 @@ impl Search<'_> {
 }
 
 /// Returns the limit on the number of states that one walk visits: 12 times the sum of the maximums
-/// and queue capacities of all pools, plus 128. For an unbounded queue, the capacity is the number
-/// of jobs that a search puts into it at most.
+/// and queue capacities of all pools, plus 128. For a pool with an unbounded queue, the core counts
+/// as the maximum, and the largest number of jobs that a search puts into the queue counts as the
+/// capacity.
 fn longest_walk(plan: &Plan) -> usize {
     let mut room = 0u64;
     for (number, pool) in plan.pools().iter().enumerate() {

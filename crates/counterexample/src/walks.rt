@@ -76,7 +76,7 @@ pub(crate) struct Walk<'a> {
     pub(crate) ready: Vec<Vec<Parent>>,
     /// For each client kind, the number of its clients that have started their bodies.
     pub(crate) begun: Vec<u64>,
-    /// The choices that ended in a rejected submit since the last choice that did not.
+    /// The choices that ended in a rejected submit, since the last choice that ended otherwise.
     pub(crate) rejected: Vec<usize>,
     /// Whether, since this flag was last cleared, a client or a job has stopped at a get that must
     /// wait, or a client at the end of its body.
