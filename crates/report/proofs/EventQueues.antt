@@ -71,7 +71,7 @@ queue_where p q old changed test is_test =
 abbrev pub pool_at_event : Plan → State → Event → State → Outcome → Option PoolCounts
 pool_at_event plan s e s' o = option_and_then (counts_of plan s') (changed_pool plan s' (actor_of plan s e) o)
 
--- a pool whose queue has room exists, because past the end of the list there is no queue and no idle worker
+-- if there is room in the queue of pool q, the plan has pool q: past the end of the list there is no queue and no idle worker
 room_exists : (plan : Plan) (s : State) (q n : ℕ) → length s.pools ≡ length plan.pools → n < room_limit (pool_at plan q).unbounded (pool_at plan q).queue (pool_part s q).idle n → q < length plan.pools
 room_exists plan s q n as_many room = elim (cases_lt q (length plan.pools)) [
   | inl inside ↦ inside

@@ -14,7 +14,7 @@ same_size declared fit none = by_test (declared == fit) refl none
     by_test true is none = sym (eqb-true declared fit is)
     by_test false is none = absurd (omega (arith, none))
 
--- a number that is 0 if a test holds and otherwise 1 shows the test
+-- `cond test 0 1` is 0 only if the test holds
 holds : (test : Bool) → ◌≡◌ {A = ℕ} (cond test 0 1) 0 → test ≡ true
 holds true none = refl
 holds false none = absurd (omega (arith, none))
@@ -23,7 +23,7 @@ holds false none = absurd (omega (arith, none))
 abbrev AreSame : Pool → Pool → Type 0
 AreSame declared fit = (fit.core ≡ declared.core) × (fit.max ≡ declared.max) × (fit.queue ≡ declared.queue)
 
--- if no size changes, they are the declared ones, whether they count as one or each by itself
+-- if the number of changes is 0, the sizes are the declared ones, whether all changes count as one or each counts
 same_sizes : (unbounded : Bool) (declared fit : Pool)
     → ◌≡◌ {A = ℕ} (cond unbounded (any_changed declared fit) (changed declared.core fit.core + changed declared.max fit.max + changed declared.queue fit.queue)) 0
     → AreSame declared fit

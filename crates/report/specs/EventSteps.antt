@@ -1,4 +1,5 @@
--- What an event did: the actor, the action, the outcome, the pool that it changed or that refused or rejected a job, and the class of the job that it took.
+-- The effects of an event: the actor, the action, the outcome, the pool that the event changed or that refused or rejected a job, and the
+-- class of the job that a thread took.
 use Rattle.std.specs.Prelude.{ℕ, Option, Some, None, slice_get, option_map, option_and_then}
 use Rattle.job_bodies.specs.Plan.{Plan}
 use Rattle.written_machine.specs.declared.event.Event.{Event}

@@ -35,8 +35,9 @@ pub record RejectsAfter (plan : Plan) (p n : ℕ) : Type 0 where
 abbrev pub AreRejections : Plan → List (Option ℕ) → Type 0
 AreRejections plan rejections = (p : ℕ) → IfSome (slice_index_or rejections p None) (RejectsAfter plan p)
 
--- the finding is true of the plan: a certificate accepts it, and the numbers of events are those of rejections; or it has a witness, and the result for other sizes is true; or
--- neither was found, and the result for other sizes is true
+-- the finding is true of the plan. Safe: the certificate accepts the plan, and the numbers of events are those of rejections. Not safe: the
+-- witness is one of the plan, and the result of the search for sizes is true. Not decided: that result is true, and no certificate was
+-- found (`IsOpen`)
 abbrev pub IsFinding : Plan → PlanFinding → Type 0
 IsFinding plan (Safe cert rejections) = IsTrue (accepted plan cert) × AreRejections plan rejections.items
 IsFinding plan (NotSafe witness sizes) = IsWitness plan witness.events.items witness.ending × IsKnown plan sizes

@@ -57,7 +57,8 @@ vector_data plan kind v = bound_object (clients_data plan (client_shares plan v)
 abbrev pub fitting_data : Plan → Bound → Data
 fitting_data plan bound = if vector_fits plan (bound_vector bound) then vector_data plan (kind_of bound) (bound_vector bound) else null
 
--- the same for pool p; null if there is no bound, or if it is none of the jobs in an unbounded queue
+-- the bound of pool p; null if there is none, if its vector does not fit the plan, or if its total does not bound the jobs in an unbounded
+-- queue
 abbrev pub bound_data : Plan → ℕ → Option Bound → Data
 bound_data plan p None = null
 bound_data plan p (Some bound) = if bounds_jobs plan p bound then fitting_data plan bound else null
@@ -67,7 +68,8 @@ bound_data plan p (Some bound) = if bounds_jobs plan p bound then fitting_data p
 unfoldable pub waiting_data : ℕ → ℕ → Data
 waiting_data left most = object (member (codes "left") (number (unsigned left)) (member (codes "most") (number (unsigned most)) no_members))
 
--- the most core threads that wait at once where others must continue, and how many are left; null if it is not known
+-- the maximum number of core threads that wait at counted gets at once, and the number of other core threads; null if the maximum is not
+-- known
 abbrev pub blocked_of : Pool → Option ℕ → Data
 blocked_of pool None = null
 blocked_of pool (Some most) = waiting_data (pool.core - most) most
@@ -92,7 +94,7 @@ pool_object blocked bound pool waits_for =
     (member (codes "queue") (queue_data pool)
     (member (codes "waits_for") waits_for no_members))))))))
 
--- a pool that may reject jobs by the plan
+-- the JSON object of a pool that may reject jobs by the plan
 unfoldable pub rejecting_object : Data → Data → Pool → Data → Data → Data
 rejecting_object blocked bound pool rejects_after waits_for =
     object (member (codes "blocked") blocked
@@ -111,7 +113,7 @@ abbrev pub rejects_data : Option ℕ → Data
 rejects_data None = null
 rejects_data (Some events) = number (unsigned events)
 
--- pool p, with what is known of it
+-- the JSON object of pool p. It has the number of events after which p rejects a job only if p may reject jobs
 abbrev pub sized_pool : Plan → ℕ → Pool → Option ℕ → Data → Data → Data
 sized_pool plan p pool rejection blocked bound =
     if pool.may_reject then rejecting_object blocked bound pool (rejects_data rejection) (waits_data plan p) else pool_object blocked bound pool (waits_data plan p)
@@ -124,7 +126,6 @@ pool_data plan p pool rejection (Some part) = sized_pool plan p pool rejection (
 abbrev pub pool_entry : Plan → List PoolCert → List (Option ℕ) → ℕ × Pool → Data
 pool_entry plan parts rejections (p, pool) = pool_data plan p pool (rejection_at rejections p) (slice_get parts p)
 
--- the pools, with these parts of a certificate, and the numbers of events after which they reject jobs; none of both if no certificate
--- accepts the plan
+-- the pools, each with its part of a certificate and the number of events after which it rejects a job
 abbrev pub pools_data : Plan → List PoolCert → List (Option ℕ) → Data
 pools_data plan parts rejections = array (items_of (map (pool_entry plan parts rejections) (enumerate_from 0 plan.pools)))

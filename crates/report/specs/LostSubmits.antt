@@ -1,4 +1,4 @@
--- The bodies with submits to a pool whose jobs they never get, as text.
+-- Texts about the bodies that submit a job to a pool and never get it.
 use Rattle.std.specs.Prelude.{ℕ, Bool, false, not, ◌&&◌, ◌==◌, if◌then◌else◌, List, [], ◌∷◌, ◌++◌, flat_map, codes}
 use Rattle.std.specs.List.{enumerate_from, list_any}
 use Rattle.job_bodies.specs.declared.action.Action.{Action}
@@ -14,15 +14,15 @@ loses_at body k (i, _) = false
 abbrev pub loses : List Action → ℕ → Bool
 loses body k = list_any (loses_at body k) (enumerate_from 0 body)
 
--- the words for a body that never gets a job of this class
+-- the text about a body that submits a job of this class and never gets it; `kind` and `name` are those of the body
 abbrev pub lost_words : List ℕ → List ℕ → List ℕ → List ℕ
 lost_words kind name class = kind ++ (codes " " ++ (name ++ (codes " submits " ++ (class ++ codes " without a get"))))
 
--- these words, if class k runs in pool p and the body never gets one of its jobs
+-- this text, if class k belongs to pool p and the body submits a job of k that it never gets
 abbrev pub lost_class : ℕ → List ℕ → List ℕ → List Action → ℕ × Class → List (List ℕ)
 lost_class p kind name body (k, class) = if class.pool == p && loses body k then lost_words kind name class.name ∷ [] else []
 
--- the classes of pool p of which the body never gets a job
+-- the texts about one body, for the classes of pool p of which the body submits a job that it never gets
 abbrev pub lost_by : Plan → ℕ → List ℕ → List ℕ → List Action → List (List ℕ)
 lost_by plan p kind name body = flat_map (lost_class p kind name body) (enumerate_from 0 plan.classes)
 
@@ -32,6 +32,6 @@ lost_by_client plan p client = lost_by plan p (codes "client") client.name clien
 abbrev pub lost_by_class : Plan → ℕ → Class → List (List ℕ)
 lost_by_class plan p class = lost_by plan p (codes "class") class.name class.body
 
--- all bodies with submits to pool p whose jobs they never get: those of the client kinds, and then those of the classes
+-- the texts about all bodies: those of the client kinds, and then those of the classes
 abbrev pub lost_texts : Plan → ℕ → List (List ℕ)
 lost_texts plan p = flat_map (lost_by_client plan p) plan.clients ++ flat_map (lost_by_class plan p) plan.classes

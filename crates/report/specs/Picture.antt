@@ -53,11 +53,12 @@ abbrev pub most_part : Bound → Option ℕ → List ℕ
 most_part bound None = []
 most_part bound (Some n) = codes "\\n" ++ most_text bound n
 
--- what is said of a pool without a bound: it may reject jobs, unless its queue is unbounded
+-- the text for a pool without a bound: it may reject jobs. Empty if its queue is unbounded
 abbrev pub no_bound_part : Pool → List ℕ
 no_bound_part pool = if pool.unbounded then [] else codes "\\nmay reject"
 
--- the bound of the queue of pool p, if it is one of the pool's jobs
+-- the bound of the queue of pool p. If there is none, or if its total does not bound the jobs in an unbounded queue, the text for a pool
+-- without a bound
 abbrev pub bound_of : Plan → ℕ → Pool → Option Bound → List ℕ
 bound_of plan p pool None = no_bound_part pool
 bound_of plan p pool (Some bound) = if bounds_jobs plan p bound then most_part bound (total_of plan (bound_vector bound)) else no_bound_part pool

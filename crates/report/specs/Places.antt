@@ -14,7 +14,7 @@ total_of plan v = if vector_fits plan v then Some (total plan v) else None
 
 -- ---- bounds of unbounded queues
 
--- the weight of a queued job, which is the first of these weights of a job, is at least 1
+-- the first of these weights, which is that of a queued job, is at least 1
 abbrev pub counts_queued : List ℕ → Bool
 counts_queued weights = nat_le 1 (slice_index weights 0)
 
@@ -23,28 +23,28 @@ abbrev pub counts_class : Bound → ℕ → Bool
 counts_class (Standing v) k = counts_queued (class_weights v k)
 counts_class (Lifetime v) k = list_all (nat_le 1) (class_weights v k)
 
--- the class does not belong to pool p, or each job of the class counts
+-- the class does not belong to pool p, or `counts_class` holds for it
 abbrev pub counts_if_of : ℕ → Bound → ℕ × Class → Bool
 counts_if_of p bound entry = not (entry.1.pool == p) || counts_class bound entry.0
 
--- the vector of the bound fits the plan, and each job of pool p counts in it
+-- the vector of the bound fits the plan, and `counts_class` holds for each class of pool p
 abbrev pub counts_jobs : Plan → ℕ → Bound → Bool
 counts_jobs plan p bound = vector_fits plan (bound_vector bound) && list_all (counts_if_of p bound) (enumerate_from 0 plan.classes)
 
--- the total of this bound is one of the jobs of pool p. If the queue of p is bounded, the conditions on the bound demand this. If it is
--- unbounded they do not, so each job has to count
+-- the total of this bound limits the number of jobs of pool p. If the queue of p is bounded, the conditions on the bound demand this. If it
+-- is unbounded, they do not, so `counts_jobs` must hold
 abbrev pub bounds_jobs : Plan → ℕ → Bound → Bool
 bounds_jobs plan p bound = not (pool_at plan p).unbounded || counts_jobs plan p bound
 
 -- ---- the number of places
 
--- the number of queue places that the bound of pool p shows to be enough: the total of a standing vector, and None for a lifetime vector, and
--- if the total is not a bound of the jobs in an unbounded queue
+-- the number of queue places that are enough for pool p by this bound: the total of a standing vector. None for a lifetime vector, for a
+-- vector that does not fit the plan, and if the total does not limit the jobs in an unbounded queue
 abbrev pub places_of_bound : Plan → ℕ → Bound → Option ℕ
 places_of_bound plan p (Standing v) = if bounds_jobs plan p (Standing v) then total_of plan v else None
 places_of_bound plan p (Lifetime v) = None
 
--- the same; None without a bound
+-- the number of queue places that are enough for pool p by its bound; None if it has no bound
 abbrev pub places_of : Plan → ℕ → Option Bound → Option ℕ
 places_of plan p None = None
 places_of plan p (Some bound) = places_of_bound plan p bound

@@ -65,7 +65,8 @@ abbrev pub places_text : Plan → Bound → ℕ → List ℕ
 places_text plan bound n =
     if n == 0 then codes "no job waits in it" else most_text bound n ++ codes " (" ++ separated (share_texts plan (bound_vector bound)) ++ codes ")"
 
--- what a bound means for a pool that may reject jobs by the plan; nothing if its queue is unbounded, so that it never rejects
+-- the words before the bound of a pool that may reject jobs by the plan: with a bound it never does. Empty for any other pool, and if the
+-- queue is unbounded
 abbrev pub never_text : Pool → List ℕ
 never_text pool = if pool.may_reject && not pool.unbounded then codes "never rejects: " else []
 
@@ -86,15 +87,16 @@ abbrev pub growth_text : List (List ℕ) → List ℕ
 growth_text [] = codes "no bound is known"
 growth_text (lost ∷ more) = codes "no bound: " ++ separated (lost ∷ more)
 
--- what is said of pool p without a bound: its unbounded queue may grow, or it may reject jobs
+-- the text for pool p without a bound: why its unbounded queue has none or, if its queue is bounded, that it may reject jobs
 abbrev pub no_bound_text : Plan → ℕ → Pool → Option ℕ → List ℕ
 no_bound_text plan p pool rejection = if pool.unbounded then growth_text (lost_texts plan p) else rejects_text rejection
 
--- the queue of pool p, and what is said of it without a bound
+-- the capacity of the queue of pool p, and the text for a pool without a bound
 abbrev pub open_queue_text : Plan → ℕ → Pool → Option ℕ → List ℕ
 open_queue_text plan p pool rejection = codes ", queue " ++ queue_size pool ++ codes ": " ++ no_bound_text plan p pool rejection
 
--- the bound of the queue of pool p, if it is one of the pool's jobs
+-- the queue of pool p with its bound. If there is none, or if its total does not bound the jobs in an unbounded queue, the text without a
+-- bound
 abbrev pub queue_text : Plan → ℕ → Pool → Option ℕ → Option Bound → List ℕ
 queue_text plan p pool rejection None = open_queue_text plan p pool rejection
 queue_text plan p pool rejection (Some bound) = if bounds_jobs plan p bound then bounded_text plan pool bound else open_queue_text plan p pool rejection
@@ -137,7 +139,7 @@ waits_line plan p pool blocked = codes "  " ++ pool.name ++ codes " waits for " 
 
 -- ---- the whole text
 
--- the submits to pool p, if its queue is bounded and it has no bound, so that it may reject jobs
+-- the submits to pool p, if it has no bound and its queue is bounded; empty for any other pool
 abbrev pub pool_submits : Plan → ℕ → Pool → Option Bound → List ℕ
 pool_submits plan p pool bound = if is_none bound && not pool.unbounded then submits_text plan p else []
 
@@ -156,11 +158,11 @@ pool_lines plan cert rejections (p, pool) = part_lines plan p pool (rejection_at
 abbrev pub pools_text : Plan → Cert → List (Option ℕ) → List ℕ
 pools_text plan cert rejections = flat_map (pool_lines plan cert rejections) (enumerate_from 0 plan.pools)
 
--- pool p has no bound and a bounded queue, so it may reject jobs
+-- pool p has no bound, and its queue is bounded; if the certificate accepts the plan, p may reject jobs
 abbrev pub may_reject_jobs : Plan → ℕ × PoolCert → Bool
 may_reject_jobs plan (p, part) = is_none part.bound && not (pool_at plan p).unbounded
 
--- what holds for all pools; a pool with a bounded queue and without a bound may reject jobs
+-- what holds for all pools, or for all but those that may reject jobs (`may_reject_jobs`)
 abbrev pub safe_words : Plan → Cert → List ℕ
 safe_words plan cert =
     if list_any (may_reject_jobs plan) (enumerate_from 0 cert.pools)

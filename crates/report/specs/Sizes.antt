@@ -26,7 +26,7 @@ changed declared fit = if declared == fit then 0 else 1
 abbrev pub any_changed : Pool → Pool → ℕ
 any_changed declared fit = if declared.core == fit.core && declared.max == fit.max && declared.queue == fit.queue then 0 else 1
 
--- the number of sizes of the pool that change; of a pool with an unbounded queue they count as one, because only its core has an effect
+-- the number of sizes of the pool that change; with an unbounded queue all changes count as one, because only the core has an effect
 abbrev pub pool_changes : Pool → Pool → ℕ
 pool_changes declared fit =
     if fit.unbounded then any_changed declared fit else changed declared.core fit.core + changed declared.max fit.max + changed declared.queue fit.queue

@@ -14,8 +14,8 @@ use serde_json::{Value, json};
 use std::alloc::{AllocError, Global};
 use weights::{Bound, Vector};
 
-/// Converts a pool's bound to JSON: its kind, its total and the shares in the total. The total is
-/// the maximum number of jobs in the queue at one time (`standing`), or of jobs that are ever
+/// Converts a pool's bound to JSON: its kind, its total and the shares in the total. The total
+/// bounds the number of jobs in the queue at one time (`standing`), or of jobs that are ever
 /// submitted to the pool (`lifetime`). The value is null if there is no bound, if its vector does
 /// not fit the plan, or if its total does not bound the jobs in an unbounded queue.
 pub(crate) fn bound_value(

@@ -1,7 +1,7 @@
 //! Pools as JSON: their sizes and the pools for which their jobs wait. If a certificate accepts the
 //! plan, also the bound of each queue and the maximum number of core threads that wait. Only a pool
-//! that may reject jobs by the plan has a member that says so, and one with the number of events
-//! after which it rejects a job.
+//! that may reject jobs by the plan has the members `may_reject` and `rejects_after`, the number of
+//! events after which it rejects a job.
 
 ghost use Rattle.std.specs.Prelude.{◌≡◌, IfOk, option_map, map, string_bytes};
 ghost use Rattle.serde_json.specs.Data.{array, string};

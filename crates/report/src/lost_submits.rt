@@ -1,4 +1,4 @@
-//! The bodies with submits to a pool whose jobs they never get, as text.
+//! Texts about the bodies that submit a job to a pool and never get it.
 
 ghost use Rattle.std.specs.Prelude.{◌≡◌, ◌++◌, IfOk, OnOk, flat_map, map, string_bytes};
 ghost use Rattle.report.specs.LostSubmits as spec;
@@ -6,9 +6,9 @@ ghost use Rattle.report.specs.LostSubmits as spec;
 use job_bodies::{Action, Class, Client, Plan, has_get_of};
 use std::alloc::{AllocError, Global};
 
-/// Returns a text for each body and each class of the pool with this index of which the body submits
-/// a job that it never gets, such as `client visitor submits append without a get`: first those of
-/// the client kinds, then those of the classes, each in plan order.
+/// Returns texts such as `client visitor submits append without a get`. There is one for each body
+/// and each class of the pool with this index if the body submits a job of the class that it never
+/// gets. The texts about client kinds come first, then those about classes, each in plan order.
 pub(crate) fn lost_texts(alloc: Global, plan: &Plan, pool: usize) -> Result<Vec<String>, AllocError>
     ensures { IfOk result
         (λ texts. map string_bytes texts.items ≡ spec.lost_texts plan.now pool) }
@@ -91,8 +91,8 @@ fn push_class(
     push_body(alloc, texts, plan, pool, "class", &class.name, &class.body)
 }
 
-/// Appends a text for each class of the pool of which the body submits a job that it never gets.
-/// `kind` and `name` are those of the body's class or client kind.
+/// Appends a text for each class of the pool if the body submits a job of the class that it never
+/// gets. `kind` and `name` are those of the body's class or client kind.
 fn push_body(
     alloc: Global,
     texts: &mut Vec<String>,
@@ -112,7 +112,8 @@ fn push_body(
     Ok(())
 }
 
-/// Appends the text for one class, if it belongs to the pool and the body never gets one of its jobs.
+/// Appends the text for one class, if the class belongs to the pool and the body submits a job of
+/// the class that it never gets.
 #[tactic(auto, using(std::proofs::lemmas::List::map_push))]
 fn push_lost(
     alloc: Global,

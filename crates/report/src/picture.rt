@@ -197,8 +197,9 @@ fn push_bound(
     }
 }
 
-/// Appends the bound of a queue, or, if there is none and the queue is bounded, that the pool may
-/// reject jobs. Appends nothing if the vector of the bound does not fit the plan.
+/// Appends the bound of the pool's queue. Without a bound, appends that the pool may reject jobs,
+/// or nothing if its queue is unbounded. Also appends nothing if the bound's vector does not fit
+/// the plan, or if its total does not bound the jobs in an unbounded queue.
 fn push_bound_of(
     text: &mut String,
     plan: &Plan,
@@ -217,7 +218,8 @@ fn push_bound_of(
     }
 }
 
-/// Returns what the picture says of a pool without a bound.
+/// Returns the text for a pool without a bound: it may reject jobs. The text is empty if its queue
+/// is unbounded.
 fn no_bound_words(pool: &Pool) -> &'static str
     ensures { result.now ≡ spec.no_bound_part pool.now }
 {

@@ -1,4 +1,4 @@
-//! The number of queue places that each pool needs, by a certificate.
+//! The number of queue places that are enough for each pool, by a certificate.
 
 ghost use Rattle.std.specs.Prelude.{◌≡◌, IfOk, nat_le};
 ghost use Rattle.std.specs.List.{list_all, enumerate_from};
@@ -11,10 +11,10 @@ use job_bodies::{Class, Plan};
 use std::alloc::{AllocError, Global};
 use weights::{Bound, Vector};
 
-/// Returns, for each pool of the certificate, the maximum number of jobs in its queue at once,
-/// which is the number of queue places that it needs. The number is `None` if the certificate does
-/// not bound it: the pool has a lifetime vector or no vector, its vector does not fit the plan, or
-/// its queue is unbounded and a queued job of the pool does not count in its vector.
+/// Returns, for each pool of the certificate, the number of queue places that are enough by its
+/// bound: the total of its standing vector. The number is `None` if the pool has a lifetime vector
+/// or no vector, if its vector does not fit the plan, or if its queue is unbounded and some queued
+/// job of the pool has no weight in the vector.
 ///
 /// # Errors
 ///
@@ -68,10 +68,10 @@ pub fn total_of(plan: &Plan, vector: &Vector) -> Option<u64>
     }
 }
 
-/// Returns whether the total of this bound of a pool is a bound of the pool's jobs: of those in its
-/// queue, or, if it is a lifetime vector, of those that are ever submitted to the pool. For a
-/// bounded queue the conditions on the bound demand this. For an unbounded queue they do not, so
-/// each job of the pool has to have a weight of at least 1.
+/// Returns whether the total of this bound limits the number of the pool's jobs: of those in its
+/// queue or, if the bound is a lifetime vector, of those that are ever submitted to the pool. For a
+/// bounded queue, the conditions on the bound demand this. For an unbounded queue they do not, so
+/// each job of the pool must have a weight of at least 1.
 pub(crate) fn bounds_jobs(plan: &Plan, pool: usize, bound: &Bound) -> bool
     ensures { result ≡ spec.bounds_jobs plan.now pool bound.now }
 {

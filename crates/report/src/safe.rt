@@ -35,7 +35,8 @@ pub(crate) fn push_safe(
     text.push('\n')
 }
 
-/// Returns what the certificate guarantees for all pools.
+/// Returns what the certificate guarantees for all pools, or for all but those that may reject
+/// jobs.
 pub(crate) fn safe_words(plan: &Plan, cert: &Cert) -> &'static str
     ensures { result.now ≡ spec.safe_words plan.now cert.now }
 {
@@ -56,7 +57,8 @@ fn any_may_reject(plan: &Plan, parts: &[PoolCert]) -> bool
         .any(|(number, part)| may_reject_jobs(plan, number, part))
 }
 
-/// Returns whether the pool with this number may reject jobs: it has no bound, and a bounded queue.
+/// Returns whether the pool with this number has no bound, and its queue is bounded. If a
+/// certificate accepts the plan, such a pool may reject jobs.
 fn may_reject_jobs(plan: &Plan, number: usize, part: &PoolCert) -> bool
     ensures { result ≡ spec.may_reject_jobs plan.now (number, part.now) }
 {
@@ -147,8 +149,7 @@ fn push_rest(
     push_pool_submits(text, plan, number, pool, bound)
 }
 
-/// Appends the lines of the submits to the pool, if its queue is bounded and it has no bound, so
-/// that it may reject jobs.
+/// Appends the lines of the submits to the pool, if it has no bound and its queue is bounded.
 fn push_pool_submits(
     text: &mut String,
     plan: &Plan,

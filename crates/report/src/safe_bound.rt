@@ -36,8 +36,9 @@ pub(crate) fn push_bound(
     text.push('\n')
 }
 
-/// Appends the capacity of the pool's queue, and its bound with the shares in it. If the pool has no
-/// bound, or its bound does not bound the jobs in an unbounded queue, appends what follows.
+/// Appends the capacity of the pool's queue, and its bound with the shares in it. If the pool has
+/// no bound, or if the total of its bound does not bound the jobs in an unbounded queue, appends
+/// the text for a queue without a bound.
 fn push_queue(
     alloc: Global,
     text: &mut String,
@@ -58,7 +59,8 @@ fn push_queue(
     }
 }
 
-/// Appends the capacity of the pool's queue, and what is known of the queue without a bound.
+/// Appends the text for a queue without a bound: its capacity, and why it has no bound or that the
+/// pool may reject jobs.
 fn push_open_queue(
     alloc: Global,
     text: &mut String,
@@ -107,8 +109,8 @@ fn push_no_bound(
     }
 }
 
-/// Appends why the unbounded queue of the pool has no bound: the bodies with submits to it whose jobs
-/// they never get, or, if there are none, that no bound is known.
+/// Appends why the unbounded queue of the pool has no bound: texts about the bodies that submit a
+/// job to the pool and never get it. If there are none, appends that no bound is known.
 fn push_growth(
     alloc: Global,
     text: &mut String,
