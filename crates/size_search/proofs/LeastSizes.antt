@@ -114,7 +114,7 @@ same_total plan other None same = refl
 same_total plan other (Some (Standing v)) same = same v
 same_total plan other (Some (Lifetime v)) same = same v
 
--- a bound requires a queue of a pool whose queue is not unbounded
+-- if the queue of a pool is bounded, the queue that a bound requires of it is `queue_of_bound`
 needed_if_bounded : (plan : Plan) (bound : Bound) (pool : Pool) → pool.unbounded ≡ false → queue_needed plan (Some bound) pool ≡ queue_of_bound plan bound pool
 needed_if_bounded plan bound pool bounded = ap (λ (b : Bool). cond b 0 (queue_of_bound plan bound pool)) bounded
 
@@ -176,7 +176,7 @@ pub cond-le-self : (b : Bool) (n : ℕ) → cond b n 0 ≤ n
 cond-le-self true n = omega arith
 cond-le-self false n = omega arith
 
--- an unbounded queue requires nothing
+-- the queue that is needed, which is 0 if the queue is unbounded, is at most q
 none_or_needed : (unbounded : Bool) (needed q : ℕ) → (unbounded ≡ false → needed ≤ q) → cond unbounded 0 needed ≤ q
 none_or_needed true needed q enough = omega arith
 none_or_needed false needed q enough = enough refl
@@ -190,7 +190,7 @@ needed_le plan (Some (Standing v)) pool other same max more within room =
 needed_le plan (Some (Lifetime v)) pool other same max more within room =
     none_or_needed pool.unbounded (queue_of_bound plan (Lifetime v) pool) other.queue (λ bounded. omega (arith, room (same ∙ bounded), max, more, within))
 
--- a queue that stays unchanged or is raised to what is needed is no larger than another one that is no smaller than both
+-- if q and `needed` are at most q', so is the queue that is q or, if it does not stay unchanged, the larger of q and `needed`
 kept_or_raised-le : (b : Bool) (q needed q' : ℕ) → q ≤ q' → needed ≤ q' → cond b q (max q needed) ≤ q'
 kept_or_raised-le true q needed q' no_smaller enough = no_smaller
 kept_or_raised-le false q needed q' no_smaller enough = omega arith
@@ -209,7 +209,7 @@ least_pool : (plan : Plan) (cert : PoolCert) (pool other : Pool) → HasRoom pla
 least_pool plan cert pool other room =
     kept_or_raised-le (needs_no_bound pool) pool.queue (queue_needed plan cert.bound (with_core plan cert.blocked pool)) other.queue room.queue (least_needed plan cert pool other room)
 
--- the queue that a bound requires does not depend on the queue that there is
+-- the queue that a bound requires of a pool does not depend on the pool's own queue
 needed_of_raised : (plan : Plan) (cert : PoolCert) (bound : Option Bound) (pool : Pool) → cert.bound ≡ bound → queue_needed plan bound (raised_pool plan cert pool) ≡ queue_needed plan bound (with_core plan cert.blocked pool)
 needed_of_raised plan cert None pool is = refl
 needed_of_raised plan cert (Some (Standing v)) pool is = refl

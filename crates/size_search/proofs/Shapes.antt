@@ -81,19 +81,19 @@ rows-shape NoWeight plan v = refl
 
 -- ---- the bound of a pool, without the total
 
--- S1 of each class of pool p
+-- the rows S1, one for each class of pool p
 abbrev pub queued_rows : Plan → ℕ → Vector → List Row
 queued_rows plan p v = map (λ entry. row S1 (place.Class entry.0) 1 (queued_weight v entry.0)) (classes_of plan p)
 
--- L1 of each pool, and the rows of bodies of a lifetime vector
+-- the rows L1, one for each pool, and the rows of bodies of a lifetime vector
 abbrev pub lifetime_body : Plan → Vector → List Row
 lifetime_body plan v = map (λ entry. row L1 (place.Worker entry.0) (workers_weight v entry.0) 0) (enumerate_from 0 plan.pools) ++ rows NoWeight plan v
 
--- L2 of each weight of each class of pool p
+-- the rows L2, one for each weight of each class of pool p
 abbrev pub done_rows : Plan → ℕ → Vector → List Row
 done_rows plan p v = flat_map (λ entry. map (λ weight. row L2 (place.Class entry.0) 1 weight) (class_weights v entry.0)) (classes_of plan p)
 
--- an unbounded queue has no rows S1 and L2
+-- the rows of a bound, without the total; if the queue is unbounded, also without S1 and L2
 abbrev pub bound_body : Plan → ℕ → Bound → List Row
 bound_body plan p (Standing v) = rows DoneWeight plan v ++ cond (pool_at plan p).unbounded [] (queued_rows plan p v)
 bound_body plan p (Lifetime v) = lifetime_body plan v ++ cond (pool_at plan p).unbounded [] (done_rows plan p v)

@@ -103,7 +103,7 @@ either_pool : (b : Bool) → (b ≡ false → ⊥) → (b ≡ true → ⊥) → 
 either_pool true needs none = none refl
 either_pool false needs none = needs refl
 
--- if no cause holds, and no submit to a pool that needs no bound is made forever and never got, no submit at all is
+-- if `IsWithoutCause` holds and `LosesWithoutBound` does not, `IsAllGot` holds
 pub all_got : (plan : Plan) → IsWithoutCause plan → ¬ LosesWithoutBound plan → IsAllGot plan
 all_got plan free none = record {
   no_circle = free.no_circle;

@@ -40,7 +40,7 @@ vector-pools : (plan : Plan) (pools : List Pool) → length pools ≡ length pla
 vector-pools plan pools as_many =
     by_rows _ _ _ _ _ _ (constants zero pools plan.pools as_many) (ap (λ (v : Vector). v.classes) (jobs_within-pools plan pools (length plan.classes))) (clients-pools plan pools)
 
--- the part of a pool that needs no bound, or needs one
+-- the part of a pool; the pool needs no bound if `boundless` is true
 abbrev part_of : Vector → Bool → PoolCert
 part_of v boundless = record { bound = bound_of v boundless; blocked = v }
 
@@ -50,7 +50,7 @@ cert_of pools ranks reach levels = record { pools = pools; ranks = record { pool
 by_parts : (p p' : List PoolCert) (r r' h l l' : List ℕ) → p' ≡ p → r' ≡ r → l' ≡ l → cert_of p' r' h l' ≡ cert_of p r h l
 by_parts p p' r r' h l l' pools ranks levels = rw (pools, ranks, levels) refl
 
--- pools of which the same need a bound have the same parts
+-- two lists of pools have the same parts if they have the same length and the same positions need no bound
 same_parts : (v : Vector) (pools others : List Pool) → length pools ≡ length others → ((p : ℕ) → p < length pools → needs_no_bound (get_or pools p no_pool) ≡ needs_no_bound (get_or others p no_pool)) → map (pool_of v) pools ≡ map (pool_of v) others
 same_parts v [] [] long same = refl
 same_parts v [] (other ∷ others) long same = absurd (omega (arith, long))

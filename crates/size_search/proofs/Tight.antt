@@ -1,4 +1,4 @@
--- The raised pools that the test of a queue reads.
+-- Facts about the raised pools, which `is_tight` reads.
 use Rattle.std.proofs.Common.{◌≡◌, ℕ, ◌<◌, ◌^◌, List, length, get_or, ap, ◌∙◌, arith}
 use Rattle.std.specs.Prelude.{IsTrue}
 use Rattle.std.proofs.lemmas.List.{get_or_default}

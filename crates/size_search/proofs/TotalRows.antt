@@ -45,7 +45,7 @@ of_no_total-append : (xs ys : List Row) → OfNoTotal xs → OfNoTotal ys → Of
 of_no_total-append xs ys first second =
     list_all-append (λ x. not (is_total x.place)) xs ys ∙ ap₂ (λ a b. a && b) first second
 
--- if the rows are no totals, nor are they if a queue that is unbounded has none of them
+-- if no row of a list is a total, none is after an unbounded queue has removed all rows
 of_no_total-cond : (unbounded : Bool) (xs : List Row) → OfNoTotal xs → OfNoTotal (cond unbounded [] xs)
 of_no_total-cond true xs all = refl
 of_no_total-cond false xs all = all
@@ -125,7 +125,7 @@ abbrev bound_total : Plan → ℕ → Bound → Row
 bound_total plan p (Standing v) = row S2 place.Total (total plan v) (pool_at plan p).queue
 bound_total plan p (Lifetime v) = row L3 place.Total (total plan v) (lifetime_limit (pool_at plan p))
 
--- an unbounded queue has no total
+-- the row of the total of a bound; none if the queue is unbounded
 abbrev bound_totals : Plan → ℕ → Bound → List Row
 bound_totals plan p bound = cond (pool_at plan p).unbounded [] (bound_total plan p bound ∷ [])
 
@@ -137,7 +137,7 @@ bound_rows-split : (plan : Plan) (p : ℕ) (bound : Bound) → bound_rows plan p
 bound_rows-split plan p (Standing v) = split-cond (pool_at plan p).unbounded (rows DoneWeight plan v) (queued_rows plan p v) (bound_total plan p (Standing v) ∷ [])
 bound_rows-split plan p (Lifetime v) = split-cond (pool_at plan p).unbounded (lifetime_body plan v) (done_rows plan p v) (bound_total plan p (Lifetime v) ∷ [])
 
--- the row is the total of a bound, whose queue is not unbounded
+-- the row `x` is the row `t` of a total, and the queue is bounded
 record IsTotal (t x : Row) (unbounded : Bool) : Type 0 where
   is : x ≡ t
   bounded : unbounded ≡ false
@@ -317,7 +317,7 @@ totals_where_accepted plan cert is_accepted =
 hold_with : (rows : List Row) (t : Row) → AllHold rows → t.left ≤ t.right → AllHold (rows ++ t ∷ [])
 hold_with rows t hold within x i = ⊎_elim (λ before. hold x before) (λ (last : x ≡ t). subst (λ (y : Row). y.left ≤ y.right) (sym last) within) (In-push_cases rows t i)
 
--- the rows of a bound hold if its total is within its limit, or its queue is unbounded, and the others hold
+-- the rows of a bound hold if all rows except the total hold, and the total is within its limit or the queue is unbounded
 bound_rows_hold : (plan : Plan) (p : ℕ) (bound : Option Bound) → AllHold (optional_body plan p bound) → ((pool_at plan p).unbounded ≡ false → total_of plan bound ≤ limit_of plan p bound) → BoundRowsHold plan p bound
 bound_rows_hold plan p None hold within = tt
 bound_rows_hold plan p (Some bound) hold within = subst AllHold (sym (bound_rows-split plan p bound)) each

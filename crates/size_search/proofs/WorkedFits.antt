@@ -101,7 +101,7 @@ rejecting_bound_fits = refl
 pub rejecting_smallest : fitted (smallest (rejecting 2 2 9 2)) (standing_cert 1) ≡ Some (rejecting 1 2 9 2)
 rejecting_smallest = refl
 
--- the blocked bound can need a larger core, and a larger maximum with it
+-- the blocked vector can need a larger core, and a larger maximum with it
 pub rejecting_core : why_unfit (nested_rejecting 1) nested_cert_without_bound ≡ Some (Core 0)
 rejecting_core = refl
 
@@ -114,7 +114,7 @@ rejecting_widened = refl
 pub unbounded_bound : fitted (unbounded_queue 1 1000000) (standing_cert 1000000000) ≡ Some (unbounded_queue 1 1000000)
 unbounded_bound = refl
 
--- the blocked bound can need a larger core, and the maximum stays equal to it
+-- the blocked vector can need a larger core, and a larger maximum with it
 pub unbounded_core : why_unfit (nested_unbounded 1) nested_cert_without_bound ≡ Some (Core 0)
 unbounded_core = refl
 

@@ -13,8 +13,8 @@ pub record MarksSubmitted (plan : Plan) (marks : List Bool) : Type 0 where
   pub as_many : length marks ≡ length plan.classes
   pub submitted : (k : ℕ) → (slice_index_or marks k false ≡ true) ↔ IsSubmitted plan (client_bodies plan) k
 
--- the marks have one entry for each class, which is true exactly when clients of kinds that repeat submit the class, directly or through
--- other jobs
+-- there is one mark for each class, and it is true exactly when clients of kinds that repeat submit the class, directly or through other
+-- jobs
 pub record MarksRepeated (plan : Plan) (marks : List Bool) : Type 0 where
   pub as_many : length marks ≡ length plan.classes
   pub submitted : (k : ℕ) → (slice_index_or marks k false ≡ true) ↔ IsSubmitted plan (repeated_bodies plan) k

@@ -119,7 +119,7 @@ pub record FittedSizesAreLeast : Type 0 where
 abbrev pub AcceptedPlansFit : Type 0
 AcceptedPlansFit = (plan : Plan) (cert : Cert) → IsWellFormed plan → IsTrue (accepted plan cert) → fitted plan cert ≡ Some plan
 
--- the limit of the total of the bound of pool p, unless its queue is unbounded; 0 if there is no bound
+-- the limit of the total of the bound of pool p; 0 if there is no bound. If the queue of p is unbounded, the limit has no effect
 abbrev pub limit_of : Plan → ℕ → Option Bound → ℕ
 limit_of plan p None = 0
 limit_of plan p (Some bound) = bound_limit plan p bound

@@ -35,8 +35,8 @@ pub record HasSizes (plan : Plan) : Type 0 where
   pub same_outline : outline other ≡ outline plan
   pub accepts : IsTrue (accepted other cert)
 
--- for a plan whose steady weights are within their limit, and whose steady total is below the limit of sizes: sizes with
--- which some certificate accepts the plan exist exactly when the plan has no cause. This is said only of plans in which no repeating
--- client causes a submit that is never got, to a pool that needs no bound; without such a pool, it is said of every plan.
+-- sizes with which some certificate accepts the plan exist exactly when the plan has no cause. Three premises: the steady weights are
+-- within their limit, the steady total is below the limit of sizes, and no repeating client causes a submit that is never got, to a pool
+-- that needs no bound (`LosesWithoutBound`).
 abbrev pub SizesExist : Type 0
 SizesExist = (plan : Plan) → IsWellFormed plan → IsTrue (has_small_numbers (steady_vector plan)) → steady_total plan < MAX_SIZE → ¬ LosesWithoutBound plan → HasSizes plan ↔ IsWithoutCause plan

@@ -37,8 +37,8 @@ IsSteadyTooLarge plan = (has_small_numbers (steady_vector plan) ≡ false) ⊎ (
 abbrev pub IsTooLarge : Plan → Type 0
 IsTooLarge plan = IsSteadyTooLarge plan ⊎ LosesWithoutBound plan
 
--- the result is true of the plan: the sizes that were found are `IsSized`, or the cause that was found holds, or the steady certificate is
--- too large (`IsTooLarge`) and the pool that is named exists
+-- the result is true of the plan: the sizes that were found are `IsSized`, the cause that was found holds, or `IsTooLarge` holds and the
+-- pool that is named exists
 abbrev pub IsFound : Plan → SizesFound → Type 0
 IsFound plan (Found fit cert) = IsSized plan cert fit
 IsFound plan (NotFound (Cause cause)) = IsCause plan cause

@@ -48,12 +48,14 @@ pub record IsAllGot (plan : Plan) : Type 0 where
 abbrev pub goes_without_bound : Plan → List Action → ℕ → Bool
 goes_without_bound plan body i = needs_no_bound (pool_at plan (class_at plan (submitted_class body i)).pool)
 
--- clients of a kind that repeats never get the job that they submit at position i, and its pool needs no bound, or needs one
+-- clients of a kind that repeats never get the job that they submit at position i. If `without_bound` is true, the pool of that job needs
+-- no bound; if it is false, the pool needs one
 pub record LostByClients (plan : Plan) (without_bound : Bool) (c i : ℕ) : Type 0 where
   pub never_got : NeverGotByClients plan c i
   pub of_pool : goes_without_bound plan (client_at plan c).body i ≡ without_bound
 
--- jobs that repeating clients cause never get the job that they submit at position i, and its pool needs no bound, or needs one
+-- jobs that repeating clients cause never get the job that they submit at position i. If `without_bound` is true, the pool of that job
+-- needs no bound; if it is false, the pool needs one
 pub record LostByJobs (plan : Plan) (without_bound : Bool) (k i : ℕ) : Type 0 where
   pub never_got : NeverGotByJobs plan k i
   pub of_pool : goes_without_bound plan (class_at plan k).body i ≡ without_bound

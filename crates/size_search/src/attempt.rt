@@ -21,8 +21,8 @@ pub(crate) struct Attempt {
     /// plan declares.
     pub(crate) cost: u64,
     /// The largest number of pools from which a round had to choose the pool whose core it raises.
-    /// It is 0 if each round had a pool with a large enough core. Only the first execution of the
-    /// rounds counts, and not their repetitions because a maximum grew.
+    /// It is 0 if each round had a pool with a large enough core. The rounds are repeated when a
+    /// maximum grew, but only their first execution counts.
     pub(crate) choices: usize,
 }
 

@@ -9,11 +9,11 @@ use least_vectors::Kind;
 use std::alloc::Global;
 use weights::Bound;
 
-/// Returns the vector that bounds the pool's queue, or `None` if the pool may reject jobs and the
-/// search finds no vector that its queue is large enough for, or if the queue is unbounded and the
-/// search finds no standing vector. `pool_threads` has the current core and maximum of this pool,
-/// and `maxes` has the current maximums of all pools. Returns this pool as the obstacle if it needs
-/// a bound and the search finds no vector.
+/// Returns the vector that bounds the pool's queue. For an unbounded queue, returns `None` if the
+/// search finds no standing vector. For a bounded queue of a pool that may reject jobs, returns
+/// `None` if the search finds no vector for which the queue is large enough. For any other pool,
+/// returns the pool as the obstacle if the search finds no vector. `pool_threads` has the current
+/// core and maximum of this pool, and `maxes` has the current maximums of all pools.
 pub(crate) fn bound_of(
     alloc: Global,
     cache: &mut VectorCache,

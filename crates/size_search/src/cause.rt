@@ -6,10 +6,10 @@ pub enum Cause {
     /// The class with this number submits itself, directly or through other classes.
     Circle(usize),
     /// Clients of the kind with this number repeat, and never get the job that they submit at this
-    /// position of their body. The job's pool must not reject jobs, and its queue is not unbounded.
+    /// position of their body. The pool of that job must not reject jobs and has a bounded queue.
     ClientNeverGets(usize, usize),
     /// Jobs of the class with this number never get the job that they submit at this position of
-    /// their body. The pool of that job must not reject jobs, and its queue is not unbounded.
-    /// Repeating clients submit jobs of the class, directly or through other jobs.
+    /// their body. The pool of that job must not reject jobs and has a bounded queue. Repeating
+    /// clients submit jobs of the class, directly or through other jobs.
     ClassNeverGets(usize, usize),
 }

@@ -85,9 +85,9 @@ fn submits_itself(alloc: Global, plan: &Plan, number: usize) -> Result<bool, All
 }
 
 /// Returns the first submit without a get in the body of a client kind that repeats, as the number
-/// of the client kind and the position of the submit. Considers only submits to pools that need no
-/// bound or, if `without_bound` is false, only those to other pools. Returns `None` if there is
-/// none.
+/// of the client kind and the position of the submit. If `without_bound` is true, considers only
+/// submits to pools that need no bound, and otherwise only submits to the other pools. Returns
+/// `None` if there is none.
 fn lost_by_clients(plan: &Plan, without_bound: bool) -> Option<(usize, usize)>
     ensures lost { IfSome result (λ found. LostByClients plan.now without_bound found.0 found.1) }
     ensures none { IfNone result ((c i : ℕ) → ¬ LostByClients plan.now without_bound c i) }
@@ -104,10 +104,10 @@ fn lost_by_clients(plan: &Plan, without_bound: bool) -> Option<(usize, usize)>
 }
 
 /// Returns the first submit without a get in the body of a class in `submitted_classes`, as the
-/// number of the class and the position of the submit. The set must have the classes that repeating
-/// clients submit, directly or through other jobs. Considers only submits to pools that need no
-/// bound or, if `without_bound` is false, only those to other pools. Returns `None` if there is
-/// none.
+/// number of the class and the position of the submit. `submitted_classes` must have exactly the
+/// classes that repeating clients submit, directly or through other jobs. If `without_bound` is
+/// true, considers only submits to pools that need no bound, and otherwise only submits to the
+/// other pools. Returns `None` if there is none.
 fn lost_by_jobs(
     plan: &Plan,
     submitted_classes: &SubmittedClasses,
@@ -128,9 +128,9 @@ fn lost_by_jobs(
     None
 }
 
-/// Returns the position of the first submit of the body that has no get and goes to a pool that
-/// needs no bound or, if `without_bound` is false, to another pool. Returns `None` if there is
-/// none.
+/// Returns the position of the first submit of the body that has no get. If `without_bound` is
+/// true, considers only submits to pools that need no bound, and otherwise only submits to the
+/// other pools. Returns `None` if there is none.
 fn submit_without_get(plan: &Plan, body: &[Action], without_bound: bool) -> Option<usize>
     ensures found { IfSome result
         (λ i. IsNeverGot body.now i × (goes_without_bound plan.now body.now i ≡ without_bound)) }

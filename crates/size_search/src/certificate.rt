@@ -1,6 +1,6 @@
-//! The steady certificate of a plan: a certificate in which one vector is both the standing vector
-//! and the blocked vector of every pool. A pool that needs no bound, because it may reject jobs or
-//! its queue is unbounded, has no standing vector.
+//! The steady certificate of a plan: a certificate in which one vector is the blocked vector of
+//! every pool, and also the standing vector of every pool that needs a bound. A pool needs none if
+//! it may reject jobs or its queue is unbounded.
 
 ghost use Rattle.std.specs.Prelude.{◌≡◌, IfOk, IfSome, IfNone, true, false, map};
 ghost use Rattle.weights.specs.Vector.{has_small_numbers};
@@ -106,8 +106,7 @@ fn pools_of(alloc: Global, plan: &Plan, vector: &Vector) -> Result<Vec<PoolCert>
 /// through other classes.
 ///
 /// With large enough sizes, this certificate accepts the plan if no repeating client causes a
-/// submit that is never got. It does not depend on the queue of a pool that may reject jobs, or
-/// that is unbounded.
+/// submit that is never got. The queues of pools that may reject jobs need not be large.
 ///
 /// # Errors
 ///

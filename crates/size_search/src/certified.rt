@@ -35,8 +35,8 @@ pub(crate) fn cert_of(
 }
 
 /// Returns the bound and the blocked vector of each pool. A pool that may reject jobs has a bound
-/// only if its queue is large enough for it, and a pool with an unbounded queue only if it has a
-/// standing vector.
+/// only if its queue is large enough for one. A pool with an unbounded queue has a bound only if
+/// the search finds a standing vector.
 fn pool_certs(
     alloc: Global,
     cache: &mut VectorCache,

@@ -137,7 +137,8 @@ fn failing_elsewhere(alloc: Global, plan: &Plan, cert: &Cert) -> Result<Option<N
 }
 
 /// Returns whether the queue of the raised pool with this number is smaller than the certificate
-/// needs. This is possible only if the pool may reject jobs, so that its queue stays unchanged.
+/// needs. This is possible only if the pool may reject jobs, because the queue of such a pool stays
+/// unchanged.
 fn is_tight(plan: &Plan, cert: &Cert, raised: &[Pool], number: usize) -> bool
     requires well_formed { IsWellFormed plan.now }
     requires fits { IsTrue (cert_fits plan.now cert.now) }
@@ -207,8 +208,8 @@ fn unfit(
 /// and the reason.
 ///
 /// The queue of a pool that may reject jobs or has an unbounded queue stays unchanged. If the
-/// certificate has a bound of a pool that may reject jobs, the queue must be large enough for it,
-/// unless it is unbounded.
+/// certificate bounds the queue of a pool that may reject jobs, this queue must already be as large
+/// as the bound requires, unless the queue is unbounded.
 ///
 /// # Errors
 ///

@@ -1,6 +1,6 @@
-//! The least sizes for the steady certificate, in which one vector is both the bound and the
-//! blocked vector of every pool, except that a pool that may reject jobs or has an unbounded queue
-//! has no bound. They are used if the rounds find no sizes.
+//! The least sizes for the steady certificate, which are used if the rounds find no sizes. In that
+//! certificate, one vector is the blocked vector of every pool, and also the bound of every pool
+//! that needs one. A pool needs none if it may reject jobs or has an unbounded queue.
 
 ghost use Rattle.std.specs.Prelude.{◌≡◌, ◌≤◌, IfOk, IfSome, IfNone, IsTrue};
 ghost use Rattle.job_bodies.specs.WellFormed.{IsWellFormed};
@@ -20,8 +20,8 @@ use job_bodies::Plan;
 use std::alloc::{AllocError, Global};
 
 /// Returns the plan with the least sizes that its steady certificate needs, or
-/// [`NoSizes::TooLarge`] if they are too large or no sizes are enough. `TooLarge` names the pool of
-/// `obstacle`, at which the attempt to find sizes by rounds failed.
+/// [`NoSizes::TooLarge`] if these sizes are too large or no sizes are enough. `TooLarge` names the
+/// pool of `obstacle`, at which the attempt to find sizes by rounds failed.
 pub(crate) fn fit_steady(
     alloc: Global,
     plan: &Plan,

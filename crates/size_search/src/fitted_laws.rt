@@ -20,8 +20,8 @@ pub fn accepted_plans_fit()
 {}
 
 /// States that a certificate that accepts a plan also accepts it with other cores and queues. This
-/// holds if no core becomes smaller, and if no pool whose queue is not unbounded then has a smaller
-/// limit on the total of its bound.
+/// holds if no core becomes smaller, and if the limit on the total of a bound does not become
+/// smaller either. For an unbounded queue, that limit does not matter.
 pub fn larger_sizes_are_accepted()
     ensures { LargerSizesAreAccepted }
 {}

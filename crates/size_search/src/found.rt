@@ -21,11 +21,11 @@ pub enum SizesFound {
 pub enum NoSizes {
     /// No certificate accepts the plan with any sizes, for this reason. The plan can still be safe.
     Cause(Cause),
-    /// The plan's steady certificate needs sizes above 1,000,000 or has a weight above
-    /// [`MAX_WEIGHT`](job_bodies::MAX_WEIGHT), or no size is enough for it, because a submit to a
-    /// pool that may reject jobs or has an unbounded queue is made forever and never got. The first
-    /// attempt failed at the pool with this number. The number is 0 if it failed at no particular
-    /// pool. Other sizes can exist.
+    /// The plan's steady certificate is too large: it needs sizes above 1,000,000, or it has a
+    /// weight above [`MAX_WEIGHT`](job_bodies::MAX_WEIGHT). The reason can also be that no size is
+    /// enough for it, because a submit that is made forever and never got goes to a pool that may
+    /// reject jobs or has an unbounded queue. The first attempt failed at the pool with this
+    /// number. The number is 0 if that attempt failed at no particular pool. Other sizes can exist.
     TooLarge(usize),
 }
 

@@ -22,9 +22,9 @@ impl PoolThreads {
         }
     }
 
-    /// Returns the amount by which `core` exceeds the current core, plus the amount by which it
-    /// exceeds the maximum. An amount is 0 if `core` is not larger. The maximum of a pool with an
-    /// unbounded queue does not count.
+    /// Returns the amount by which `core` exceeds the current core, plus the amount by which `core`
+    /// exceeds the maximum. Each amount is 0 if `core` is not larger. If the queue is unbounded,
+    /// the second amount is left out.
     pub(crate) fn shortfall(self, core: u64) -> u64 {
         self.raised(core).growth(self)
     }

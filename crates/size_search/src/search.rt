@@ -44,15 +44,16 @@ const FEW_POOLS: usize = 8;
 /// of increases.
 ///
 /// The queue of a pool that may reject jobs or has an unbounded queue stays unchanged. The
-/// certificate has a bound of such a pool only if the search finds one that its queue is large
-/// enough for. An unbounded queue is large enough for each standing vector.
+/// certificate has a bound of such a pool only if the search finds a vector for which the queue is
+/// large enough. An unbounded queue is large enough for each standing vector.
 ///
-/// The *steady certificate* of a plan has one vector that is both the bound and the blocked vector
-/// of every pool, except that a pool that may reject jobs or has an unbounded queue has no bound.
-/// It is too large if it needs sizes above 1,000,000 or has a weight above
-/// [`MAX_WEIGHT`](job_bodies::MAX_WEIGHT), or if no size is enough for it, because a submit to a
-/// pool that needs no bound is made forever and never got. If no attempt succeeds, the result is
-/// the steady certificate with the least sizes for it, unless it is too large.
+/// The *steady certificate* of a plan has one vector, which is the blocked vector of every pool,
+/// and also the bound of every pool that needs one. A pool needs no bound if it may reject jobs or
+/// has an unbounded queue. The steady certificate is too large if it needs sizes above 1,000,000 or
+/// has a weight above [`MAX_WEIGHT`](job_bodies::MAX_WEIGHT). It is also too large if a submit to a
+/// pool that needs no bound is made forever and never got, because no size is enough then. If no
+/// attempt succeeds, the result is the steady certificate with the least sizes for it, unless it is
+/// too large.
 ///
 /// If no sizes are found, one of these is the reason:
 ///

@@ -1,7 +1,7 @@
 //! The law of steady certificates, as the contract of a function with an empty body. In the steady
-//! certificate of a plan, one vector is both the standing and the blocked vector of every pool,
-//! except that a pool that needs no bound, because it may reject jobs or its queue is unbounded,
-//! has no standing vector.
+//! certificate of a plan, one vector is the blocked vector of every pool, and also the standing
+//! vector of every pool that needs a bound. A pool needs none if it may reject jobs or its queue is
+//! unbounded.
 
 ghost use Rattle.size_search.specs.SteadyLaws.{SteadyCertificatesAccept};
 

@@ -19,8 +19,8 @@ pub enum Unfit {
     /// The core of the pool with this number would be above the pool's maximum or, if maximums can
     /// be raised, above 1,000,000.
     Core(usize),
-    /// The queue of the pool with this number would be above 1,000,000, or would have to grow although
-    /// the pool may reject jobs, so that its queue stays unchanged. An unbounded queue is never the
+    /// The queue of the pool with this number would have to be above 1,000,000, or it is too small
+    /// and stays unchanged because the pool may reject jobs. An unbounded queue is never the
     /// reason.
     Queue(usize),
 }
