@@ -1,6 +1,6 @@
 //! Hints for standard error, which follow an answer or a fault. A hint says that a file lacks its
-//! second text, has a text of another kind or has wrong line ends, or why a file could not be read
-//! or written.
+//! second text, has a text of another kind or has wrong line ends. Other functions return why a
+//! file could not be read or written.
 
 use sizing_cli::{
     Command, RecordingCommand, ReviewCommand, StdFiles, Task, TextFiles, bundle_of, most_bytes,
@@ -92,8 +92,8 @@ fn is_directory(rt: &impl Files, name: &str) -> bool {
 }
 
 /// Returns the name of a file that the arguments `words` name, and a hint about a likely mistake in
-/// it. Is called after the command found a fault in a text. Returns `None` if no file shows a known
-/// mistake.
+/// it. To be called after the command found a fault in a text. Returns `None` if no file shows a
+/// known mistake.
 pub(crate) fn hint_of<'a>(
     rt: &impl Files,
     alloc: Global,
