@@ -30,7 +30,7 @@ const POOLS_OF_A_WORKER: usize = 16;
 
 /// Searches for a certificate in at most `workers` threads. If that search finds none, searches for
 /// sizes, and returns the certificate of these sizes if it also accepts the declared ones, and
-/// otherwise `None`. So `certify` finds a certificate whenever `fit` changes nothing.
+/// otherwise `None`. So `certify` finds a certificate if `fit` changes no size.
 ///
 /// # Errors
 ///

@@ -18,10 +18,11 @@ use job_bodies::MAX_CERT_BYTES;
 use serde_json::Value;
 use std::alloc::{AllocError, Global};
 
-/// Returns an error if a certificate may not be written to the file `name`: the name is `-` or that
-/// of a directory, or a regular file of this name cannot be read or holds a text that is neither
-/// empty nor a certificate. So a misplaced argument overwrites no other text. If `name` is `None`,
-/// no certificate is to be written, and there is no error. Also fails if memory runs out.
+/// Returns an error if a certificate may not be written to the file `name`, so that a misplaced
+/// argument overwrites no other text. The name must be neither `-` nor that of a directory. A
+/// regular file of this name must be readable, and must be empty or hold a JSON object with the
+/// keys of a certificate. If `name` is `None`, no certificate is to be written, and there is no
+/// error. Also fails if memory runs out.
 pub(crate) fn ensure_replaceable<'a, F: TextFiles>(
     alloc: Global,
     files: &F,

@@ -25,9 +25,9 @@ use std::thread::Threads;
 /// The maximum number of states in which a witness is searched for.
 const STATES: usize = DEFAULT_STATES as usize;
 
-/// Finds out whether a plan is safe. Returns the finding, and whether a certificate was given that
-/// is stale, which means that it does not accept the plan. Tries the given certificate first, if
-/// there is one. Then searches for a certificate, and if it finds none, for a witness and for other
+/// Finds out whether a plan is safe. Returns the finding, and whether the given certificate is
+/// stale, which means that it does not accept the plan. Tries the given certificate first, if there
+/// is one. Then searches for a certificate, and if it finds none, for a witness and for other
 /// sizes.
 ///
 /// # Errors
@@ -99,8 +99,8 @@ fn without_certificate(alloc: Global, plan: &Plan) -> Result<PlanFinding, AllocE
     }
 }
 
-/// Returns the finding for a plan without a witness: safe if the certificate of the sizes that were
-/// found accepts the declared ones, and otherwise undecided.
+/// Returns the finding for a plan for which no witness was found: safe if the certificate of the
+/// sizes that were found accepts the declared ones, and otherwise undecided.
 fn without_witness(alloc: Global, plan: &Plan, sizes: SizesFound) -> Result<PlanFinding, AllocError>
     requires known { IsKnown plan.now sizes }
     requires not_steady { accepted plan.now (steady_cert plan.now) ≡ false }

@@ -132,9 +132,9 @@ fn declared_warnings(
     Ok(warnings)
 }
 
-/// Returns, for each pool, the maximum number of jobs in its queue at once, or `None` if the
-/// certificate does not bound it. The certificate is that of the plan or, if the plan has none,
-/// that of the sizes that were found. The list is empty if there is no certificate.
+/// Returns, for each pool, the number of queue places that are enough by the certificate, or `None`
+/// if the certificate shows no such number. The certificate is that of the plan or, if the plan has
+/// none, that of the sizes that were found. The list is empty if there is no certificate.
 fn needed_of(
     alloc: Global,
     plan: &Plan,

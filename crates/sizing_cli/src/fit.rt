@@ -29,8 +29,8 @@ use std::thread::Threads;
 use support::number::MIXED;
 
 /// Searches for sizes that a certificate accepts. Returns them as lines, or as the bundle of the
-/// plan with those sizes and the certificate, or returns the reason why there are none or why the
-/// bundle would be too long. The input is a plan's text.
+/// plan with those sizes and the certificate. If none are found, or if the bundle would be too
+/// long, returns the reason. The input is a plan's text.
 ///
 /// # Errors
 ///
@@ -70,8 +70,8 @@ fn fit_plan<R: Threads + Wait + Sync>(
     answer_of_sizes(rt, alloc, sizes_form, plan, &found)
 }
 
-/// Returns the answer for the result of a search for sizes: the lines of the sizes or the bundle,
-/// or the reason why there are none.
+/// Returns the answer for the result of a search for sizes: the lines of the sizes, the bundle, or
+/// the reason why there is neither.
 ///
 /// # Errors
 ///
@@ -162,7 +162,8 @@ fn bundle<R: Threads + Wait + Sync>(
 }
 
 /// Writes the bundle of the plan `fit`, which has the sizes that were found, and of its
-/// certificate. If one of the two texts would be too long to be read back, writes that instead.
+/// certificate. If one of the two texts would be too long to be read back, writes only that a text
+/// is too long.
 fn bundle_of_sizes<R: Threads + Wait + Sync>(
     rt: &R,
     alloc: Global,

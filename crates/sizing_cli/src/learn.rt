@@ -77,11 +77,12 @@ fn learn_from_all(alloc: Global, strict: bool, recording: &[u8]) -> Result<Answe
     }
 }
 
-/// Writes the inferred plan, in which the pools that reject jobs in the recording may reject jobs,
-/// after comments that list what the recording shows beyond the plan. Returns `None` if the plan
-/// does not explain the recording: a job or a round follows no body of the plan, it is undecided
-/// whether it follows one, or there are more rounds of a kind than the plan allows. If the text
-/// would be too long, the answer says so. A round is one pass of a client through its body.
+/// Writes comments that list what the recording shows beyond the inferred plan, and then that plan.
+/// Pools of the plan may reject jobs if they reject jobs in the recording. Returns `None` if the
+/// plan does not explain the recording: a job or a round follows no body of the plan, it is
+/// undecided whether it follows one, or there are more rounds of a kind than the plan allows. If
+/// the text would be too long, the answer says so. A round is one pass of a client through its
+/// body.
 fn plan_answer(
     alloc: Global,
     strict: bool,

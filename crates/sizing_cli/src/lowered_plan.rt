@@ -27,8 +27,8 @@ pub(crate) struct LoweredPlan {
 /// Searches for a certificate of the plan with each maximum lowered to the core size of its pool.
 /// Returns `None` if it finds none. Also returns `None`, without a search, if `finding` already
 /// says whether the plan is safe, or if no maximum is above its core size. A plan that is not safe
-/// needs no search: until the lowered plan refuses a submit, both plans behave alike, so the
-/// lowered plan is not safe either.
+/// needs no search if none of its pools may reject jobs: until the lowered plan refuses a submit,
+/// both plans behave alike, so the lowered plan is not safe either.
 ///
 /// # Errors
 ///

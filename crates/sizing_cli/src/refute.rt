@@ -132,7 +132,7 @@ fn story(alloc: Global, plan: &Plan, witness: &Witness) -> Result<Answer, AllocE
 }
 
 /// Writes the bundle of the plan's text and the event lines of the witness. If these lines are too
-/// long, writes that instead.
+/// long, writes only that they are.
 fn bundle(
     alloc: Global,
     plan: &Plan,

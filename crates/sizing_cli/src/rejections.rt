@@ -12,8 +12,8 @@ use std::alloc::{AllocError, Global};
 const STATES: usize = 100_000;
 
 /// Returns, for each pool of the certificate, the number of events after which the pool rejects a
-/// job, or `None` if no such events were found. Searches only for the pools without a bound: a pool
-/// with a bound never rejects a job.
+/// job, or `None` if no such events were found. Searches only for the pools without a bound: if the
+/// certificate accepts the plan, a pool with a bound never rejects a job.
 #[tactic(auto, using(crate::proofs::RejectionLists::one_more))]
 pub(crate) fn rejections_of(
     alloc: Global,

@@ -52,9 +52,14 @@ impl Status {
     }
 }
 
-/// The fault of a command that gave no complete answer. The numbers are 20 (`Memory`), 41
-/// (`Strange`, a run), 42 (`Mixed`, a run, a search, or a check that contradicts a search), 43
-/// (`Gate`, a run, a search or a check on threads), 60 (`ReadFailed`) and 61 (`WriteFailed`).
+/// The fault of a command that gave no complete answer. A command ends with one of these numbers:
+///
+/// - 20 (`Memory`): memory ran out, or a thread could not be started.
+/// - 41 (`Strange`): the fault of a run.
+/// - 42 (`Mixed`): the fault of a run or a search, or a check that contradicts a search.
+/// - 43 (`Gate`): the fault of a run, a search or a check on threads.
+/// - 60 (`ReadFailed`): the source failed.
+/// - 61 (`WriteFailed`): the sink failed.
 ///
 /// After 61 a prefix of the answer was written; after any other fault nothing was.
 #[derive(Clone, Copy, Debug, PartialEq, Eq)]
