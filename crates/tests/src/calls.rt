@@ -1,4 +1,4 @@
-//! Tests of calls that rows cannot express.
+//! Tests of calls that the rows of the files in `data/` cannot express.
 
 mod bytes;
 mod cert_texts;

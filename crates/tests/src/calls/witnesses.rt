@@ -206,8 +206,8 @@ fn a_witness_ends_at_its_first_refusal(rt: HostRuntime) -> Result<(), Fail> {
 }
 
 /// If the conditions of a vector hold, the pool never has more than its one core thread, so the
-/// jobs wait permanently. A vector shows nothing if its total exceeds the queue of 5, as for three
-/// clients of weight 2, or if it breaks a rule.
+/// jobs wait permanently. A vector shows nothing if it breaks a rule, or if its total exceeds the
+/// queue of 5, as it does for three clients of weight 2.
 #[test]
 fn a_standing_vector_shows_that_jobs_wait_for_ever(rt: HostRuntime) -> Result<(), Fail> {
     let alloc = rt.alloc();
@@ -233,7 +233,7 @@ fn a_standing_vector_shows_that_jobs_wait_for_ever(rt: HostRuntime) -> Result<()
     Ok(())
 }
 
-/// A pool that may reject jobs rejects the first one that finds its thread busy and its queue full.
+/// A pool that may reject jobs rejects the first job that finds its thread busy and its queue full.
 /// A pool that must not reject jobs rejects none.
 #[test]
 fn a_full_pool_rejects(rt: HostRuntime) -> Result<(), Fail> {

@@ -10,7 +10,7 @@ use std::alloc::{AllocError, Global};
 const COLUMNS: &str = "123456789";
 
 /// Returns the text with the first column in place of `$1`, the second in place of `$2`, and so on.
-/// A `$` without a column does not change.
+/// A `$` that names no column stays as it is.
 pub fn with_columns(alloc: Global, text: &str, columns: &[&str]) -> Result<String, AllocError> {
     let mut filled = String::new(alloc);
     for (number, piece) in text.split('$').enumerate() {

@@ -33,7 +33,8 @@ pub fn facts(alloc: Global, plan: &Plan, world: &World) -> Result<Vec<String>, A
     Ok(facts)
 }
 
-/// Returns the counts of the world: its refused submits, created jobs, unfinished jobs and places.
+/// Returns the counts of the world: its refused submits, created jobs, unfinished jobs, and places
+/// for live jobs.
 pub fn counts(alloc: Global, world: &World) -> Result<Vec<String>, AllocError> {
     let mut facts = Vec::new(alloc);
     facts.push(format!(in alloc; "refusals {}", world.refusals())?)?;
