@@ -51,7 +51,7 @@ must_not_reject plan p (Some (Standing v)) e = not_failing (pool_at plan p).may_
 must_not_reject plan p (Some (Lifetime v)) e = absurd cc
 must_not_reject plan p None e = absurd cc
 
--- if no pool may reject jobs, no job is rejected, so no rejected job increases a weight
+-- if no pool may reject jobs, `RejectedAreLight` holds for every vector, because no job is rejected
 none_rejected : (plan : Plan) (v : Vector) → HasValidBodies plan → ((p : ℕ) → p < length plan.pools → (pool_at plan p).may_reject ≡ false) → RejectedAreLight plan v
 none_rejected plan v bodies must = λ k inside may. absurd (false≢true (sym (must (pool_of plan k) (bodies.pools k inside)) ∙ may))
 
@@ -76,7 +76,7 @@ each_is_valid plan cert e p inside =
     let parts = and_parts (cert_fits plan cert) (list_all (λ entry. test entry.0) (enumerate_from 0 plan.pools)) e in
     list_all_at_In (λ entry. test entry.0) parts.1 (In-enumerate_from 0 plan.pools p (pool_at plan p) p (slice_get-get_or plan.pools p no_pool inside) (zero-add p))
 
--- if `accepted_standing` holds for a certificate, each pool has a bound
+-- if `accepted_standing` holds for a certificate, each pool has a bound whose rows hold
 bounds_hold : (plan : Plan) (cert : Cert) → IsWellFormed plan → accepted_standing plan cert ≡ true → (p : ℕ) → p < length plan.pools → HasBound plan p (pool_cert_at cert p).bound
 bounds_hold plan cert well_formed e p inside =
     let fits = (and_parts (cert_fits plan cert) (list_all (λ entry. is_valid_standing_vector plan entry.0 (pool_cert_at cert entry.0).bound) (enumerate_from 0 plan.pools)) e).0 in

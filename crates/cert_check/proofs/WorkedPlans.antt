@@ -61,7 +61,7 @@ unbounded_queue threads count = one_class (unbounded_pool threads) (clients 99 c
 abbrev pub forgetting : Bool → Plan
 forgetting repeat = one_class (a_pool 112 1 1 2 false) (clients 99 1 repeat (Submit 0 ∷ []))
 
--- a plan like `forgetting`, whose client repeats, but the queue is unbounded
+-- a plan like `forgetting` with a client that repeats, but the queue is unbounded
 abbrev pub forgetting_unbounded : Plan
 forgetting_unbounded = one_class (unbounded_pool 1) (clients 99 1 true (Submit 0 ∷ []))
 
@@ -73,11 +73,11 @@ nested core max prestart = record {
   clients = clients 99 1 true (asks 0) ∷ [];
 }
 
--- a plan like `nested`, with this number of threads, but the pool may reject jobs
+-- a plan like `nested`, with `threads` as its core and maximum, but the pool may reject jobs
 abbrev pub nested_rejecting : ℕ → Plan
 nested_rejecting threads = record (nested threads threads false) { pools = record (a_pool 112 threads threads 5 false) { may_reject = true } ∷ [] }
 
--- a plan like `nested`, with this number of threads, but the queue is unbounded
+-- a plan like `nested`, with `threads` as its core and maximum, but the queue is unbounded
 abbrev pub nested_unbounded : ℕ → Plan
 nested_unbounded threads = record (nested threads threads false) { pools = unbounded_pool threads ∷ [] }
 
@@ -161,7 +161,7 @@ one_pool_cert bound rank = record {
 abbrev pub standing_cert : ℕ → Cert
 standing_cert weight = one_pool_cert (Standing (weighing (0 ∷ []) ((weight ∷ weight ∷ weight ∷ weight ∷ []) ∷ []) ((weight ∷ 0 ∷ weight ∷ []) ∷ []))) 0
 
--- a certificate for a plan of one pool without a bound, in which no job is ever blocked
+-- a certificate without a bound, for a plan of one pool in which no job is ever blocked
 abbrev pub cert_without_bound : Cert
 cert_without_bound = record {
   pools = record { bound = None; blocked = weighing (0 ∷ []) (one_of_zeros ∷ []) (has_nothing ∷ []) } ∷ [];
@@ -187,7 +187,7 @@ forgetting_cert = record {
   ranks = record { pools = 0 ∷ []; reach = 0 ∷ []; levels = 0 ∷ [] };
 }
 
--- a certificate for `forgetting_unbounded`, without a bound, in which no job is ever blocked
+-- a certificate without a bound, for `forgetting_unbounded`: no job is ever blocked
 abbrev pub forgetting_cert_without_bound : Cert
 forgetting_cert_without_bound = record {
   pools = record { bound = None; blocked = weighing (0 ∷ []) (one_of_zeros ∷ []) ((0 ∷ 0 ∷ []) ∷ []) } ∷ [];
@@ -209,7 +209,7 @@ nested_cert = record {
   ranks = nested_ranks;
 }
 
--- a certificate for `nested_rejecting` and `nested_unbounded`, without a bound: only the outer job is ever blocked
+-- a certificate without a bound, for `nested_rejecting` and `nested_unbounded`: only the outer job is ever blocked
 abbrev pub nested_cert_without_bound : Cert
 nested_cert_without_bound = record {
   pools = record { bound = None; blocked = weighing (0 ∷ []) (pair_of_ones ∷ one_of_zeros ∷ []) (lends ∷ []) } ∷ [];

@@ -130,7 +130,7 @@ rejecting_pool = refl
 pub rejecting_pool_fits : cert_fits (rejecting 1 1 1 2) cert_without_bound ≡ true
 rejecting_pool_fits = refl
 
--- a pool that must not reject jobs needs a bound, so the certificate does not fit its plan
+-- a pool that must not reject jobs and has a bounded queue needs a bound, so a certificate without one does not fit its plan
 pub other_pool_does_not_fit : cert_fits (one_pool 1 1 1 2) cert_without_bound ≡ false
 other_pool_does_not_fit = refl
 
@@ -154,15 +154,15 @@ nested_rejecting_one_worker_fails = refl
 pub unbounded_pool : verdict (unbounded_queue 1 3) cert_without_bound ≡ yes (without_bound 0 0 ∷ [])
 unbounded_pool = refl
 
--- so its plan is accepted even if its client repeatedly submits a job and never waits for it
+-- the plan of a pool with an unbounded queue is accepted even if its client repeatedly submits a job and never waits for it
 pub unbounded_forgetting : verdict forgetting_unbounded forgetting_cert_without_bound ≡ yes (without_bound 0 0 ∷ [])
 unbounded_forgetting = refl
 
--- the total of a standing vector of the pool has no limit
+-- if the queue is unbounded, the total of the pool's standing vector has no limit
 pub unbounded_pool_with_bound : verdict (unbounded_queue 1 1000000) (standing_cert 1000000000) ≡ yes (standing_of_unbounded 1000000000000000 0 0 ∷ [])
 unbounded_pool_with_bound = refl
 
--- the conditions V2 to V7 of the vector must hold
+-- but the conditions V2 to V7 of the standing vector must hold
 pub unbounded_pool_with_bound_fails : failing (unbounded_queue 1 3) faulty_cert
     ≡ note section.Ranks (row K1 (place.Class 0) 1 0) ∷ note (section.Standing 0) (row V6 (place.Class 0) 2 1) ∷ []
 unbounded_pool_with_bound_fails = refl

@@ -8,7 +8,7 @@ use Rattle.weights.specs.Blocked.{blocked_rows}
 use Rattle.weights.specs.Ranks.{is_counted}
 use Rattle.cert_text.specs.Cert.{Cert, pool_cert_at}
 
--- no row of the bound of pool p fails; there are none if the pool has no bound
+-- no row of the bound of pool p fails; this holds if there is no bound
 abbrev pub bound_holds : Plan → ℕ → Option Bound → Bool
 bound_holds plan p None = true
 bound_holds plan p (Some bound) = not (is_some (first_failing (bound_rows plan p bound)))

@@ -11,16 +11,16 @@ use Rattle.cert_check.specs.Verdict.{Verdict}
 abbrev pub bound_words : Bool → List ℕ
 bound_words lifetime = if lifetime then codes ": lifetime " else codes ": standing "
 
--- the limit of a total; that of an unbounded queue is `unbounded`
+-- the limit of a total, or `unbounded` if there is none
 abbrev pub limit_text : Option ℕ → List ℕ
 limit_text None = codes "unbounded"
 limit_text (Some limit) = decimal limit
 
--- the words for the vector that bounds the pool's queue, and its total with its limit
+-- the kind of a pool's bound, and its total with the limit
 abbrev pub total_text : BoundTotal → List ℕ
 total_text bound = bound_words bound.lifetime ++ decimal bound.total ++ codes " of " ++ limit_text bound.limit
 
--- the text of the bound of the pool's queue; if the pool has none, its queue is unbounded, or it may reject jobs
+-- the text of a pool's bound; if it has none, `unbounded` if its queue is unbounded, and otherwise `may reject`
 abbrev pub bound_text : Bool → Option BoundTotal → List ℕ
 bound_text unbounded None = if unbounded then codes ": unbounded" else codes ": may reject"
 bound_text unbounded (Some bound) = total_text bound
@@ -29,7 +29,7 @@ bound_text unbounded (Some bound) = total_text bound
 abbrev pub blocked_text : PoolLine → List ℕ
 blocked_text line = codes ", blocked " ++ decimal line.blocked ++ codes " of " ++ decimal line.limit ++ 10 ∷ []
 
--- the line of the pool with this name, whose queue may be unbounded
+-- the line of the pool with this name; the flag says whether its queue is unbounded
 abbrev pub pool_line_text : List ℕ → Bool → PoolLine → List ℕ
 pool_line_text name unbounded line = codes "pool " ++ name ++ bound_text unbounded line.bound ++ blocked_text line
 

@@ -1,6 +1,6 @@
-//! The test whether a certificate accepts a plan. A certificate has ranks and, for each pool, a
-//! bound of the queue (a standing or a lifetime vector) and a blocked vector. A pool that may
-//! reject jobs or has an unbounded queue need not have a bound.
+//! The tests whether a certificate accepts a plan. A certificate has ranks and, for each pool, a
+//! blocked vector. It must have a *bound* (a standing or a lifetime vector) for each pool that must
+//! not reject jobs and whose queue is bounded, and can have one for any other pool.
 
 ghost use Rattle.std.specs.Prelude.{◌≡◌, ◌<◌, ◌&&◌, not, IsTrue, length};
 ghost use Rattle.std.specs.List.{list_all, enumerate_from};
@@ -45,9 +45,8 @@ pub(crate) fn conditions_hold(plan: &Plan, cert: &Cert) -> bool
     true
 }
 
-/// Returns whether all conditions of the pool's bound and of its blocked vector hold. A pool
-/// without a bound has only the conditions of its blocked vector. The certificate must fit the
-/// plan.
+/// Returns whether all conditions of the pool's blocked vector hold and, if the pool has a bound,
+/// those of its bound. The certificate must fit the plan.
 pub(crate) fn pool_holds(plan: &Plan, cert: &Cert, pool: usize) -> bool
     requires fits { IsTrue (cert_fits plan.now cert.now) }
     requires pool { pool < length plan.now.pools }
@@ -59,8 +58,7 @@ pub(crate) fn pool_holds(plan: &Plan, cert: &Cert, pool: usize) -> bool
         && blocked_fault(plan, pool, &counted, &of_pool.blocked).is_none()
 }
 
-/// Returns whether all conditions of the pool's bound hold. If there is no bound, there are no
-/// conditions.
+/// Returns whether all conditions of the pool's bound hold, or there is no bound.
 fn bound_holds(plan: &Plan, pool: usize, bound: &Option<Bound>) -> bool
     requires fits { IsTrue (bound_fits plan.now pool bound.now) }
     requires pool { pool < length plan.now.pools }
@@ -73,9 +71,10 @@ fn bound_holds(plan: &Plan, pool: usize, bound: &Option<Bound>) -> bool
 }
 
 /// Returns whether the certificate has the shape of the plan, no pool of the plan may reject jobs,
-/// and the certificate has for each pool a standing vector whose conditions all hold. Ignores the
-/// blocked vectors and the ranks. If a pool may reject jobs, the standing vectors alone are not
-/// enough, because a rejected job could increase the weight of a state.
+/// and the certificate has for each pool a standing vector whose conditions all hold. The
+/// conditions of the blocked vectors and of the ranks are not checked. If a pool may reject jobs,
+/// the standing vectors alone are not enough, because a rejected job could increase the weight of a
+/// state.
 ///
 /// If the result is `true`, no submit is ever refused, even if each submit takes the separate steps
 /// of Java's `execute`. Allocates no memory.

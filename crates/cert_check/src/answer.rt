@@ -4,28 +4,27 @@ ghost use Rattle.cert_check.specs.Verdict as spec;
 
 use std::marker::Model;
 
-/// The total of the vector that bounds a pool's queue, with its limit.
+/// The total of a pool's bound (its standing or lifetime vector) with its limit.
 #[derive(Clone, Copy, Debug, PartialEq, Eq)]
 pub struct BoundTotal {
-    /// Whether the vector is a lifetime vector, which bounds the number of all jobs that are ever
-    /// submitted to the pool.
+    /// Whether the bound is a lifetime vector. If its conditions hold, it bounds the number of all
+    /// jobs that are ever submitted to the pool.
     pub lifetime: bool,
-    /// The total of the vector.
+    /// The total of the bound.
     pub total: u64,
-    /// The limit of `total`: the queue's capacity or, for a lifetime vector, the number of jobs
-    /// that the pool accepts before it can refuse one. It is `None` if the queue is unbounded.
+    /// The limit of `total`: the capacity of the queue for a standing vector, and for a lifetime
+    /// vector the number of jobs that the pool accepts before it can refuse one. It is `None` if
+    /// the queue is unbounded.
     pub limit: Option<u64>,
 }
 
-/// The totals of the two vectors of a pool, each with its limit. One vector bounds the pool's
-/// queue, and the other is the blocked vector.
+/// The totals of a pool's bound and of its blocked vector, each with its limit.
 #[derive(Clone, Copy, Debug, PartialEq, Eq)]
 pub struct PoolLine {
-    /// The total of the vector that bounds the pool's queue, or `None` if the pool may reject jobs
-    /// or its queue is unbounded, and it has no such vector.
+    /// The total of the pool's bound, or `None` if the pool has no bound.
     pub bound: Option<BoundTotal>,
-    /// The total of the blocked vector. It bounds the number of the pool's jobs that wait at
-    /// [counted](weights::Counted) gets.
+    /// The total of the blocked vector. If the certificate accepts the plan, it bounds the number
+    /// of the pool's jobs that wait at [counted](weights::Counted) gets.
     pub blocked: u64,
     /// The limit of `blocked`: one less than the core size.
     pub limit: u64,

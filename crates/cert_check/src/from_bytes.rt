@@ -35,11 +35,11 @@ impl From<AllocError> for CheckFault {
 /// Reads a plan and a certificate for it, and returns whether the certificate accepts the plan,
 /// with the totals and limits of each pool.
 ///
-/// If the verdict is `yes`, no list of events reaches a state in which a submit was refused, a pool
-/// has more threads than its maximum or more queued jobs than its queue's capacity (unless the
-/// queue is unbounded), or unfinished jobs wait only for each other. In each reached state with an
-/// unfinished job, a job can take a step or a worker can take a job. If the clients stop, all jobs
-/// finish after a bounded number of such events.
+/// If the verdict is `yes`, the following holds in each state that a list of events can reach. No
+/// submit was refused, and no pool has more threads than its maximum. No bounded queue has more
+/// jobs than its capacity, or than its pool has idle workers if the capacity is 0. No unfinished
+/// jobs wait only for each other. If a job is unfinished, a job can take a step or a worker can
+/// take a job. If the clients stop, all jobs finish after a bounded number of such events.
 ///
 /// # Errors
 ///

@@ -9,10 +9,10 @@ use crate::{BoundTotal, PoolLine, Verdict};
 use job_bodies::Plan;
 use std::alloc::AllocError;
 
-/// Appends the text of a verdict on the plan: `yes` or `no`, and then a line for each pool such as
-/// `pool pages: standing 2 of 2, blocked 0 of 0`, or `pool pages: may reject, blocked 0 of 0` if the
-/// pool has no vector that bounds its queue. For a pool with an unbounded queue, the line says
-/// `standing 2 of unbounded`, or `unbounded` in place of `may reject`.
+/// Appends the text of a verdict on the plan: `yes` or `no`, and then a line for each pool, such as
+/// `pool pages: standing 2 of 2, blocked 0 of 0`. If the pool has no bound, the line has
+/// `may reject` in place of `standing 2 of 2`, or `unbounded` if the queue is unbounded. If the
+/// pool has a bound and an unbounded queue, the line has `standing 2 of unbounded`.
 ///
 /// # Errors
 ///
@@ -74,7 +74,8 @@ fn push_bound(
     }
 }
 
-/// Appends the reason why a pool needs no bound.
+/// Appends the part of the line of a pool without a bound that says why it needs none: `unbounded`
+/// if its queue is unbounded, and otherwise `may reject`.
 fn push_no_bound(text: &mut String, unbounded: bool) -> Result<(), AllocError>
     ensures { Pushes result text.old text.new (spec.bound_text unbounded None) }
 {
