@@ -129,7 +129,7 @@ impl PoolStatuses {
     }
 }
 
-/// The board of a round. Each pool without a rank can be claimed once, by one worker.
+/// The board of a round. Each pool without a rank can be claimed only once.
 #[derive(Drop)]
 pub(crate) struct Board {
     /// For each pool, whether it has a rank from an earlier round.
@@ -190,8 +190,8 @@ pub(crate) fn claim(board: &mut Held<Board>) -> Result<Option<usize>, AllocError
     }
 }
 
-/// Gives a pool back to the board, and returns whether the pool was claimed. If it was claimed, it
-/// is done afterwards. If it was not, the board is unchanged.
+/// Gives a pool back to the board, and returns whether the pool was claimed. A claimed pool is done
+/// afterwards. If the pool was not claimed, the board is unchanged.
 ///
 /// # Errors
 ///

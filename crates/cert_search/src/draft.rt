@@ -12,8 +12,7 @@ use weights::{Bound, Ranks, Vector};
 /// The known parts of a certificate for one pool.
 #[derive(Drop)]
 struct PoolDraft {
-    /// Whether the pool needs a bound, because it must not reject jobs and its queue is not
-    /// unbounded.
+    /// Whether the pool needs a bound: it must not reject jobs, and its queue is bounded.
     needs_bound: bool,
     rank: Option<u64>,
     bound: Option<Bound>,
@@ -70,8 +69,8 @@ impl Draft {
     }
 
     /// Records the results of a round, and gives `rank` to each pool whose blocked vector was
-    /// found. Returns `false` if no pool got the rank. Also returns `false` if this was the first
-    /// round and it found no bound for some pool that needs one.
+    /// found. Returns `false` if no pool got the rank, or if one of these pools needs a bound and
+    /// no round found one.
     pub(crate) fn note(&mut self, found: Vec<PoolVectors>, rank: u64) -> bool {
         let mut moved = false;
         let mut bounded = true;
@@ -96,8 +95,8 @@ impl Draft {
         moved && bounded
     }
 
-    /// Returns the certificate, or `None` if the blocked vector of a pool is not known, or the bound
-    /// of a pool that needs one.
+    /// Returns the certificate, or `None` if a pool lacks its blocked vector, or a bound that it
+    /// needs.
     pub(crate) fn into_cert(
         self,
         alloc: Global,

@@ -1,6 +1,6 @@
-//! The steady certificate. The search tries it if the rounds find no certificate. In this
-//! certificate, one vector is both the bound and the blocked vector of every pool, except that a
-//! pool that may reject jobs or has an unbounded queue has no bound.
+//! The steady certificate, which the search tries if the rounds find no certificate. It has one
+//! vector, which is the blocked vector of every pool and the bound of each pool that needs one. A
+//! pool that may reject jobs or has an unbounded queue has no bound in it.
 
 ghost use Rattle.std.specs.Prelude.{◌≡◌, false, IfOk, IfSome, IfNone, IsTrue};
 ghost use Rattle.job_bodies.specs.WellFormed.{IsWellFormed};
@@ -14,9 +14,9 @@ use job_bodies::Plan;
 use size_search::{cause_of, steady};
 use std::alloc::{AllocError, Global};
 
-/// Returns the plan's steady certificate, or `None` if this certificate does not accept the plan
-/// with its declared sizes, or has a weight above `MAX_WEIGHT`. Also returns `None` if the plan has
-/// a cause (a reason why no sizes are enough), because then no certificate accepts the plan.
+/// Returns the plan's steady certificate, or `None` if it does not accept the plan with its
+/// declared sizes or has a weight above `MAX_WEIGHT`. Also returns `None` if the plan has a
+/// *cause*, a reason why no sizes are enough, because no certificate accepts such a plan.
 pub(crate) fn steady_if_accepted(alloc: Global, plan: &Plan) -> Result<Option<Cert>, AllocError>
     ensures accepted { IfOk result
         (λ found. IfSome found (λ cert. IsTrue (accepted plan.now cert))) }

@@ -23,7 +23,7 @@ use std::thread::Threads;
 pub enum SearchFault {
     /// Memory ran out, or a thread could not be started.
     Memory,
-    /// The workers of some round were inconsistent: a worker claimed a pool that the plan does not
+    /// The workers of a round were inconsistent: a worker claimed a pool that the plan does not
     /// have or gave back a pool that was not claimed, a pool was never given back, or a pool had a
     /// wrong number of results. A pool without a rank must have one result, and any other pool must
     /// have none. No proof covers what threads do under a lock, so this is checked at run time.
@@ -40,25 +40,24 @@ impl From<AllocError> for SearchFault {
     }
 }
 
-/// Searches for a certificate of the plan in rounds. Each round has at most `workers` workers, a
-/// number from 1 to 64. If the rounds find no certificate that accepts the plan, tries the plan's
-/// steady certificate, which depends only on the bodies. Returns `None` if that certificate does
-/// not accept the plan with its declared sizes either. The plan can still be safe.
+/// Searches for a certificate that accepts the plan. First searches in rounds, each with at most
+/// `workers` workers, a number from 1 to 64. If the rounds find no such certificate, tries the
+/// plan's steady certificate, which depends only on the bodies. Returns `None` if that does not
+/// accept the plan with its declared sizes either. The plan can still be safe.
 ///
-/// If the sizes of a plan are large enough for its steady certificate, the result is a certificate
-/// exactly when [`cause_of`](size_search::cause_of) finds no cause. The result does not depend on
-/// the number of workers, which is tested, and not proved.
+/// If the plan's steady certificate accepts the plan, the result is never `None`. Tests check that
+/// the result does not depend on the number of workers. This is not proved.
 ///
-/// A pool that may reject jobs needs no bound. The certificate has a bound of such a pool if the
-/// rounds find one, and the pool then never rejects a job. A pool with an unbounded queue needs
-/// none either. The rounds look for a standing vector of such a pool, whatever its total is.
+/// A pool needs no bound if it may reject jobs or its queue is unbounded. The certificate has a
+/// bound of such a pool if the rounds find one. A pool that may reject jobs never rejects one if it
+/// has a bound. For a pool with an unbounded queue, the rounds search for a standing vector of any
+/// total.
 ///
-/// In each round the workers search for the vectors of the pools without a rank. A pool whose
-/// blocked vector is found gets the round's number as its rank. In the next round, a get is not
-/// counted if its job, and all jobs for which that job waits directly or through others, are in
-/// pools that have a rank by then. If the jobs of a pool without a rank have the same counted gets
-/// as in the previous round, the round does not search for a blocked vector of the pool, because
-/// the previous round found none.
+/// In each round, the workers search for the vectors of the pools without a rank. A pool whose
+/// blocked vector is found gets the round's number as its rank. Afterwards, a get is not counted if
+/// its job, and all jobs for which that job waits directly or through others, are in pools that
+/// have a rank. A round does not search for the blocked vector of a pool whose jobs have the same
+/// counted gets as in the previous round, because the previous round found none.
 ///
 /// # Errors
 ///
@@ -89,8 +88,8 @@ pub fn search<R: Threads + Wait + Sync, G: PoolGate>(
     Ok(steady_if_accepted(alloc, plan)?)
 }
 
-/// Returns the certificate that the rounds find, or `None` if they find none. The certificate was
-/// not checked.
+/// Returns the certificate that the rounds find, or `None` if they find none. Does not check that
+/// the certificate accepts the plan.
 fn search_rounds<R: Threads + Wait + Sync, G: PoolGate>(
     rt: &R,
     alloc: Global,

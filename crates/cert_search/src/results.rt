@@ -7,8 +7,7 @@ ghost use Rattle.cert_search.specs.Results as spec;
 use crate::SearchFault;
 use crate::round::PoolVectors;
 
-/// Returns the results if they have exactly one result for each pool without a rank, and no other
-/// result.
+/// Returns the results if there is exactly one for each pool without a rank, and no other.
 ///
 /// # Errors
 ///

@@ -1,7 +1,7 @@
 //! One round of the search, in which the workers search for the vectors of the pools: the bound of
 //! a pool's queue, and the blocked vector, which bounds the number of the pool's jobs that wait for
-//! other jobs. Consider a job of a pool without a rank. In a round, its get of another job is
-//! *counted* if the reach of the other job's class is at least the rank of this round.
+//! other jobs. Consider a get by a job whose pool has no rank. In a round, this get is *counted* if
+//! it waits for a job of a class whose reach is at least the rank of the round.
 
 ghost use Rattle.std.specs.Prelude.{◌≡◌, ◌≢◌, ◌<◌, ◌≤◌, IfErr, IfOk, length};
 ghost use Rattle.cert_search.specs.declared.finding.SearchFault.TheVariants.{Memory, Mixed};
@@ -22,8 +22,8 @@ use weights::{Bound, Vector, submitted_class};
 pub(crate) struct Round<'a> {
     pub(crate) plan: &'a Plan,
     pub(crate) levels: &'a Levels,
-    /// The reach of each class, if the pools without a rank get this round's rank. The reach of a
-    /// class is the maximum of its pool's rank and of the reaches of the classes whose jobs it
+    /// The reach of each class, if the pools without a rank have the rank of this round. The reach
+    /// of a class is the maximum of its pool's rank and of the reaches of the classes whose jobs it
     /// gets.
     pub(crate) reach: &'a [u64],
     /// The value of `reach` in the previous round. It is empty in the first round.
@@ -37,7 +37,8 @@ pub(crate) struct Round<'a> {
 pub(crate) struct PoolVectors {
     pub(crate) pool: usize,
     /// The bound of the pool's queue, or `None` if the search found none. Only the first round
-    /// searches for it. A pool that may reject jobs or has an unbounded queue does not need it.
+    /// searches for a bound. A pool that may reject jobs or has an unbounded queue does not need
+    /// one.
     pub(crate) bound: Option<Bound>,
     pub(crate) blocked: Option<Vector>,
 }
@@ -104,9 +105,9 @@ impl Round<'_> {
         true
     }
 
-    /// Claims pools and searches for their vectors, until no pool is free or `stop` is set. Calls
-    /// the gate before each search. The board is locked neither during a call of the gate nor
-    /// during a search. Returns [`SearchFault::Gate`] as the error if the gate returns `false`.
+    /// Claims free pools and searches for their vectors, until no pool is free or `stop` is set.
+    /// Calls the gate before each search. Does not hold the lock of the board during a call of the
+    /// gate or a search. Returns [`SearchFault::Gate`] as the error if the gate returns `false`.
     fn search_free_pools<R: Wait, G: PoolGate>(
         &self,
         rt: &R,

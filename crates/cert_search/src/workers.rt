@@ -16,14 +16,14 @@ use std::sync::atomic::{AtomicBool, Ordering};
 use std::thread;
 use std::thread::{JoinHandle, Threads};
 
-/// Searches for the vectors of each pool without a rank, with `workers` workers. One of them runs
-/// on the calling thread. Returns the results of all workers, in no particular order.
+/// Searches for the vectors of each pool without a rank, with `workers` workers, one of which is
+/// the calling thread. Returns the results of all workers, in no particular order.
 ///
 /// # Errors
 ///
 /// Returns [`SearchFault::Memory`] if memory runs out or a thread cannot be started,
 /// [`SearchFault::Gate`] if the gate returns `false` for a pool, and [`SearchFault::Mixed`] if the
-/// results are inconsistent. In each case, all threads have ended.
+/// results are inconsistent. All threads have then ended.
 pub(crate) fn search_pools<R: Threads + Wait + Sync, G: PoolGate>(
     rt: &R,
     alloc: Global,
@@ -74,8 +74,8 @@ pub(crate) fn search_pools<R: Threads + Wait + Sync, G: PoolGate>(
 }
 
 /// Joins the other workers and returns all results together. If workers failed, returns the fault
-/// of one of them: the worker on the calling thread comes first, and then the others in the order
-/// in which they were started.
+/// of the first of them: the calling thread comes first, and then the others in the order in which
+/// they were started.
 fn join_all<R: Threads>(
     rt: &R,
     own: Result<Vec<PoolVectors>, SearchFault>,
@@ -88,8 +88,8 @@ fn join_all<R: Threads>(
     all
 }
 
-/// Returns the results of both workers together. If a worker failed, returns its fault, or the
-/// fault of `first` if both failed.
+/// Returns the results of both workers together. If a worker failed, returns its fault. If both
+/// failed, returns the fault of `first`.
 fn both(
     first: Result<Vec<PoolVectors>, SearchFault>,
     second: Result<Vec<PoolVectors>, SearchFault>,
