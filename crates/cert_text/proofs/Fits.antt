@@ -97,7 +97,7 @@ vector_read plan value v e =
     let shaped : has_shape plan made ≡ true = rows_shape plan made (numbers_counted _ _ workers.0 workers.1) (class_rows_read plan at_classes.0 classes.0 classes.1) (client_rows_read plan at_clients.0 clients.0 clients.1) in
     subst (λ (w : Vector). has_shape plan w ≡ true) (ok_injective {F = CertFault} made v clients.2) shaped
 
--- the bound of pool p has the plan's shape; no bound is for a pool that may reject jobs
+-- the bound has the plan's shape; None has it only if pool p needs no bound
 abbrev bound_has_shape : Plan → ℕ → Option Bound → Bool
 bound_has_shape plan p None = needs_no_bound (pool_at plan p)
 bound_has_shape plan p (Some bound) = has_shape plan (bound_vector bound)

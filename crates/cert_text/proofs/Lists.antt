@@ -52,7 +52,7 @@ list_all_enumerated_place_from test n (y ∷ xs) h (suc i) x here =
 pub list_all_enumerated_place : {X : Type 0} (test : ℕ × X → Bool) (xs : List X) → list_all test (enumerate_from 0 xs) ≡ true → EachPlace xs (λ i x. test (i, x) ≡ true)
 list_all_enumerated_place test xs h i x here = subst (λ (k : ℕ). test (k, x) ≡ true) (zero-add i) (list_all_enumerated_place_from test 0 xs h i x here)
 
--- if each element of the list passes a test of pairs with its index, `list_all` holds for the test
+-- if each element of the list, together with its index, passes a test of pairs, `list_all` holds for the test
 pub list_all_enumerated_all : {X : Type 0} (test : ℕ × X → Bool) (xs : List X) → EachPlace xs (λ i x. test (i, x) ≡ true) → list_all test (enumerate_from 0 xs) ≡ true
 list_all_enumerated_all test xs each = list_all_enumerated_from test 0 xs (λ i x here. subst (λ (k : ℕ). test (k, x) ≡ true) (sym (zero-add i)) (each i x here))
 

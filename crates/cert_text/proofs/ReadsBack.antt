@@ -86,7 +86,7 @@ vector_back plan v shaped =
 vector_shape : (plan : Plan) (v : Vector) → vector_fits plan v ≡ true → has_shape plan v ≡ true
 vector_shape plan v fits = (and_parts (has_shape plan v) _ fits).0
 
--- a pool's part is read from its own data in version 2, which allows both kinds of vectors, and no vector if the pool may reject jobs
+-- in version 2, a pool's part that fits is read from its own data, whatever its bound is
 bounded_back_two : (plan : Plan) (p : ℕ) (bound : Option Bound) (blocked : Vector) → bound_fits plan p bound ≡ true → vector_fits plan blocked ≡ true
     → pool_of Two plan p (bounded_data (vector_data blocked) bound) ≡ Ok (record { bound = bound; blocked = blocked })
 unfolding pool_of check_keys standing_of lifetime_of no_bound_of bounded_data
@@ -94,7 +94,7 @@ bounded_back_two plan p None blocked first second = rw (first, vector_back plan 
 bounded_back_two plan p (Some (Standing v)) blocked first second = rw (vector_back plan v (vector_shape plan v first), vector_back plan blocked (vector_shape plan blocked second)) refl
 bounded_back_two plan p (Some (Lifetime v)) blocked first second = rw (vector_back plan v (vector_shape plan v first), vector_back plan blocked (vector_shape plan blocked second)) refl
 
--- a pool's part with a standing vector is read from its own data in version 1
+-- in version 1, a pool's part that has a standing vector and fits is read from its own data
 bounded_back_one : (plan : Plan) (p : ℕ) (bound : Option Bound) (blocked : Vector) → is_standing bound ≡ true → bound_fits plan p bound ≡ true → vector_fits plan blocked ≡ true
     → pool_of One plan p (bounded_data (vector_data blocked) bound) ≡ Ok (record { bound = bound; blocked = blocked })
 unfolding pool_of check_keys standing_of bounded_data

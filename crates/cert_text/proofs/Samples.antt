@@ -61,7 +61,7 @@ reads_lifetime : cert_of lifetime_text plan ≡ Ok lifetime
 unfolding cert_on_literals
 reads_lifetime = refl
 
--- the plan, but its pool may reject jobs
+-- a plan like `plan`, but its pool may reject jobs
 abbrev rejecting_plan : Plan
 rejecting_plan = record plan { pools = record { name = codes "p"; core = 1; max = 1; queue = 2; prestart = false; may_reject = true; unbounded = false } ∷ [] }
 
@@ -80,7 +80,7 @@ reads_unbounded : cert_of unbounded_text rejecting_plan ≡ Ok unbounded
 unfolding cert_on_literals
 reads_unbounded = refl
 
--- a pool that must not reject jobs needs a bound
+-- a pool that must not reject jobs and has a bounded queue needs a bound
 unbounded_must_not_reject : cert_of unbounded_text plan ≡ Err (fault 31)
 unfolding cert_on_literals
 unbounded_must_not_reject = refl
@@ -98,7 +98,7 @@ lifetime_may_reject = refl
 abbrev pool : Plan
 pool = record { pools = plan.pools; classes = []; clients = [] }
 
--- the plan, but its pool may reject jobs
+-- a plan like `pool`, but its pool may reject jobs
 abbrev rejecting_pool : Plan
 rejecting_pool = record { pools = rejecting_plan.pools; classes = []; clients = [] }
 
@@ -169,7 +169,7 @@ unknown_key_without_bound : cert_of (text (codes "2") (codes "\"note\":0,")) rej
 unfolding cert_on_literals
 unknown_key_without_bound = refl
 
--- a bound at its key must have the plan's shape also if the pool may reject jobs
+-- if the pool may reject jobs, a bound must have the plan's shape too
 wrong_standing_may_reject : cert_of (text (codes "2") (standing_of (codes "7,8"))) rejecting_pool ≡ Err (fault 31)
 unfolding cert_on_literals
 wrong_standing_may_reject = refl

@@ -19,7 +19,7 @@ BeginsAs text value rest = text ≡ compact_text value ++ rest
 abbrev pub AreRows : ℕ → (ℕ → ℕ) → List (List ℕ) → Type 0
 AreRows count points rows = (length rows ≡ count) × ((place : ℕ) (row : List ℕ) → slice_get rows place ≡ Some row → length row ≡ points place)
 
--- the key and the vector of a pool's bound, with the comma that separates them from the blocked vector; nothing if there is no bound
+-- a comma, and then the key and the vector of a pool's bound; nothing if there is no bound
 abbrev pub bound_text : Option Bound → List ℕ
 bound_text None = []
 bound_text (Some (Standing v)) = codes ",\"standing\":" ++ compact_text (vector_data v)

@@ -1,5 +1,5 @@
--- Certificates: for each pool a bound of the queue and a blocked vector, and the ranks. A pool needs no bound if it
--- may reject jobs or its queue is unbounded.
+-- Certificates. They have ranks and, for each pool, a blocked vector and a bound of the queue. A pool that may reject jobs or has an
+-- unbounded queue needs no bound.
 use Rattle.std.specs.Prelude.{ℕ, ◌==◌, ◌&&◌, Bool, List, [], length, slice_index_or, Option, Some, None}
 use Rattle.std.specs.List.{list_all, enumerate_from}
 use Rattle.job_bodies.specs.Plan.{Plan, pool_at, needs_no_bound}
@@ -26,7 +26,7 @@ no_pool_cert = record { bound = None; blocked = no_vector }
 abbrev pub pool_cert_at : Cert → ℕ → PoolCert
 pool_cert_at cert p = slice_index_or cert.pools p no_pool_cert
 
--- whether the vector of pool p's bound has the plan's shape and numbers within the limit; no bound fits only a pool that needs none
+-- whether the bound fits pool p: its vector has the plan's shape and numbers within the limit; None fits only a pool that needs no bound
 abbrev pub bound_fits : Plan → ℕ → Option Bound → Bool
 bound_fits plan p None = needs_no_bound (pool_at plan p)
 bound_fits plan p (Some bound) = vector_fits plan (bound_vector bound)

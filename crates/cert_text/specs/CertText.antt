@@ -43,7 +43,7 @@ ranks_data ranks =
     (member (codes "pools") (numbers_data ranks.pools)
     (member (codes "reach") (numbers_data ranks.reach) no_members)))
 
--- whether the bound is a standing vector, the only bound that version 1 can represent
+-- whether the bound is a standing vector; version 1 can represent no other bound
 abbrev pub is_standing : Option Bound → Bool
 is_standing (Some (Standing v)) = true
 is_standing _ = false

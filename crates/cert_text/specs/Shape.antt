@@ -22,27 +22,28 @@ standing_of plan value = vector_of plan value >>= λ vector. Ok (Some (Standing 
 unfoldable pub lifetime_of : Plan → Data → Result (Option Bound) CertFault
 lifetime_of plan value = vector_of plan value >>= λ vector. Ok (Some (Lifetime vector))
 
--- no bound for pool p; a fault if the pool needs a bound
+-- None as the bound of pool p; a fault if the pool needs a bound
 unfoldable pub no_bound_of : Plan → ℕ → Result (Option Bound) CertFault
 no_bound_of plan p = ensure (needs_no_bound (pool_at plan p)) wrong_shape >>= λ _. Ok None
 
--- the bound of pool p from the values at the keys `lifetime` and `standing`: the first of them that is present, or no bound
+-- the bound of pool p from the value at the key `lifetime` or, if there is none, the value at the key `standing`; no bound if there is
+-- neither
 abbrev pub either_of : Plan → ℕ → Option Data → Option Data → Result (Option Bound) CertFault
 either_of plan p (Some value) standing = lifetime_of plan value
 either_of plan p None (Some value) = standing_of plan value
 either_of plan p None None = no_bound_of plan p
 
--- the vector that bounds the queue of pool p, from the pool's object
+-- the bound of pool p, from the pool's object; in version 1 each pool has a standing vector
 abbrev pub bound_of : Version → Plan → ℕ → Data → Result (Option Bound) CertFault
 bound_of One plan p pool = value_at (codes "standing") pool >>= λ value. standing_of plan value
 bound_of Two plan p pool = either_of plan p (get (codes "lifetime") pool) (get (codes "standing") pool)
 
--- the number of keys of the object of a pool with this bound
+-- the number of keys that a pool's object has if this is its bound
 abbrev pub keys_with : Option Bound → ℕ
 keys_with None = 1
 keys_with (Some bound) = 2
 
--- the part of pool p, from its object; a fault if the object has other keys than those of its vectors
+-- the part of pool p, from its object; a fault if the object has a key other than those of its vectors
 unfoldable pub pool_of : Version → Plan → ℕ → Data → Result PoolCert CertFault
 pool_of version plan p pool =
     bound_of version plan p pool >>= λ bound.

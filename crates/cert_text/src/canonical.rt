@@ -1,11 +1,10 @@
 //! A fast parser of certificates in *canonical form*: exactly the form that
 //! [`write_cert`](crate::write_cert) writes. It builds no JSON tree. The part of a certificate for
-//! a pool has two vectors of numbers: the blocked vector, which bounds the pool's jobs that wait
-//! for other jobs, and then the bound of the pool's queue, which a pool that may reject jobs, or
-//! whose queue is unbounded, need not have.
+//! a pool has the blocked vector, which bounds the pool's jobs that wait for other jobs, and then
+//! the bound of the pool's queue. The bound can be absent if the pool may reject jobs or its queue
+//! is unbounded.
 //!
-//! Nearly every text has this form. Any other text is an error here, and the caller then parses it
-//! as JSON.
+//! Any text that is not in this form is an error here, and the caller then parses it as JSON.
 
 ghost use Rattle.std.specs.Prelude.{◌≡◌, ◌++◌, IfOk, IsTrue, length, map};
 ghost use Rattle.std.specs.List.{list_all, enumerate_from};
@@ -27,9 +26,9 @@ use job_bodies::{MAX_CERT_BYTES, Plan};
 use std::alloc::Global;
 use weights::{Bound, Ranks};
 
-/// Parses the bound of the queue of the pool with this index, at the start of a text, which begins
-/// with the comma after the blocked vector. Returns the bound and the rest of the text. If the text
-/// has no bound there, it is an error, unless the pool needs none.
+/// Parses the bound of the pool with this index. `text` begins after the pool's blocked vector,
+/// with the comma before the bound if there is one. Returns the bound and the rest of the text.
+/// Returns an error if there is no bound, but the pool needs one.
 fn parse_bound<'a>(
     alloc: Global,
     plan: &Plan,
@@ -53,7 +52,7 @@ fn parse_bound<'a>(
     Ok((None, text))
 }
 
-/// Parses the part for the pool with this index at the start of a text, and returns it with the
+/// Parses the part for the pool with this index, at the start of the text. Returns the part and the
 /// rest of the text.
 fn parse_pool<'a>(
     alloc: Global,

@@ -1,5 +1,5 @@
-//! Certificates: numbers for a plan that show that no pool that must not reject jobs refuses one,
-//! and that no jobs wait forever for each other.
+//! Certificates: numbers for a plan. If a check accepts them, only pools that may reject jobs ever
+//! refuse one, and no jobs wait for each other forever.
 
 ghost use Rattle.std.specs.Prelude.{◌≡◌, ◌<◌, length};
 ghost use Rattle.std.specs.List.{list_all, enumerate_from};
@@ -13,11 +13,12 @@ use weights::{Bound, Ranks, Vector};
 /// The part of a certificate for one pool.
 #[derive(Debug, Drop)]
 pub struct PoolCert {
-    /// The vector that shows that the pool never refuses a job, or `None` if the pool needs no
-    /// bound, because it may reject jobs or its queue is unbounded.
+    /// The vector that bounds the pool's queue. If the certificate fits the plan, this is `None`
+    /// only for a pool that needs no bound: it may reject jobs, or its queue is unbounded.
     pub bound: Option<Bound>,
-    /// The vector that shows that the number of the pool's jobs that wait at counted gets is always
-    /// below its core size. A counted get can block a thread that other jobs need.
+    /// The blocked vector. If the certificate accepts the plan, this vector shows that the number
+    /// of the pool's jobs that wait at counted gets is always below its core size. A counted get
+    /// can block a thread that other jobs need.
     pub blocked: Vector,
 }
 
@@ -28,9 +29,9 @@ impl Model for PoolCert {
 }
 
 impl PoolCert {
-    /// Returns whether the vectors have the shape of the plan, and no number in them is above
-    /// [`MAX_WEIGHT`](job_bodies::MAX_WEIGHT). Without a bound, the part fits only a pool that
-    /// needs none: it may reject jobs, or its queue is unbounded.
+    /// Returns whether the part fits the pool with this index: each of its vectors has the shape of
+    /// the plan and no number above [`MAX_WEIGHT`](job_bodies::MAX_WEIGHT), and it has a bound
+    /// unless the pool may reject jobs or its queue is unbounded.
     fn fits(&self, plan: &Plan, pool: usize) -> bool
         ensures { result ≡ spec.pool_cert_fits plan.now pool self.now }
     {
@@ -47,8 +48,8 @@ fn bound_fits(bound: &Option<Bound>, plan: &Plan, pool: usize) -> bool
     }
 }
 
-/// Returns whether the pool with this index needs no bound, because it may reject jobs or its queue
-/// is unbounded. Returns `false` if the plan has no pool with this index.
+/// Returns whether the pool with this index may reject jobs or has an unbounded queue, and so needs
+/// no bound. Returns `false` if the plan has no pool with this index.
 pub fn needs_no_bound(plan: &Plan, pool: usize) -> bool
     ensures { result ≡ needs_no_bound (pool_at plan.now pool) }
 {
@@ -80,9 +81,10 @@ impl Cert {
         &self.pools[pool]
     }
 
-    /// Returns whether the certificate has a part for each pool, each of its lists has the plan's
-    /// shape, and each number is at most [`MAX_WEIGHT`](job_bodies::MAX_WEIGHT). Each pool that
-    /// must not reject jobs and whose queue is bounded needs a bound. Allocates no memory.
+    /// Returns whether the certificate fits the plan: it has a part for each pool, each of its
+    /// lists has the plan's shape, and each number is at most
+    /// [`MAX_WEIGHT`](job_bodies::MAX_WEIGHT). A pool that must not reject jobs and whose queue is
+    /// bounded must have a bound. Allocates no memory.
     pub fn fits(&self, plan: &Plan) -> bool
         ensures { result ≡ spec.cert_fits plan.now self.now }
     {

@@ -33,7 +33,8 @@ fn lifetime_of(alloc: Global, plan: &Plan, value: &Value) -> Result<Option<Bound
     Ok(Some(Bound::Lifetime(vector)))
 }
 
-/// Returns no bound for the pool with this index. It is a fault if the pool needs a bound.
+/// Returns `None` as the bound of the pool with this index. It is a fault if the pool needs a
+/// bound.
 #[tactic(auto, unfolding(crate::specs::Shape::no_bound_of))]
 fn no_bound_of(plan: &Plan, pool: usize) -> Result<Option<Bound>, CertError>
     ensures { Gives (λ bound. bound) result (spec.no_bound_of plan.now pool) }
@@ -44,8 +45,9 @@ fn no_bound_of(plan: &Plan, pool: usize) -> Result<Option<Bound>, CertError>
     Ok(None)
 }
 
-/// Reads the bound of the pool with this index from the values at the keys `lifetime` and
-/// `standing`. If both are there, reads the lifetime vector.
+/// Reads the bound of the pool with this index from the value at the key `lifetime` or, if there is
+/// none, from the value at the key `standing`. If there is neither, the pool has no bound, and it
+/// is a fault if it needs one.
 fn either_of(
     alloc: Global,
     plan: &Plan,
@@ -64,8 +66,8 @@ fn either_of(
     }
 }
 
-/// Reads the bound of the queue of the pool with this index from the pool's object. `version`
-/// determines which kinds of bounds the pool may have.
+/// Reads the bound of the pool with this index from the pool's object. In version 1 each pool must
+/// have a standing vector.
 fn bound_of(
     alloc: Global,
     version: Version,
@@ -88,7 +90,8 @@ fn bound_of(
     }
 }
 
-/// Returns the number of keys of the object of a pool with this bound: one for each vector.
+/// Returns the number of keys that a pool's object has if this is its bound: 2, or 1 without a
+/// bound.
 fn keys_with(bound: &Option<Bound>) -> usize
     ensures { result ≡ spec.keys_with bound.now }
 {

@@ -19,8 +19,9 @@ use weights::Bound;
 pub enum Version {
     /// Each pool has a standing vector, which bounds the number of its queued jobs.
     One,
-    /// Each pool has a standing or a lifetime vector, or no vector if it may reject jobs or its
-    /// queue is unbounded. A lifetime vector bounds the number of all jobs that are ever submitted to the pool.
+    /// Each pool has a standing or a lifetime vector, or neither if it may reject jobs or its queue
+    /// is unbounded. A lifetime vector bounds the number of all jobs that are ever submitted to the
+    /// pool.
     Two,
 }
 

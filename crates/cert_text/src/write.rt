@@ -18,8 +18,8 @@ use support::push_number;
 /// Writes a certificate as compact JSON. The keys of each object are in ascending order, and the
 /// text has no newline. The version is 1 if each pool has a standing vector, and otherwise 2.
 ///
-/// If the certificate fits a plan, [`read_cert`](crate::read_cert) parses the text as the
-/// certificate for that plan, also with a newline after it. The text, with this newline, must have
+/// If the certificate fits a plan, [`read_cert`](crate::read_cert) parses the text as this
+/// certificate, with or without a newline after it. This holds if the text, with the newline, has
 /// at most [`MAX_CERT_BYTES`](job_bodies::MAX_CERT_BYTES) bytes. The text never contains a `%`, so
 /// it cannot be taken for a separator line `%%`.
 ///
