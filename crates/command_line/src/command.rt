@@ -16,9 +16,9 @@ use std::alloc::Global;
 /// A command of the program.
 #[derive(Clone, Copy, Debug, PartialEq, Eq)]
 pub enum Command {
-    /// A command on a plan and a second text. It starts no thread and never waits for one.
+    /// A command on a plan and a second text. It neither starts a thread nor waits for one.
     Sequential(ReviewCommand),
-    /// A command on a recording. It starts no thread and never waits for one.
+    /// A command on a recording. It neither starts a thread nor waits for one.
     OnRecording(RecordingCommand),
     /// A command that starts threads and joins them.
     OnThreads(Task),
@@ -43,8 +43,8 @@ pub enum RecordingCommand {
     Conform,
     /// Derives a plan from a recording.
     Learn {
-        /// If `true`, writes the differences in place of the plan when the recording does not
-        /// conform to the learned plan.
+        /// If the recording does not conform to the learned plan, and this is `true`, the command
+        /// writes the differences in place of the plan.
         strict: bool,
     },
 }
@@ -91,10 +91,10 @@ pub struct Cli<'a> {
     /// The first file. It holds the plan or, if it is the only file, the whole input. `None` and
     /// `-` mean standard input.
     pub first: Option<&'a str>,
-    /// The second file, which holds the text that follows the plan, or `None` if only one file is
-    /// named. `-` means standard input.
+    /// The second file, which holds the text that follows the plan. `None` means that only one file
+    /// is named, and `-` means standard input.
     pub second: Option<&'a str>,
-    /// The file to which a certificate is written if one is found, or `None` if no file is to be
+    /// The file to which a certificate is written if one is found, or `None` if none is to be
     /// written.
     pub certificate: Option<&'a str>,
 }
@@ -129,7 +129,7 @@ pub enum AskInput {
 /// The options of `ask`.
 #[derive(Clone, Copy, Debug, PartialEq, Eq)]
 pub struct AskOptions {
-    /// Whether a warning changes the exit status of a safe plan to 1.
+    /// Whether a safe plan with a warning has the exit status 1 in place of 0.
     pub strict: bool,
     pub form: Form,
 }
@@ -159,9 +159,9 @@ pub enum Form {
 /// # Errors
 ///
 /// Fails if `clap` rejects the arguments, if a number is out of its range, if `--format` names no
-/// format, if two of `--format`, `--json` and `--dot` are given, if the value of `--certificate` is
-/// empty or `-`, and on a request for help. The `Display` of the error is a text for the user. If
-/// memory runs out, the error's `kind` is `ErrorKind::OutOfMemory`.
+/// format, if two of `--format`, `--json` and `--dot` are given, or if the value of `--certificate`
+/// is empty or `-`. A request for help is returned as an error too. The `Display` of the error is a
+/// text for the user. If memory runs out, the error's `kind` is `ErrorKind::OutOfMemory`.
 pub fn read_words<'a>(alloc: Global, words: &'a [&'a str]) -> Result<Option<Cli<'a>>, Error>
     ensures command { IfOk result (λ found.
         option_map (λ cli. cli.command) found

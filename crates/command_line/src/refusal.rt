@@ -10,7 +10,7 @@ use clap::error::ErrorKind;
 use clap::{ArgMatches, Command, Error};
 use std::alloc::{AllocError, Global};
 
-/// Creates the error for `matches`, the arguments that `ask` rejects. Its message says what is
+/// Creates the error for the arguments in `matches`, which `ask` rejects. Its message says what is
 /// wrong with them.
 pub(crate) fn refusal(
     alloc: Global,

@@ -13,7 +13,7 @@ pub(crate) fn text_of<'a>(options: &ArgMatches<'a>, id: &str) -> Option<&'a str>
     options.get_str(id)
 }
 
-/// Returns whether the value can be the name of a file to write. An empty text and `-` cannot.
+/// Returns whether the value can be the name of a file to write: it must not be empty or `-`.
 /// Returns `true` if there is no value.
 pub(crate) fn names_file(value: Option<&str>) -> bool
     ensures { result ≡ spec.names_file (option_map (λ text. text.now) value.entry) }
