@@ -49,7 +49,7 @@ pub record HaveSingleLines (faults : Faults) : Type 0 where
   pub first : HasSingleLine faults.first
   pub others : All HasSingleLine faults.others.items
 
--- what the line of a lint begins with: whether it is a note or a warning
+-- the level of a lint in its line: `note` or `warning`
 abbrev pub level_text : Bool → List ℕ
 level_text note = if note then codes "note: " else codes "warning: "
 

@@ -25,7 +25,7 @@ no_limit_hint key text = if can_be_unbounded key && names_no_limit text then cod
 abbrev pub unbounded_max_hint : List ℕ
 unbounded_max_hint = codes "; max = \"unbounded\" needs queue = \"unbounded\""
 
--- the end of the message for a maximum that is less than core, of a pool whose queue is unbounded or not
+-- the end of the message for a maximum that is less than core; empty if the queue of the pool is bounded
 abbrev pub max_hint : Bool → List ℕ
 max_hint is_unbounded = if is_unbounded then codes "; with queue = \"unbounded\" you can write max = \"unbounded\"" else codes ""
 

@@ -23,7 +23,7 @@ only_if false lint = []
 
 -- ---- lengths of work that look like sizes
 
--- the number is the core size of the pool or, unless its queue is unbounded, its maximum or its queue capacity
+-- the number is the core size of the pool or, if its queue is bounded, its maximum or its queue capacity
 abbrev pub has_size : ℕ → Pool → Bool
 has_size n pool = pool.core == n || not pool.unbounded && (pool.max == n || pool.queue == n)
 
@@ -40,16 +40,16 @@ looks_like_a_size plan units = nat_le 50 units && is_a_size plan units
 
 -- ---- submits to pools that may reject jobs
 
--- the pool's queue is unbounded, or it holds all jobs that can be in it at once, and their number is known
+-- the pool's queue is unbounded, or the maximum number of jobs in it at once is known and at most its capacity
 abbrev pub holds_all : Pool → Option ℕ → Bool
 holds_all pool None = pool.unbounded
 holds_all pool (Some most) = pool.unbounded || nat_le most pool.queue
 
--- pool p may reject jobs by the plan, and it is not known that it never does
+-- the plan says that pool p may reject jobs, and its queue may be too small for all jobs that can be in it at once
 abbrev pub may_reject_jobs : Plan → List (Option ℕ) → ℕ → Bool
 may_reject_jobs plan needed p = (pool_at plan p).may_reject && not (holds_all (pool_at plan p) (slice_index_or needed p None))
 
--- the submit of a job of class k at position i of the body may be rejected while a future is open
+-- a future is open at position i of the body, and the submit of a job of class k there may be rejected
 abbrev pub leaves_a_future : Plan → List (Option ℕ) → List Action → ℕ → ℕ → Bool
 leaves_a_future plan needed body i k = may_reject_jobs plan needed (class_at plan k).pool && has_open_future body i
 
@@ -74,7 +74,7 @@ brings_jobs marks p k class = slice_index_or marks k false && class.pool == p
 abbrev pub gets_a_job : Plan → List Bool → ℕ → Bool
 gets_a_job plan marks p = list_any (λ (entry : ℕ × Class). brings_jobs marks p entry.0 entry.1) (enumerate_from 0 plan.classes)
 
--- the pool's maximum is above its core size, and has an effect if the queue can be full, because the queue is not unbounded
+-- the pool's queue is bounded, and its maximum is above its core size
 abbrev pub may_grow : Pool → Bool
 may_grow pool = not pool.unbounded && nat_lt pool.core pool.max
 
@@ -86,21 +86,24 @@ is_far_above pool most = nat_lt (max most 1) (pool.queue / 10)
 abbrev pub has_useless_max : Pool → ℕ → Bool
 has_useless_max pool most = may_grow pool && nat_le most pool.queue
 
--- the pool may reject jobs by the plan, and its queue holds the `most` jobs that can be in it at once
+-- the plan says that the pool may reject jobs, but its queue holds the `most` jobs that can be in it at once
 abbrev pub never_rejects : Pool → ℕ → Bool
 never_rejects pool most = pool.may_reject && nat_le most pool.queue
 
--- the lints of the pool's sizes that are larger than needed, and of its key `may_reject`, if at most `most` jobs are in the queue at once
+-- the lints of pool p if at most `most` jobs are in its queue at once: a maximum or a key `may_reject` without effect, and a queue that is
+-- far larger than needed
 abbrev pub lints_of_known_sizes : ℕ → Pool → ℕ → List Lint
 lints_of_known_sizes p pool most =
     only_if (has_useless_max pool most) (UselessMax p) ++ (only_if (never_rejects pool most) (UselessMayReject p most) ++ only_if (is_far_above pool most) (QueueFarAbove p most))
 
--- the lints of a pool with a bounded queue by the maximum number of jobs in its queue; none if it is not known
+-- the lints of the sizes and of the key `may_reject` of a pool with a bounded queue; none if the maximum number of jobs in its queue is not
+-- known
 abbrev pub lints_of_bounded : ℕ → Pool → Option ℕ → List Lint
 lints_of_bounded p pool None = []
 lints_of_bounded p pool (Some most) = lints_of_known_sizes p pool most
 
--- the same for each pool; of one with an unbounded queue, which never rejects, only the key `may_reject` can have no effect
+-- the lints of the sizes and of the key `may_reject` of any pool; if its queue is unbounded, it never rejects, and the only lint is that
+-- the key has no effect
 abbrev pub lints_of_sizes : ℕ → Pool → Option ℕ → List Lint
 lints_of_sizes p pool most = if pool.unbounded then only_if pool.may_reject (NeverRejects p) else lints_of_bounded p pool most
 
@@ -120,7 +123,7 @@ abbrev pub is_work : Action → Bool
 is_work (Work u) = true
 is_work _ = false
 
--- the pool of the class may reject its jobs, and their body has submits or gets
+-- the plan says that the pool of the class may reject jobs, its queue may be too small, and the body of the class has submits or gets
 abbrev pub may_run_in_caller : Plan → List (Option ℕ) → Class → Bool
 may_run_in_caller plan needed class = may_reject_jobs plan needed class.pool && not (list_all is_work class.body)
 
@@ -134,17 +137,17 @@ lints_of_classes plan needed marks = flat_map (λ (entry : ℕ × Class). lints_
 
 -- ---- client kinds
 
--- the pool has one core thread and a bounded queue with fewer places than `count`, and must not reject
+-- the pool is small for `count` clients: it must not reject jobs, has one core thread, and has a bounded queue with fewer than `count`
+-- places
 abbrev pub is_small : ℕ → Pool → Bool
 is_small count pool = pool.core == 1 && nat_lt pool.queue count && not (needs_no_bound pool)
 
--- the action is no submit, or submits to a pool with one core thread whose bounded queue has fewer places than `count` and that must not reject
+-- the action is no submit, or submits to a pool that is small for `count` clients
 abbrev pub is_for_small : Plan → ℕ → Action → Bool
 is_for_small plan count (Submit k) = is_small count (pool_at plan (class_at plan k).pool)
 is_for_small plan count _ = true
 
--- the clients of this kind submit jobs, and only to pools that must not reject and have one core thread and a bounded queue with fewer places
--- than there are clients of the kind
+-- the clients of this kind submit jobs, and each pool to which they submit is small for their number
 abbrev pub are_a_crowd : Plan → Client → Bool
 are_a_crowd plan client = list_any is_submit client.body && list_all (is_for_small plan client.count) client.body
 
@@ -188,15 +191,15 @@ abbrev pub fills_queue : Plan → List Action → ℕ → Action → Bool
 fills_queue plan body i (Submit k) = (pool_at plan (class_at plan k).pool).unbounded && not (has_get_of body i)
 fills_queue plan body i _ = false
 
--- the lints of the submits of a body that clients cause again and again
+-- a lint for each submit of the body for which `fills_queue` is true
 abbrev pub growing_of_body : Plan → Part → ℕ → List Action → List Lint
 growing_of_body plan of number body = flat_map (λ (entry : ℕ × Action). only_if (fills_queue plan body entry.0 entry.1) (QueueMayGrow of number entry.0)) (enumerate_from 0 body)
 
--- those of a class, if repeating clients submit it, directly or through other jobs
+-- the lints of a class: those of its body if repeating clients submit the class, directly or through other jobs, and otherwise none
 abbrev pub growing_of_class : Plan → List Bool → ℕ → Class → List Lint
 growing_of_class plan repeated k class = if slice_index_or repeated k false then growing_of_body plan part.Class k class.body else []
 
--- those of a client kind, if it repeats
+-- the lints of a client kind: those of its body if the kind repeats, and otherwise none
 abbrev pub growing_of_client : Plan → ℕ → Client → List Lint
 growing_of_client plan c client = if client.repeat then growing_of_body plan part.Client c client.body else []
 
@@ -206,21 +209,21 @@ growing_of_classes plan repeated = flat_map (λ (entry : ℕ × Class). growing_
 abbrev pub growing_of_clients : Plan → List Lint
 growing_of_clients plan = flat_map (λ (entry : ℕ × Client). growing_of_client plan entry.0 entry.1) (enumerate_from 0 plan.clients)
 
--- the lints of all submits to unbounded queues that repeating clients cause and that are never got. For each class, `repeated` has whether
--- repeating clients submit it
+-- a lint for each submit that repeating clients cause, if the queue of its pool is unbounded and its body has no get of it. For each class,
+-- `repeated` has whether repeating clients submit it
 abbrev pub growing_lints : Plan → List Bool → List Lint
 growing_lints plan repeated = growing_of_classes plan repeated ++ growing_of_clients plan
 
 -- ---- all
 
--- whether the plan is safe with each maximum lowered to its core, then the cause if there is one, then the unbounded queues that may grow
--- without limit, and then the other lints
+-- all lints, in this order: that the plan is safe with each maximum lowered to its core, if `safe_at_core` is true; the cause, if there is
+-- one; the unbounded queues that may grow without limit; the other lints
 abbrev pub all_lints : Plan → List (Option ℕ) → Bool → Option Cause → List Bool → List Bool → List Lint
 all_lints plan needed safe_at_core cause marks repeated =
     only_if safe_at_core SafeAtCore ++ lints_of_cause cause ++ growing_lints plan repeated ++ lints plan needed marks
 
--- the list has the lints of the plan, if the marked classes are those that clients submit, directly or through other jobs, the repeated
--- ones those that repeating clients submit, and the cause is one of the plan. There is no cause only if the plan has none
+-- the list `found` has all lints of the plan. `marks` has the classes that clients submit, directly or through other jobs, and `repeated`
+-- those that repeating clients submit. `cause` is a cause of the plan, or None if the plan has none
 pub record AreLints (plan : Plan) (needed : List (Option ℕ)) (safe_at_core : Bool) (found : List Lint) : Type 0 where
   pub marks : List Bool
   pub submitted : MarksSubmitted plan marks
@@ -231,13 +234,13 @@ pub record AreLints (plan : Plan) (needed : List (Option ℕ)) (safe_at_core : B
   pub none : IfNone cause (IsWithoutCause plan)
   pub is : found ≡ all_lints plan needed safe_at_core cause marks repeated
 
--- the lint is a note: whether it matters depends on the handler of a pool or on the code around a submit, which no plan has
+-- the lint is a note: whether it matters depends on the handler of a pool or on the code around a submit, about which a plan says nothing
 abbrev pub is_note : Lint → Bool
 is_note (RunInCaller k) = true
 is_note (OpenFuture of number place) = true
 is_note _ = false
 
--- one of the warnings is not a note
+-- at least one of the warnings is not a note
 abbrev pub has_warning : List Warning → Bool
 has_warning warnings = list_any (λ (warning : Warning). not (is_note warning.lint)) warnings
 

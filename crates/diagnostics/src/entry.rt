@@ -10,7 +10,7 @@ use toml::{Table, Value};
 /// The beginning of a text.
 pub(crate) const BEGINNING: TextPlace = TextPlace { line: 1, column: 1 };
 
-/// The text in place of a number at a size that has no bound.
+/// The string for a size without a bound, in place of a number.
 pub(crate) const UNBOUNDED: &str = "unbounded";
 
 /// Returns the key of the list for entries of this kind, such as `pool`, or `plan` for the whole
@@ -57,12 +57,12 @@ impl<'a> PlacedEntry<'a> {
         }
     }
 
-    /// Returns whether the value of the key is the string `unbounded`.
+    /// Returns whether the value at the key is the string `unbounded`.
     pub(crate) fn is_unbounded(&self, key: &str) -> bool {
         self.text(key) == Some(UNBOUNDED)
     }
 
-    /// Returns whether the value of the key is `true`.
+    /// Returns whether the value at the key is `true`.
     pub(crate) fn is_set(&self, key: &str) -> bool {
         match self.table.get(key) {
             Some(value) => value.as_bool() == Some(true),

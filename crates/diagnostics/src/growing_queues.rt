@@ -1,4 +1,5 @@
-//! The lints of submits again and again to unbounded queues, of jobs that are never got.
+//! The lints of unbounded queues that may grow without limit: repeating clients cause submits to
+//! them, and no get waits for the submitted jobs.
 
 ghost use Rattle.std.specs.Prelude.{◌≡◌, ◌++◌, OnOk};
 ghost use Rattle.diagnostics.specs.Lints as spec;
@@ -9,8 +10,8 @@ use crate::lints::push_if;
 use job_bodies::{Action, Class, Client, Part, Plan};
 use std::alloc::AllocError;
 
-/// Appends a lint for each submit that repeating clients cause again and again, to a pool with an
-/// unbounded queue, if no get waits for the job. `repeated` has, for each class, whether repeating
+/// Appends a lint for each submit that repeating clients cause, if the queue of its pool is
+/// unbounded and its body has no get of it. For each class, `repeated` has whether repeating
 /// clients submit it, directly or through other jobs.
 pub(crate) fn push_growing(
     found: &mut Vec<Lint>,

@@ -15,9 +15,9 @@ pub(crate) fn zero_hint(key: &str) -> &'static str
     }
 }
 
-/// Returns the end of the message for a string in place of a number. If the key is `max` or `queue`
-/// and the string asks for a size without a bound in other words than `unbounded`, such as
-/// `unlimited`, the end says what to write instead. Otherwise it is empty.
+/// Returns the end of the message for a string in place of a number. If the key is `max` or
+/// `queue`, and the string is `unlimited`, `infinite` or `none`, the end asks whether `unbounded`
+/// was meant. Otherwise it is empty.
 pub(crate) fn no_limit_hint(key: &str, text: &str) -> &'static str
     ensures { result.now ≡ spec.no_limit_hint key.now text.now }
 {
@@ -48,7 +48,7 @@ pub(crate) fn unbounded_max_hint() -> &'static str
 }
 
 /// Returns the end of the message for a maximum that is less than the core size. If the queue is
-/// unbounded, the end says that the maximum can be, too. Otherwise it is empty.
+/// unbounded, the end says that the maximum can be `unbounded` too. Otherwise it is empty.
 pub(crate) fn max_hint(is_unbounded: bool) -> &'static str
     ensures { result.now ≡ spec.max_hint is_unbounded }
 {

@@ -27,54 +27,58 @@ pub enum Lint {
     NothingSubmitted,
     /// No job is ever submitted to this pool.
     PoolWithoutJobs(usize),
-    /// The maximum of this pool is above its core size, but has no effect, because its queue never
-    /// fills.
+    /// The maximum of this pool is above its core size, but has no effect, because the queue is
+    /// large enough for all jobs that are in it at once.
     UselessMax(usize),
-    /// The plan says that this pool may reject jobs, but it never does: its queue holds the second
-    /// field, which is the maximum number of jobs in the queue at once.
+    /// The plan says that this pool may reject jobs, but it never does, because its queue is large
+    /// enough for all jobs that are in it at once. The second field is the maximum number of these
+    /// jobs.
     UselessMayReject(usize, u64),
-    /// The plan says that this pool may reject jobs, but it never does: its queue is unbounded.
+    /// The plan says that this pool may reject jobs, but it never does, because its queue is
+    /// unbounded.
     NeverRejects(usize),
     /// The queue capacity of this pool is more than ten times the second field, which is the
     /// maximum number of jobs in the queue at once.
     QueueFarAbove(usize, u64),
     /// No client submits this class, directly or through other jobs.
     ClassWithoutJobs(usize),
-    /// The pool of this class may reject its jobs, and their body has submits or gets. If the pool's
-    /// handler runs a rejected job in the caller, the plan does not describe what happens.
+    /// The pool of this class may reject its jobs, and the body of the class has submits or gets.
+    /// If the pool's handler runs a rejected job in the caller, the plan does not describe what
+    /// happens.
     RunInCaller(usize),
     /// This client kind does not repeat: each of its clients goes through its body once.
     GoesOnce(usize),
-    /// Each pool to which this client kind submits has one core thread and a queue capacity below
-    /// the number of clients of the kind.
+    /// This client kind submits jobs, but only to pools that must not reject jobs and have one core
+    /// thread and a bounded queue. The capacity of each of these queues is below the number of
+    /// clients of the kind.
     Crowd(usize),
     /// The body of a class or client kind has a `work` of at least 50 units, whose length is also a
     /// size of a pool or the count of a client kind. The fields are: whether it is a class or a
     /// client kind, its number, the number of the action, and the length in units.
     WorkLikeASize(Part, usize, usize, u32),
-    /// The body of a class or client kind submits a job that its pool may reject while a future is
-    /// open: a job was submitted before, and its get comes later. The fields are: whether it is a
+    /// The body of a class or client kind submits a job that its pool may reject, between another
+    /// submit and the get of that submit, so that a future is open. The fields are: whether it is a
     /// class or a client kind, its number, and the number of the action.
     OpenFuture(Part, usize, usize),
-    /// The body of a class or client kind submits a job to a pool with an unbounded queue, and has no
-    /// get of it. Repeating clients cause such submits again and again, so the queue may grow without
-    /// limit. The fields are: whether it is a class or a client kind, its number, and the number of
-    /// the action.
+    /// The body of a class or client kind submits a job to a pool with an unbounded queue and has
+    /// no get of it. Repeating clients cause this submit again and again, so the queue may grow
+    /// without limit. The fields are: whether it is a class or a client kind, its number, and the
+    /// number of the action.
     QueueMayGrow(Part, usize, usize),
     /// A given certificate does not accept the plan. This is not a lint of the plan itself, and the
     /// caller that reports it provides the message.
     StaleCertificate,
 }
 
-/// Returns whether the lint is a note. Whether a note matters depends on what no plan has: the
-/// handler of a pool, or the code around a submit. Any other lint is a warning.
+/// Returns whether the lint is a note, and not a warning. Whether a note matters depends on the
+/// handler of a pool or on the code around a submit, about which a plan says nothing.
 pub fn is_note(lint: Lint) -> bool
     ensures { result ≡ spec.is_note lint }
 {
     matches!(lint, Lint::RunInCaller(_) | Lint::OpenFuture(_, _, _))
 }
 
-/// Returns whether some of these are warnings and not notes.
+/// Returns whether at least one of these is a warning, and not a note.
 pub fn has_warning(warnings: &[Warning]) -> bool
     ensures { result ≡ spec.has_warning warnings.now }
 {

@@ -61,8 +61,8 @@ fn brings_jobs(marks: &[bool], number: usize, class: &Class, pool: usize) -> boo
     is_submitted(marks, number) && class.pool == pool
 }
 
-/// Returns whether the pool's maximum is above its core size. Returns false if its queue is
-/// unbounded, since its maximum then has no effect.
+/// Returns whether the pool's queue is bounded and its maximum is above its core size. If the queue
+/// is unbounded, the maximum has no effect.
 pub(crate) fn may_grow(pool: &Pool) -> bool
     ensures { result ≡ spec.may_grow pool.now }
 {
@@ -70,15 +70,15 @@ pub(crate) fn may_grow(pool: &Pool) -> bool
 }
 
 /// Returns whether the pool's maximum is above its core size, but has no effect, because the queue
-/// never fills. `most` is the maximum number of jobs in the queue at once.
+/// holds `most` jobs, the maximum number of jobs in it at once.
 pub(crate) fn has_useless_max(pool: &Pool, most: u64) -> bool
     ensures { result ≡ spec.has_useless_max pool.now most }
 {
     may_grow(pool) && most <= pool.queue
 }
 
-/// Returns whether the plan says that the pool may reject jobs, but its queue never overflows.
-/// `most` is the maximum number of jobs in the queue at once.
+/// Returns whether the plan says that the pool may reject jobs, although its queue holds `most`
+/// jobs, the maximum number of jobs in it at once.
 pub(crate) fn never_rejects(pool: &Pool, most: u64) -> bool
     ensures { result ≡ spec.never_rejects pool.now most }
 {
@@ -93,7 +93,8 @@ pub(crate) fn is_far_above(pool: &Pool, most: u64) -> bool
     most.max(1) < pool.queue / FAR_ABOVE
 }
 
-/// Returns whether the pool of the class may reject its jobs, and their body has submits or gets.
+/// Returns whether the pool of the class may reject its jobs, and the body of the class has submits
+/// or gets. `needed` is as in [`most_at`].
 pub(crate) fn may_run_in_caller(plan: &Plan, needed: &[Option<u64>], class: &Class) -> bool
     ensures { result ≡ spec.may_run_in_caller plan.now needed.now class.now }
 {
@@ -112,8 +113,8 @@ fn is_work(action: Action) -> bool
     matches!(action, Action::Work(_))
 }
 
-/// Returns whether the submit of a job of the class at this position of the body may be rejected
-/// while a future is open. `needed` is as in [`most_at`].
+/// Returns whether a future is open at this position of the body, and the submit of a job of the
+/// class there may be rejected. `needed` is as in [`most_at`].
 pub(crate) fn leaves_a_future(
     plan: &Plan,
     needed: &[Option<u64>],
@@ -126,8 +127,9 @@ pub(crate) fn leaves_a_future(
     may_reject_jobs(plan, needed, pool_of(plan, class)) && has_open_future(body, position)
 }
 
-/// Returns whether the pool with this number may reject jobs by the plan, and it is not known that
-/// it never does. `needed` is as in [`most_at`]. Returns `false` if there is no such pool.
+/// Returns whether the plan says that the pool with this number may reject jobs, and its queue may
+/// be too small for all jobs that can be in it at once (see [`holds_all`]). `needed` is as in
+/// [`most_at`]. Returns `false` if there is no such pool.
 fn may_reject_jobs(plan: &Plan, needed: &[Option<u64>], number: usize) -> bool
     ensures { result ≡ spec.may_reject_jobs plan.now needed.now number }
 {
@@ -137,9 +139,9 @@ fn may_reject_jobs(plan: &Plan, needed: &[Option<u64>], number: usize) -> bool
     }
 }
 
-/// Returns whether the pool's queue holds all jobs that can be in it at once. An unbounded queue
-/// does. `most` is the number of these jobs. For a bounded queue returns `false` if it is `None`,
-/// because the number is not known.
+/// Returns whether the pool's queue is unbounded or holds `most` jobs, the maximum number of jobs
+/// in it at once. If `most` is `None`, that number is not known, and only an unbounded queue is
+/// certain to hold all jobs.
 fn holds_all(pool: &Pool, most: Option<u64>) -> bool
     ensures { result ≡ spec.holds_all pool.now most }
 {
@@ -149,8 +151,8 @@ fn holds_all(pool: &Pool, most: Option<u64>) -> bool
     }
 }
 
-/// Returns whether the action at this position of the body submits a job to a pool with an unbounded
-/// queue, and the body has no get of it.
+/// Returns whether the action at this position of the body submits a job to a pool with an
+/// unbounded queue, and the body has no get of it.
 pub(crate) fn fills_queue(plan: &Plan, body: &[Action], position: usize, action: Action) -> bool
     ensures { result ≡ spec.fills_queue plan.now body.now position action }
 {
@@ -173,9 +175,8 @@ fn is_unbounded(plan: &Plan, number: usize) -> bool
     }
 }
 
-/// Returns whether the clients of this kind submit jobs, and each pool to which they submit must not
-/// reject, has one core thread, and has a bounded queue with a capacity below the number of these
-/// clients.
+/// Returns whether the clients of this kind submit jobs, and each pool to which they submit is
+/// small for their number (see [`is_small`]).
 pub(crate) fn are_a_crowd(plan: &Plan, client: &Client) -> bool
     ensures { result ≡ spec.are_a_crowd plan.now client.now }
 {
@@ -200,8 +201,8 @@ fn submits_to_small_alone(plan: &Plan, count: u64, body: &[Action]) -> bool
     body.iter().all(|action| is_for_small(plan, count, *action))
 }
 
-/// Returns whether the action is not a submit, or submits a job to a pool that must not reject, with
-/// one core thread and a bounded queue with a capacity below `count`.
+/// Returns whether the action is not a submit, or submits a job to a pool that is small for `count`
+/// clients (see [`is_small`]).
 fn is_for_small(plan: &Plan, count: u64, action: Action) -> bool
     ensures { result ≡ spec.is_for_small plan.now count action }
 {
@@ -230,8 +231,8 @@ fn is_small_at(plan: &Plan, count: u64, pool: usize) -> bool
     }
 }
 
-/// Returns whether the pool must not reject, has one core thread, and has a bounded queue with a
-/// capacity below `count`.
+/// Returns whether the pool is small for `count` clients: it must not reject jobs, has one core
+/// thread, and has a bounded queue with a capacity below `count`.
 fn is_small(count: u64, pool: &Pool) -> bool
     ensures { result ≡ spec.is_small count pool.now }
 {
@@ -259,8 +260,8 @@ fn is_size_of_any(pools: &[Pool], number: u64) -> bool
     pools.iter().any(|pool| has_size(pool, number))
 }
 
-/// Returns whether the number is a size of the pool. Only the core size of a pool with an unbounded
-/// queue counts.
+/// Returns whether the number is a size of the pool. If the queue is unbounded, only the core size
+/// counts.
 fn has_size(pool: &Pool, number: u64) -> bool
     ensures { result ≡ spec.has_size number pool.now }
 {

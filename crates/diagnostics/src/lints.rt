@@ -170,8 +170,8 @@ fn push_pools(
     Ok(())
 }
 
-/// Appends a lint if no job is ever submitted to the pool. Otherwise appends the lints of its
-/// maximum and its queue capacity.
+/// Appends a lint if no job is ever submitted to the pool. Otherwise appends the lints of its sizes
+/// and of its key `may_reject`.
 fn push_pool(
     found: &mut Vec<Lint>,
     plan: &Plan,
@@ -191,8 +191,8 @@ fn push_pool(
     }
 }
 
-/// Appends the lints of the pool's sizes and of its key `may_reject`. Of a pool with an unbounded
-/// queue, only that key can have no effect.
+/// Appends the lints of the pool's sizes and of its key `may_reject`. If its queue is unbounded,
+/// the only possible lint is that the key has no effect.
 fn push_sizes(
     found: &mut Vec<Lint>,
     number: usize,
@@ -209,9 +209,9 @@ fn push_sizes(
     }
 }
 
-/// Appends a lint if the pool's maximum has no effect, one if its key `may_reject` has none, and one
-/// if its queue capacity is far above `most`, the maximum number of jobs in the queue at once.
-/// Appends none if `most` is `None`.
+/// Appends a lint if the pool's maximum has no effect, and a lint if its key `may_reject` has no
+/// effect. Appends another if its queue capacity is far above `most`, the maximum number of jobs in
+/// the queue at once. Appends nothing if `most` is `None`, because the number is not known.
 fn push_bounded(
     found: &mut Vec<Lint>,
     number: usize,

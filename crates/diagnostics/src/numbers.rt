@@ -11,8 +11,8 @@ use support::number::BAD_NUMBER;
 /// The largest valid size and count.
 const MOST: i64 = MAX_SIZE as i64;
 
-/// Returns the least valid number for the key: 1, or 0 for the queue of a pool that may reject jobs,
-/// which can be a `SynchronousQueue`.
+/// Returns the least valid number for the key. This is 1, or 0 for the queue of a pool that may
+/// reject jobs: such a queue can be a `SynchronousQueue`.
 fn least(entry: &PlacedEntry<'_>, key: &str) -> u64 {
     if key == "queue" && entry.is_set("may_reject") {
         0
@@ -62,8 +62,8 @@ fn report_number(
     entry.report_with_range(collector, BAD_NUMBER, place, &words, Some(range))
 }
 
-/// Reports the sizes of a pool that are out of range, or its maximum if it is less than its core
-/// size. A maximum without a bound is out of range if the queue has a capacity.
+/// Reports the sizes of a pool that are out of range. If there are none, reports the maximum if it
+/// is less than the core size. The maximum `unbounded` is out of range if the queue has a capacity.
 pub(crate) fn sizes(
     collector: &mut FaultCollector,
     pool: &PlacedEntry<'_>,
@@ -83,7 +83,7 @@ pub(crate) fn sizes(
     Ok(())
 }
 
-/// Reports a maximum without a bound, in a pool whose queue has a capacity.
+/// Reports the maximum `unbounded` of a pool whose queue has a capacity.
 fn unbounded_max(collector: &mut FaultCollector, pool: &PlacedEntry<'_>) -> Result<(), AllocError> {
     let low = least_max(pool);
     let hint = unbounded_max_hint();
@@ -98,7 +98,7 @@ fn unbounded_max(collector: &mut FaultCollector, pool: &PlacedEntry<'_>) -> Resu
     pool.report_with_range(collector, BAD_NUMBER, place, &words, Some(range))
 }
 
-/// Returns the least valid maximum of the pool: its core size, or 1 if the core size is not valid.
+/// Returns the least valid maximum of the pool: its core size, or 1 if it has no valid core size.
 fn least_max(pool: &PlacedEntry<'_>) -> u64 {
     match pool.number("core") {
         Some(core) if is_in_range(1, core) => core.unsigned_abs(),

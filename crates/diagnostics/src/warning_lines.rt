@@ -10,9 +10,9 @@ use crate::warnings::Warning;
 use plan_text::TextPlace;
 use std::alloc::AllocError;
 
-/// Appends a line for each warning, such as `shop.toml:24:1: warning: client browser goes through
-/// its body once`, with `file` as the file's name. The line of a note has `note` in place of
-/// `warning`.
+/// Appends a line for each warning, such as `shop.toml:3:1: warning: pool web: may_reject has no
+/// effect: its queue is
+/// unbounded`, with `file` as the file's name. The line of a note has `note` in place of `warning`.
 ///
 /// # Errors
 ///

@@ -117,8 +117,8 @@ fn words_of_submit(
     )
 }
 
-/// Returns the kind, the name and the body of a class or client kind, or `None` if there is no
-/// entry with this number.
+/// Returns the word `client` or `class`, and the name and the body of the client kind or class with
+/// this number. Returns `None` if there is none.
 fn entry_of(plan: &Plan, part: Part, number: usize) -> Option<(&'static str, &str, &[Action])> {
     match part {
         Part::Client => {
@@ -168,8 +168,8 @@ fn words_of_growth(
     )
 }
 
-/// Returns the name of the class of a job whose future is open at this position of the body, or an
-/// empty name if there is none.
+/// Returns the name of the class of the first job whose future is open at this position of the
+/// body, or an empty name if no future is open.
 fn open_class<'a>(plan: &'a Plan, body: &[Action], position: usize) -> &'a str {
     for (number, action) in body.iter().enumerate() {
         if let Action::Get(submit) = *action {
@@ -198,7 +198,8 @@ fn submit_text(
     format!(in alloc; "submit {class}")
 }
 
-/// Returns the name of the class that the action submits, or an empty name if it is no submit.
+/// Returns the name of the class that the action submits, or an empty name if the action is no
+/// submit.
 fn submitted_name<'a>(plan: &'a Plan, body: &[Action], action: usize) -> &'a str {
     match body.get(action) {
         Some(Action::Submit(class)) => plan.class_name(*class),
@@ -206,7 +207,8 @@ fn submitted_name<'a>(plan: &'a Plan, body: &[Action], action: usize) -> &'a str
     }
 }
 
-/// Returns the name of the pool to which the action submits, or an empty name if it is no submit.
+/// Returns the name of the pool to which the action submits, or an empty name if the action is no
+/// submit.
 fn pool_submitted_to<'a>(plan: &'a Plan, body: &[Action], action: usize) -> &'a str {
     match body.get(action) {
         Some(Action::Submit(class)) => pool_of_class(plan, *class),
