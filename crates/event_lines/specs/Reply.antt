@@ -31,12 +31,12 @@ reply_text plan (Stuck false) = codes "stuck no"
 abbrev pub numbered : ℕ → List ℕ → List ℕ
 numbered number text = decimal number ++ codes ": " ++ text ++ 10 ∷ []
 
--- the part of the last line with the number of rejected submits; empty if the number is None
+-- the part of the last line with the number of rejected submits; empty if that is None
 abbrev pub rejected_text : Option ℕ → List ℕ
 rejected_text None = []
 rejected_text (Some rejected) = codes ", rejected " ++ decimal rejected
 
--- the last line of a replay, with the number of refused submits, the number of rejected submits unless it is None, and the number of
+-- the last line of a replay: the number of refused submits, the number of rejected submits unless that is None, and the number of
 -- unfinished jobs
 abbrev pub summary : ℕ → Option ℕ → ℕ → List ℕ
 summary refusals rejected unfinished =

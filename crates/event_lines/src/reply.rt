@@ -89,9 +89,9 @@ fn push_named(text: &mut String, words: &str, name: &str) -> Result<(), AllocErr
     text.push_str(name)
 }
 
-/// Appends the last line of a replay, with the number of refused submits and the number of
-/// unfinished jobs, such as `refusals 0, unfinished 2`. If `rejected` is `Some`, the line has this
-/// number of rejected submits too, such as `refusals 0, rejected 3, unfinished 2`.
+/// Appends the last line of a replay: the number of refused submits and the number of unfinished
+/// jobs, such as `refusals 0, unfinished 2`. If `rejected` is `Some`, the line also has this number
+/// of rejected submits, such as `refusals 0, rejected 3, unfinished 2`.
 ///
 /// # Errors
 ///
