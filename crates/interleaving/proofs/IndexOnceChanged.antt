@@ -87,7 +87,7 @@ drop_if_stale_unfinished a t (Some v) = by_test (is_live_child a t (Some v)) (is
     by_test true false e = refl
     by_test false done e = refl
 
--- a new job adds to the number of unfinished jobs, unless it is done
+-- a new job adds 1 to the number of unfinished jobs, unless it is done
 count-with_new : (jobs : List (Option JobView)) (job : JobView) → count_by is_unfinished_job (with_new jobs job) ≡ count_by is_unfinished_job jobs + cond (not (is_done job.phase)) 1 0
 count-with_new jobs job =
     let f = drop_if_stale job.parent job.slot in

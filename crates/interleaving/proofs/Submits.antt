@@ -108,7 +108,7 @@ jobs-made plan s job phase after new =
     ∙ sym (get_or_push fresh (Some (as_seen job phase)) None n (omega arith)))
     (cases_lt n (length s.jobs)))
 
--- an actor that moved within its body may still get its jobs
+-- an actor that moved within its body can still get jobs
 asks_moved : (plan : Plan) (s : State) (a : Parent) (body : List Action) (i i' : ℕ) → point plan s a ≡ Some (record { body = body; position = i }) → may_get (with_position a i' s) a ≡ true
 asks_moved plan s (parent.Client c) body i i' stands = refl
 asks_moved plan s (parent.Job j) body i i' stands = ap is_unfinished (stage-staged s.jobs j (At i') (standing_made plan s j body i stands))
@@ -159,7 +159,7 @@ module _ (plan : Plan) (s : State) (a : Parent) (body : List Action) (i k : ℕ)
       let same = ap₂ (λ (pool : PoolView) (n : ℕ). apply_answer pool n offer.Queued) (sym (pool_at_view plan s p inside)) (sym (length-view plan s)) in
       same_views (live_view plan (with_pool p after s')) (answered_in plan view a i k offer.Queued).0 (jobs_now Queued phase.Queued refl) (put ∙ ap (set view.pools p) same) clients_now refl
 
-  -- the job of a skipped submit is live, because it is the latest of its submit
+  -- the job of a skipped submit is live, because it is the latest job of this submit
   skipped_live : let moved = with_position a (i + 1) s in phase_seen (skipped s a i k) (length moved.jobs) (new_job k a i Done) Done ≡ Some phase.Done
   skipped_live =
       let moved = with_position a (i + 1) s in

@@ -125,8 +125,8 @@ made a i job view =
     let moved = move_actor a (i + 1) view in
     record moved { jobs = map (drop_if_stale a i) moved.jobs ++ Some job ∷ [] }
 
--- the view and the outcome after actor a, at position i, submitted a job of class k, and the pool gave this answer; a pool that may reject
--- jobs does not refuse the submit, but the new job is done at once
+-- the view and the outcome after actor a, at position i, submitted a job of class k, and the pool gave this answer; if the pool may reject
+-- jobs and answers `Refused`, the submit is not refused, but the new job is done at once
 abbrev pub answered_in : Plan → View → Parent → ℕ → ℕ → Offer → View × Outcome
 answered_in plan view a i k offer.Started = (
   with_pool_in (pool_of plan k) (apply_answer (pool_in view (pool_of plan k)) (length view.jobs) offer.Started)

@@ -13,7 +13,8 @@ pub(crate) fn pool_of(plan: &Plan, class: usize) -> usize
     plan.class_at(class).map_or(0, |class| class.pool)
 }
 
-/// Returns `true` if the pool with this number may reject jobs. A pool that does not exist may not.
+/// Returns whether the pool with this number may reject jobs. Returns `false` if there is no such
+/// pool.
 pub(crate) fn may_reject(plan: &Plan, pool: usize) -> bool
     ensures { result ≡ (pool_at plan.now pool).may_reject }
 {

@@ -20,11 +20,11 @@ impl World {
     ghost use Rattle.interleaving.specs.World.{ReusesPlaces};
 
     /// Performs a submit of the actor: offers a job of the class to the class's pool. If the pool
-    /// accepts the job, creates it and moves the actor to its next position. If the pool is full and
-    /// may reject jobs, skips the submit: creates the job as a done job, and moves the actor.
-    /// Otherwise counts the refusal, and the actor does not move. `next` has the position of the
-    /// submit in the actor's body. If the body has a get of this submit, no live job of this submit
-    /// may exist yet.
+    /// accepts the job, creates it and moves the actor to its next position. If the pool does not
+    /// accept it but may reject jobs, skips the submit: creates the job as a done job and moves the
+    /// actor. Otherwise counts a refusal and does not move the actor. `next` has the position of
+    /// the submit in the actor's body. If the body has a get of this submit, no live job of this
+    /// submit may exist yet.
     ///
     /// # Errors
     ///

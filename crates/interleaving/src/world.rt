@@ -64,7 +64,8 @@ impl World {
         })
     }
 
-    /// Returns the number of refused submits. A rejected submit is not counted.
+    /// Returns the number of refused submits. A submit that a pool rejects as the plan allows is
+    /// not counted.
     pub fn refusals(&self) -> u64
         ensures { result ≡ self.now.view.refusals }
     {
