@@ -1,6 +1,6 @@
--- Well-formed plans. Their sizes are those that ThreadPoolExecutor and ArrayBlockingQueue allow, within the limits of this project. The
--- queue of a pool that may reject jobs may also be a SynchronousQueue, which has capacity 0. Names
--- are valid and unique in their list. Submits name classes, and gets name submits.
+-- Well-formed plans. The sizes of a pool are valid for Java's ThreadPoolExecutor with an ArrayBlockingQueue, core is at least 1, and no
+-- size is above MAX_SIZE. If the pool may reject jobs, the capacity of its queue can also be 0, that of a SynchronousQueue. Names are valid
+-- and unique in their list. Submits name classes, and gets name submits.
 use Rattle.std.specs.Prelude.{◌≤◌, ℕ, Bool, true, not, ◌==◌, ◌&&◌, ◌||◌, nat_lt, nat_le, if◌then◌else◌, List, [], ◌∷◌, length, map, take, slice_index, slice_get, IsTrue}
 use Rattle.std.specs.List.{list_all, list_any, enumerate_from}
 use Rattle.std.specs.Str.{bytes_eq}

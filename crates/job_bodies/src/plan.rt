@@ -36,14 +36,14 @@ pub struct Pool {
     /// them. If `prestart` is false, the first jobs start threads.
     pub prestart: bool,
     /// Whether the pool may reject jobs, because its callers expect that: they handle the exception
-    /// of `AbortPolicy`, or the pool has another handler, such as `CallerRunsPolicy`. A submit to
-    /// the full pool then counts as skipped together with its get. If `may_reject` is false, no
-    /// submit to the pool should ever be refused.
+    /// of `AbortPolicy`, or the pool has another handler, such as `CallerRunsPolicy`. If the pool
+    /// rejects a job, the submit counts as skipped together with its get. If `may_reject` is false,
+    /// no submit to the pool should ever be refused.
     pub may_reject: bool,
     /// Whether the queue is unbounded, as a `LinkedBlockingQueue` without a capacity. The pool then
-    /// refuses no job and starts no thread above core, so `max` and `queue` do not change what it
-    /// does. A plan's text sets them to core and to 1,000,000: the weights of a certificate count
-    /// `max` threads.
+    /// refuses no job and starts no thread above core, so `max` and `queue` have no effect on what
+    /// it does. In a plan that is read from a text, `max` is then `core`, because the totals of a
+    /// certificate count `max` threads, and `queue` is 1,000,000.
     pub unbounded: bool,
 }
 
@@ -71,8 +71,8 @@ impl Pool {
         if self.may_reject { 0 } else { 1 }
     }
 
-    /// Returns whether a certificate needs no bound of the pool: the pool may reject jobs, or its
-    /// queue is unbounded.
+    /// Returns whether a certificate needs no bound of the pool's queue: the pool may reject jobs,
+    /// or its queue is unbounded.
     pub fn needs_no_bound(&self) -> bool
         ensures { result ≡ spec.needs_no_bound self.now }
     {
