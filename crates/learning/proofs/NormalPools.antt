@@ -1,4 +1,4 @@
--- Over an unbounded queue, a learned pool has core as its maximum and the largest size as its queue.
+-- A learned pool with an unbounded queue has core as its maximum and the largest size as its queue.
 use Rattle.std.proofs.Common.{◌≡◌, ◌==◌, ◌||◌, ℕ, ◌+◌, Bool, true, false, cond, List, [], ◌∷◌, map, refl, ap, ap₂, sym, subst}
 use Rattle.std.specs.Prelude.{⊤}
 use Rattle.std.specs.List.{cons_option, enumerate_from, filter, filter_map}
@@ -12,7 +12,7 @@ use Rattle.conformance.specs.RejectingPools.{with_key, only_rejects}
 use Rattle.conformance.specs.Sizes.{is_synchronous}
 use Rattle.learning.specs.Pools.{into_range, has_core_threads, least_capacity, normal_pool, recorded_pool, pool_of_line, has_other_name, firsts, recorded_pools, LearnedPoolsAreNormal}
 
--- Each pool has the sizes that the text of a plan gives it.
+-- Each pool is its own `normal_pool`: it has the sizes that the text of a plan gives it.
 abbrev AreNormal : List Pool → Type 0
 AreNormal [] = ⊤
 AreNormal (pool ∷ pools) = (normal_pool pool ≡ pool) × AreNormal pools
@@ -55,7 +55,7 @@ recorded_are_normal : (lines : List RecordedLine) → AreNormal (recorded_pools 
 unfolding recorded_pools
 recorded_are_normal lines = firsts_are_normal (filter_map pool_of_line lines) (lines_are_normal lines)
 
--- ---- the key
+-- ---- the key `may_reject`
 keyed_if : (key : Bool) (pool : Pool) (unbounded : Bool) → cond unbounded (record pool { max = pool.core; queue = MAX_SIZE }) pool ≡ pool
     → cond unbounded (record (with_key key pool) { max = pool.core; queue = MAX_SIZE }) (with_key key pool) ≡ with_key key pool
 keyed_if key pool true normal = ap (λ (one : Pool). record one { may_reject = key || pool.queue == 0 }) normal
@@ -68,6 +68,6 @@ keyed_are_normal : (rejects : ℕ → Bool) (first : ℕ) (pools : List Pool) �
 keyed_are_normal rejects first [] normal = refl
 keyed_are_normal rejects first (pool ∷ pools) normal = ap₂ (λ (one : Pool) (others : List Pool). one ∷ others) (keyed_if (rejects first) pool pool.unbounded normal.0) (keyed_are_normal rejects (first + 1) pools normal.1)
 
--- The law that a learned pool with an unbounded queue has the sizes that the text of a plan gives it.
+-- The law that each learned pool is its own `normal_pool`.
 pub learned_pools_are_normal : LearnedPoolsAreNormal
 learned_pools_are_normal plan lines is = keyed_are_normal (only_rejects plan lines) 0 plan.pools (subst AreNormal (sym is) (recorded_are_normal lines))

@@ -54,7 +54,7 @@ low_is_small : (hands : Bool) → cond hands 0 1 ≤ MAX_SIZE
 low_is_small true = omega arith
 low_is_small false = omega arith
 
--- The size stays in its range if it is the largest, or the least, where the queue is unbounded.
+-- If two sizes are in the range, the one that the flag selects is in the range.
 either_within : (unbounded : Bool) (low one other : ℕ) → is_within low MAX_SIZE one ≡ true → is_within low MAX_SIZE other ≡ true → is_within low MAX_SIZE (cond unbounded one other) ≡ true
 either_within true low one other valid valid' = valid
 either_within false low one other valid valid' = valid'

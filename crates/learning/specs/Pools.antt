@@ -24,16 +24,17 @@ has_core_threads sizes = not (sizes.prestarted == 0) && (sizes.prestarted == siz
 abbrev pub least_capacity : PoolSizes → ℕ
 least_capacity sizes = if is_synchronous sizes.queue then 0 else 1
 
--- The maximum of a pool with this core: over an unbounded queue, where the maximum has no effect, the core.
+-- The maximum of a pool with this core. If the queue is unbounded, the maximum has no effect, and it is the core.
 abbrev pub planned_max : ℕ → PoolSizes → ℕ
 planned_max core sizes = if has_unbounded_queue sizes then core else into_range core sizes.max
 
--- The capacity of the queue: of an unbounded one, whose capacity has no effect, the largest size of a plan.
+-- The capacity of the queue. If the queue is unbounded, the capacity has no effect, and it is the largest size of a plan.
 abbrev pub planned_queue : PoolSizes → ℕ
 planned_queue sizes = if has_unbounded_queue sizes then MAX_SIZE else into_range (least_capacity sizes) sizes.capacity
 
--- The pool of a `pool` line, with each size clamped to its range in a plan. An unbounded queue stays unbounded. A pool with a
--- `SynchronousQueue` may reject jobs, because no other pool of a plan has such a queue.
+-- The pool of a `pool` line, with each size clamped to its range in a plan. If the queue is unbounded, it stays so, and `planned_max` and
+-- `planned_queue` give the two sizes that have no effect. A pool with a `SynchronousQueue` may reject jobs, because in a plan only such a
+-- pool can have this queue.
 abbrev pub recorded_pool : List ℕ → PoolSizes → Pool
 recorded_pool name sizes = let core = into_range 1 sizes.core in
     record { name = name; core = core; max = planned_max core sizes; queue = planned_queue sizes; prestart = has_core_threads sizes; may_reject = is_synchronous sizes.queue; unbounded = has_unbounded_queue sizes }
@@ -58,12 +59,13 @@ unfoldable pub recorded_pools : List RecordedLine → List Pool
 recorded_pools lines = firsts (filter_map pool_of_line lines)
 
 -- ---- sizes without an effect
--- The pool, except that over an unbounded queue its maximum is core and its queue the largest size, as the text of a plan gives them. These
--- two sizes have no effect there.
+-- The pool as the text of a plan gives it: if its queue is unbounded, its maximum is core and its queue the largest size, and otherwise it
+-- is unchanged. Over an unbounded queue these two sizes have no effect.
 abbrev pub normal_pool : Pool → Pool
 normal_pool pool = if pool.unbounded then record pool { max = pool.core; queue = MAX_SIZE } else pool
 
--- The pools of a recording have these sizes, also after the pools that reject jobs in the recording have got the key.
+-- If the pools of a plan are those of a recording, each of them is its own `normal_pool`. This still holds after each pool that rejects
+-- jobs in the recording is marked as one that may reject jobs.
 abbrev pub LearnedPoolsAreNormal : Type 0
 LearnedPoolsAreNormal = (plan : Plan) (lines : List RecordedLine) → plan.pools ≡ recorded_pools lines → map normal_pool (with_rejecting_pools plan lines).pools ≡ (with_rejecting_pools plan lines).pools
 

@@ -14,10 +14,11 @@ use job_bodies::{MAX_POOLS, MAX_SIZE, Pool};
 use recordings::{Line, PoolSizes, QueueKind};
 use std::alloc::{AllocError, Global};
 
-/// Returns the pool of a `pool` line, with each size clamped to its range in a plan. An unbounded
-/// queue stays unbounded. `prestart` is true if all core threads were prestarted and there is at
-/// least one. `may_reject` is true if the queue is a `SynchronousQueue`, because no other pool of a
-/// plan has such a queue.
+/// Returns the pool of a `pool` line, with each size clamped to its range in a plan. If the queue
+/// is unbounded, it stays so, the maximum is core, and the capacity is the largest size. `prestart`
+/// is true if all core threads were prestarted and there is at least one. `may_reject` is true if
+/// the queue is a `SynchronousQueue`, because in a plan only a pool that may reject jobs can have
+/// this queue.
 ///
 /// # Errors
 ///
