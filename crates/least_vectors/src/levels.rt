@@ -59,9 +59,9 @@ impl Levels {
     }
 
     /// Gives `level` to each class that has no level yet and submits only classes of lower levels,
-    /// and appends these classes to the order. `known` has, for each class, the length of a prefix
-    /// of the body. The prefix was found to submit only classes of lower levels, so its actions are
-    /// not checked again. The call extends these prefixes.
+    /// and appends these classes to the order. For each class, `known` has the length of a prefix
+    /// of the body that is known to submit only classes of lower levels. The call does not check
+    /// these prefixes again, and extends them.
     fn add_level(&mut self, plan: &Plan, level: u64, known: &mut [usize]) -> Result<(), AllocError>
         ensures { vec_len self.new.of_classes ≡ vec_len self.old.of_classes }
     {

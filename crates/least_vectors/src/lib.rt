@@ -1,10 +1,9 @@
 //! Least vectors of weights. A vector gives each point of a plan a weight, so that no event
 //! increases the sum of the weights. The jobs of one pool weigh at least 1 at certain points, so
-//! the sum bounds the number of its jobs at these points.
+//! the sum bounds the number of these jobs at these points.
 //!
 //! Searches for certificates use these vectors. The contracts promise only the shape of a vector,
 //! so a caller must check a vector before it relies on it, for example with `cert_check::accepts`.
-//! Tests show that the vectors are the intended ones.
 #![tactic(auto)]
 
 mod levels;

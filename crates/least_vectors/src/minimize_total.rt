@@ -48,14 +48,12 @@ pub(crate) struct Loans {
 /// total becomes smallest.
 ///
 /// Classes that are never submitted are ignored, because a loan for their jobs does not change the
-/// total. But there is no vector if one of these classes has a weight above `MAX_WEIGHT`. In this
-/// case a loan reduces the number of these classes as far as the workers of one pool can. It gives
-/// these workers the least weight that suffices.
+/// total. But there is no vector if such a class has a weight above `MAX_WEIGHT`. In this case the
+/// next loan chooses the pool whose workers can leave the fewest such classes, and gives these
+/// workers the least weight that does so.
 ///
-/// A cache has the sketches of all combinations of worker weights that were tried, so none is
-/// computed twice. The largest weight of a lender's jobs comes from the sketch in which the
-/// lender's workers weigh 0. For the last lender, this is the sketch before its loan. For another
-/// lender, it is often a sketch that was tried and not chosen.
+/// A cache has the sketches of the worker weights whose totals were compared. The largest weight of
+/// a lender's jobs comes from the sketch in which the lender's workers weigh 0.
 pub(crate) fn minimize_total(
     alloc: Global,
     plan: &Plan,
@@ -111,7 +109,7 @@ pub(crate) fn least_vector(
 
 /// Returns the vector of the target's pool and kind with the smallest total that the search finds,
 /// or `None` if it finds none. The limit of the target must be 0, so that the search does not stop
-/// at a larger total. The total of the vector can be above the limit.
+/// before that total. The total of the vector can be above the limit.
 pub(crate) fn lightest_vector(
     alloc: Global,
     plan: &Plan,
@@ -132,7 +130,7 @@ pub(crate) fn lightest_vector(
 }
 
 /// Returns the next loan, or `None` if no loan helps. `place` is the index of the sketch for
-/// `workers`. `workers` is modified during the call and restored before it returns.
+/// `workers`. `workers` is modified during the call, and is restored unless memory runs out.
 fn next_loan(
     sketch_cache: &mut SketchCache,
     workers: &mut [u64],
@@ -152,11 +150,11 @@ fn next_loan(
 }
 
 /// Returns the loan that gives the smallest total, or `None` if no loan makes the total smaller.
-/// `place` is the index of the sketch for `workers`. `workers` is modified during the call and
-/// restored before it returns.
+/// `place` is the index of the sketch for `workers`. `workers` is modified during the call, and is
+/// restored unless memory runs out.
 ///
-/// Only pools that may lend are tried. A loan is not tried if the workers of all pools alone would
-/// then weigh at least as much as the smallest total found so far.
+/// Only pools that may lend are tried. A loan is not tried if the total weight of all workers alone
+/// would then be at least the smallest total found so far.
 fn best_loan(
     sketch_cache: &mut SketchCache,
     workers: &mut [u64],
@@ -200,9 +198,10 @@ fn best_loan(
 }
 
 /// Returns the largest weight that a job of the pool has in its body if the workers of the pool
-/// weigh 0, and the job itself weighs 0 when it is done. Classes that are never submitted are
-/// ignored. `place` is the index of the sketch for `workers`. This sketch is used if the workers
-/// already weigh 0 in it. `workers` is modified during the call and restored before it returns.
+/// weigh 0, and the job itself weighs as little as possible when it is done. Classes that are never
+/// submitted are ignored. `place` is the index of the sketch for `workers`; this sketch is used if
+/// the workers of the pool already weigh 0. `workers` is modified during the call, and is restored
+/// unless memory runs out.
 fn peak(
     sketch_cache: &mut SketchCache,
     workers: &mut [u64],

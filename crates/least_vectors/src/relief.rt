@@ -16,9 +16,9 @@ const HALVINGS: usize = 20;
 
 /// Returns the loan that leaves the fewest overweight classes. A class is *overweight* if it is
 /// never submitted and has a weight above `MAX_WEIGHT`. If several loans leave the same number,
-/// returns the loan with the least total weight of all workers. Returns `None` if no loan makes the
+/// returns the one for which all workers together weigh least. Returns `None` if no loan makes the
 /// number of overweight classes smaller. `place` is the index of the sketch for `workers`.
-/// `workers` is modified during the call and restored before it returns.
+/// `workers` is modified during the call, and is restored unless memory runs out.
 pub(crate) fn relieving_loan(
     sketch_cache: &mut SketchCache,
     workers: &mut [u64],
@@ -65,11 +65,10 @@ pub(crate) fn relieving_loan(
     Ok(best)
 }
 
-/// Returns the least weight of a worker of the pool with which at most `overweight_unsubmitted`
+/// Returns the least weight of a worker of the pool for which at most `overweight_unsubmitted`
 /// classes are overweight: never submitted, and with a weight above `MAX_WEIGHT`. Returns
-/// `MAX_SIZE` if no smaller weight is enough. Uses bisection, which is correct because heavier
-/// workers never leave more classes overweight. Changes the weight of the pool's workers in
-/// `workers`.
+/// `MAX_SIZE` if no smaller weight is enough. Uses bisection, since heavier workers never leave
+/// more classes overweight. Changes the weight of the pool's workers in `workers`.
 fn least_weight(
     sketch_cache: &SketchCache,
     workers: &mut [u64],

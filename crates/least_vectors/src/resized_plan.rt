@@ -21,25 +21,25 @@ use weights::Vector;
 pub struct VectorSummary {
     /// For each pool, the weight of one of its workers.
     pub workers: Vec<u64>,
-    /// The pools whose workers had weight at some point in the search. For other maximums, the
-    /// search gives the same result if the maximums of these pools are the same and no other pool
-    /// has a smaller maximum.
+    /// The pools whose workers had weight at some point in the search. A search with other maximums
+    /// gives the same result if the maximums of these pools are the same and no other pool has a
+    /// smaller maximum.
     pub lenders: Vec<usize>,
     /// The total: the weight of all clients at the start of their bodies, and of all workers if
     /// each pool has its maximum of them.
     pub total: u64,
 }
 
-/// The kind of a vector of a pool. It does not depend on the core and the queue of the pool.
+/// The kind of a vector of a pool. The core size and the queue of the pool have no effect on the
+/// vector.
 #[derive(Clone, Copy)]
 pub enum Kind<'a> {
     /// A standing vector. The workers of each pool may have weight.
     Standing,
     /// A lifetime vector. No workers have weight.
     Lifetime,
-    /// A blocked vector, if the pool has the rank `rank`. The workers of the pool itself never have
-    /// weight, because all of them together would weigh at least core, but the total must be below
-    /// core.
+    /// A blocked vector of a pool with the rank `rank`. The workers of this pool never have weight:
+    /// all of them together would weigh at least core, but the total must be below core.
     Blocked {
         /// The reach of each class: the maximum of the rank of its pool and of the reaches of the
         /// classes whose jobs it gets.
@@ -61,9 +61,9 @@ pub struct ResizedPlan<'a> {
 
 impl ResizedPlan<'_> {
     /// Searches for worker weights with which the total of the pool's vector is at most `enough`.
-    /// If there are none, uses the worker weights with the smallest total that the search found.
-    /// Returns the summary of the vector with these worker weights, or `None` if one of its numbers
-    /// would be above `MAX_WEIGHT` or a repeating client would need ever more weight.
+    /// If it finds none, uses the worker weights with the smallest total that it found. Returns the
+    /// summary of the vector with these worker weights, or `None` if one of its numbers would be
+    /// above `MAX_WEIGHT` or a repeating client would need ever more weight.
     ///
     /// # Errors
     ///

@@ -9,9 +9,9 @@ use job_bodies::{Action, Class, Client, MAX_WEIGHT, Plan};
 use std::alloc::{AllocError, Global};
 use weights::submitted_class;
 
-/// The total of a sketch if no vector has its worker weights: another weight is above `MAX_WEIGHT`,
-/// or a client that repeats would need ever more weight. A total that overflows also has this
-/// value.
+/// The total of a sketch if there is no vector with its worker weights, because another weight is
+/// above `MAX_WEIGHT` or a client that repeats would need ever more weight. A total that overflows
+/// also has this value.
 pub(crate) const TOO_HEAVY: u64 = u64::MAX;
 
 /// The parts of a vector that determine its total, without the weights at the positions of bodies.
@@ -70,8 +70,8 @@ impl Sketch {
     /// pool if the class is submitted. If a weight is above `MAX_WEIGHT`, sets the total to
     /// [`TOO_HEAVY`], and counts the class as overweight if it is never submitted.
     ///
-    /// A done job gets the greatest weight that its body allows, because a get then returns more to
-    /// its actor. A done job never weighs more than a queued job.
+    /// A done job gets the greatest weight that its body allows, because a get then returns more
+    /// weight to its actor. A done job never weighs more than a queued job of its class.
     fn weigh_class(
         &mut self,
         target: &Target,
@@ -110,8 +110,8 @@ impl Sketch {
     /// of all clients of the kind to the total. Sets the total to [`TOO_HEAVY`] if a weight is
     /// above `MAX_WEIGHT`, or if a client that repeats would need ever more weight.
     ///
-    /// A client that repeats must weigh at the end as much as at the start. If raising the end to
-    /// the weight of the start also raises the start, no vector exists.
+    /// A client that repeats must weigh as much at the end as at the start. If raising the weight
+    /// at the end to the weight at the start also raises the latter, there is no vector.
     fn weigh_client(&mut self, target: &Target, client: &Client) -> Result<(), AllocError> {
         let mut weight = Weight::at_end(0);
         let mut peak = 0;

@@ -1,5 +1,5 @@
-//! A cache of the sketches of one search, so that none is computed twice. A sketch has the weights
-//! that determine the total of a vector.
+//! A cache of the sketches of one search. A sketch has the weights that determine the total of a
+//! vector.
 
 ghost use Rattle.std.specs.Prelude.{◌<◌, ◌≤◌, IfOk, vec_len};
 

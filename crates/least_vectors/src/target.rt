@@ -20,8 +20,8 @@ pub(crate) enum WeightRequirement<'a> {
         reach: &'a [u64],
         rank: u64,
     },
-    /// At every point, also when the job is done, as in a lifetime vector. A get then returns no
-    /// weight to its actor, and workers weigh 0.
+    /// At every point, and also when the job is done, as in a lifetime vector. A get then returns
+    /// no weight to its actor, and workers weigh 0.
     Everywhere,
 }
 
@@ -88,8 +88,7 @@ impl<'a> Target<'a> {
     }
 
     /// Returns the target unchanged if its limit is positive. If the limit is 0, returns the target
-    /// in which the workers of no pool may have weight, because a worker with weight would make the
-    /// total positive.
+    /// without lenders, because a worker with weight would make the total positive.
     pub(crate) fn without_useless_loans(self) -> Target<'a> {
         if self.limit > 0 {
             return self;

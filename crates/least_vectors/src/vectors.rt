@@ -1,10 +1,10 @@
-//! The two vectors that a certificate has for each pool: the bound of the queue, and the blocked
-//! vector. A *standing vector* bounds the number of queued jobs of a pool, and a *lifetime vector*
-//! the number of all jobs that are ever submitted to it. A *blocked vector* bounds the number of
-//! its jobs that wait at gets of classes whose reach is at least the rank of the pool. The *reach*
-//! of a class is the maximum of the rank of its pool and of the reaches of the classes whose jobs
-//! it gets. A pool that may reject jobs or has an unbounded queue needs no bound, but its
-//! certificate can have one.
+//! The two vectors that a certificate can have for each pool: the bound of the queue, and the
+//! blocked vector. The bound is a *standing vector*, which bounds the number of queued jobs of the
+//! pool, or a *lifetime vector*, which bounds the number of all jobs that are ever submitted to it.
+//! The *blocked vector* bounds the number of the pool's jobs that wait at gets of classes whose
+//! reach is at least the rank of the pool. The *reach* of a class is the maximum of the rank of its
+//! pool and of the reaches of the classes whose jobs it gets. A pool that may reject jobs or has an
+//! unbounded queue needs no bound, but can have one.
 
 ghost use Rattle.std.specs.Prelude.{◌<◌, IfOk, IfSome, IsTrue, length};
 ghost use Rattle.weights.specs.Vector.{vector_fits};
@@ -19,12 +19,11 @@ use weights::{Bound, Vector};
 
 /// Returns the bound of the pool's queue: a standing vector or, if the search finds none, a
 /// lifetime vector. Returns `None` if the search finds neither with a total that fits the pool's
-/// sizes. The search does not depend on whether the pool may reject jobs, which then never happens
-/// if a bound is found. The plan must have a pool with the index `pool`.
+/// sizes. Whether the pool may reject jobs has no effect on the search. The plan must have a pool
+/// with the index `pool`.
 ///
 /// If the queue of the pool is unbounded, returns the standing vector with the smallest total that
-/// the search finds, whatever its total is, or `None` if the search finds none. The number of
-/// queued jobs never exceeds this total.
+/// the search finds, however large this total is, or `None` if the search finds none.
 ///
 /// # Errors
 ///
