@@ -8,7 +8,7 @@ use Rattle.job_bodies.specs.declared.limits.TheConstants.{MAX_RUN_CLIENTS, MAX_R
 use Rattle.locked_runner.specs.declared.limits.RunLimit.{RunLimit}
 use Rattle.locked_runner.specs.declared.limits.RunLimit.TheVariants.{Rejections, Clients, Threads, Events}
 
--- whether one of the pools may reject jobs
+-- whether at least one of the pools may reject jobs
 abbrev pub may_reject : Plan → Bool
 may_reject plan = list_any (λ pool. pool.may_reject) plan.pools
 
@@ -27,7 +27,7 @@ exceeds_limits plan events = may_reject plan || nat_lt MAX_RUN_CLIENTS (clients 
 abbrev pub is_too_large : Plan → Ranks → ℕ → Bool
 is_too_large plan ranks rounds = exceeds_limits plan (most_events plan ranks rounds)
 
--- the limit to report of a run that is too large: the first one that the plan exceeds with any number of rounds, or else the bound on
--- events
+-- the limit to report of a run that is too large: the first of the limits on rejecting pools, on clients and on threads that the plan
+-- exceeds, or the limit on events if it exceeds none of these
 abbrev pub limit_of : Plan → RunLimit
 limit_of plan = if may_reject plan then Rejections else if nat_lt MAX_RUN_CLIENTS (clients plan) then Clients else if nat_lt MAX_RUN_CARRIERS (workers plan) then Threads else Events

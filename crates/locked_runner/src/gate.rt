@@ -19,7 +19,7 @@ pub trait Gate: Sync {
     /// # Errors
     ///
     /// Returns `GateFault` if the work failed. The run then ends with fault 43, or with fault 20 if
-    /// memory runs out as well (see [`RunFault`](crate::RunFault)). Each other thread may still
-    /// perform the work that it is about to start.
+    /// memory runs out as well (see [`RunFault`](crate::RunFault)). Other threads may still perform
+    /// work that they are about to start.
     fn work(&self, actor: Actor, units: u32) -> Result<(), GateFault>;
 }

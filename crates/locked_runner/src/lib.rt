@@ -1,7 +1,8 @@
 //! Runs of a certified plan on threads that share one locked machine.
 //!
 //! Each event is performed under the lock. Each thread returns a receipt of each of its events, and
-//! the receipts are checked after the run. A [`RunReport`] describes a legal history.
+//! the receipts are checked after the run. The history in a [`RunReport`] is *legal*: each of its
+//! events was possible.
 //!
 //! A *round* is one execution of a client's body. A client of a repeating kind performs a given
 //! number of rounds, and any other client performs one.

@@ -9,8 +9,8 @@ use job_bodies::{MAX_RUN_CARRIERS, MAX_RUN_CLIENTS, MAX_RUN_EVENTS, Plan};
 /// A limit that a run can exceed.
 #[derive(Clone, Copy, PartialEq, Eq)]
 pub enum RunLimit {
-    /// The number of pools that may reject jobs, which must be 0: a run performs each job of the
-    /// plan, and a job that a pool rejects is not performed.
+    /// The number of pools that may reject jobs, which must be 0: a run performs every job of the
+    /// plan, but a job that a pool rejects is not performed.
     Rejections,
     /// The number of clients of all kinds, at most 64.
     Clients,
@@ -20,10 +20,9 @@ pub enum RunLimit {
     Events,
 }
 
-/// Returns the limit to report for a plan whose run exceeds a limit. This is the limit of pools
-/// that may reject jobs if the plan exceeds it, otherwise the limit of clients if the plan exceeds
-/// that, otherwise the limit of threads if the plan exceeds that, and otherwise the limit of
-/// events.
+/// Returns the limit to report for a plan whose run exceeds a limit: the first of the limits on
+/// rejecting pools, on clients and on threads that the plan exceeds, or the limit on events if it
+/// exceeds none of these.
 pub fn limit_of(plan: &Plan) -> RunLimit
     ensures { result ≡ spec.limit_of plan.now }
 {
@@ -50,7 +49,7 @@ pub(crate) fn exceeds_limits(plan: &Plan, events: u64) -> bool
         || events > MAX_RUN_EVENTS
 }
 
-/// Returns whether one of the pools may reject jobs.
+/// Returns whether at least one of the pools may reject jobs.
 pub fn may_reject(plan: &Plan) -> bool
     ensures value { result ≡ spec.may_reject plan.now }
     ensures well_formed { IsWellFormed plan.now }

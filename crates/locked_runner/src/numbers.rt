@@ -24,9 +24,9 @@ pub struct RunNumbers {
 }
 
 /// Returns the numbers of a run of the plan in which each repeating client performs its body
-/// `rounds` times. With 0 rounds, a repeating client contributes nothing. Jobs of jobs are counted
-/// for as many generations as the greatest level in `ranks`. If the rows of the ranks hold, these
-/// are all jobs.
+/// `rounds` times. With 0 rounds, a repeating client contributes nothing. The jobs that jobs submit
+/// are counted for as many generations as the greatest level in `ranks`. If the rows of the ranks
+/// hold, these are all jobs.
 ///
 /// # Errors
 ///
@@ -221,8 +221,8 @@ fn greatest(levels: &[u64]) -> u64
 }
 
 /// Returns, for each class, the quantity that `measure` selects, summed over one job and the jobs
-/// that it causes. `numbers` has these sums for a number of generations of jobs, and the result
-/// includes one generation more. If `numbers` is empty, the result does not include caused jobs.
+/// that it causes. `numbers` has these sums for some number of generations of caused jobs, and the
+/// result includes one generation more. If `numbers` is empty, the result includes no caused jobs.
 fn add_generation(
     alloc: Global,
     plan: &Plan,

@@ -52,9 +52,9 @@ fn pool_of_class(plan: &Plan, class: usize) -> u8
     }
 }
 
-/// Returns the owner of the event. Returns `None` for the retirement of a worker, since no thread
-/// of a run performs one. If a job performs the event, `pool` is the job's pool. Otherwise `pool`
-/// has no effect.
+/// Returns the owner of the event. If a job performs the event, `pool` must be the job's pool, and
+/// otherwise it has no effect. Returns `None` for the retirement of a worker, since no thread of a
+/// run performs one.
 pub(crate) fn owner_by(event: Event, pool: u8) -> Option<Owner>
     ensures { result ≡ spec.owner_by event pool }
 {

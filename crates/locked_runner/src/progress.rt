@@ -39,8 +39,8 @@ impl Progress {
         self.clients_left = self.clients_left.saturating_sub(1);
     }
 
-    /// Stops the run before it is complete. The check of the results then finds that the run is not
-    /// complete.
+    /// Stops the run before it is complete, without a fault. The check of the results finds out
+    /// that the run is not complete.
     pub(crate) fn end(&mut self) {
         self.is_over = true;
     }

@@ -34,15 +34,15 @@ impl Model for RunReport {
     ghost view = { λ r. record { jobs = r.jobs; units = r.units; refused = r.refused; history = r.history.items; receipts = map (λ list. list.items) r.receipts.items } };
 }
 
-/// The reason why a run is not complete: a fault number from `support`, and the length of a legal
-/// prefix of the history.
+/// The reason why a run is not complete: a fault number from `support`, and the length of a *legal*
+/// prefix of the history, one in which each event was possible.
 ///
 /// - 20: memory ran out, or a thread could not be started.
-/// - 40: the run exceeds a limit, and nothing was started.
-/// - 41: the number of lists is wrong, or the receipts of a list are not in ascending order, or one
-///   of them does not match the history, or belongs to another client or pool than the list.
-/// - 42: the history has an impossible event, or is not complete, or has not exactly one receipt
-///   for each event, or its number of jobs or units differs from the computed one.
+/// - 40: the run exceeds a limit, and no thread was started.
+/// - 41: the number of lists of receipts is wrong, or a list has receipts that are not in ascending
+///   order, that do not match the history, or that belong to another client or pool.
+/// - 42: the history has an impossible event, is not complete, does not have exactly one receipt
+///   for each event, or has another number of jobs or units than the computed one.
 /// - 43: the gate failed.
 #[derive(Clone, Copy, Debug, PartialEq, Eq)]
 pub struct RunFault {

@@ -25,9 +25,10 @@ use support::number::{MEMORY, MIXED, STRANGE};
 /// # Errors
 ///
 /// Returns the fault that a thread reported. If no thread reported one, returns fault 41 if it
-/// applies, and otherwise 42 (see [`RunFault`]). Returns 20 instead of any of these if memory runs
+/// applies, and otherwise 42 (see [`RunFault`]). Returns 20 in place of any of these if memory runs
 /// out during the check. The field `events` of the fault is the number of events of the history
-/// that were replayed. Except for fault 20, these are all events before the first impossible one.
+/// that were replayed. Unless the fault is 20, these are all events before the first impossible
+/// one.
 pub fn check_run(
     alloc: Global,
     certified: &Certified,

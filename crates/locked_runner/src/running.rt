@@ -22,16 +22,19 @@ use weights::Ranks;
 ///
 /// A client of a repeating kind performs its body `rounds` times, and any other client once.
 /// `rounds` should be at least 1. With 0 rounds, a repeating client performs no event. If its body
-/// has an action, the client never reaches the end of its body, so the run is not complete and the
-/// result is fault 42.
+/// has an action, the client is then not at the end of its body, so the run is not complete and the
+/// result is a fault.
 ///
 /// # Errors
 ///
-/// Returns fault 40 if a pool of the plan may reject jobs, or if the run exceeds a limit: more than
-/// 64 clients, more than 64 threads of all pools together, or an event bound above 1,000,000.
-/// Nothing is started in this case. Returns 43
-/// if the gate failed, 20 if memory ran out or a thread could not be started, and 41 or 42 if the
-/// results of the threads are not a complete run.
+/// Returns a fault with one of these numbers:
+///
+/// - 40: the run exceeds a limit, and no thread was started. The limits are: no pool may reject
+///   jobs, at most 64 clients, at most 64 threads of all pools together, and a bound on the number
+///   of events of at most 1,000,000.
+/// - 20: memory ran out, or a thread could not be started.
+/// - 43: the gate failed.
+/// - 41 or 42: the results of the threads are not a complete run.
 pub fn run<R: Threads + Wait + Sync, G: Gate>(
     rt: &R,
     alloc: Global,
@@ -61,7 +64,7 @@ pub fn run<R: Threads + Wait + Sync, G: Gate>(
     check_run(alloc, certified, rounds, numbers, results)
 }
 
-/// Returns the numbers of jobs, units of work and events of the run, if it exceeds no limit.
+/// Returns the numbers of jobs, units of work and events of the run, if the run exceeds no limit.
 ///
 /// # Errors
 ///

@@ -14,8 +14,8 @@ use std::sync::{Condvar, Mutex, MutexGuard, Wait};
 ///
 /// A thread whose actor is at a get waits on the machine's own condition variable. A worker thread
 /// without a job waits on the condition variable of its pool's hand-off queue. Only the end of a
-/// job can unblock a get, and only a submit can give a worker thread a job. So other events wake no
-/// thread.
+/// job can unblock a get, and only a submit can give a job to a waiting worker thread. So no other
+/// event wakes a thread.
 #[derive(Drop)]
 pub(crate) struct Shared<'a> {
     pub(crate) plan: &'a Plan,
@@ -25,7 +25,7 @@ pub(crate) struct Shared<'a> {
 }
 
 /// The hand-off queue of one pool: the jobs that a submit has started and that no worker thread has
-/// taken yet. The worker threads of the pool that have no job wait here.
+/// taken yet. The worker threads of the pool that have no job wait at this queue.
 #[derive(Drop)]
 struct HandoffQueue {
     started: Mutex<VecDeque<usize>>,
@@ -191,7 +191,7 @@ impl<'a> Shared<'a> {
     }
 
     /// Makes every thread stop before the run is complete, and records no fault. The check of the
-    /// results then finds that the run is not complete.
+    /// results finds out that the run is not complete.
     pub(crate) fn end<R: Wait>(&self, rt: &R) {
         let guard = self.machine.lock(rt);
         self.progress.lock(rt).end();

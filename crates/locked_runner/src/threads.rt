@@ -8,9 +8,9 @@ use job_bodies::{Action, Client};
 use std::alloc::{AllocError, Global};
 use std::sync::Wait;
 
-/// The initial capacity of a list of receipts, which takes 192 KiB of memory. The C library
-/// allocates blocks of this size with `mmap`, so a page uses memory only once it is written. A list
-/// within this capacity is never moved and leaves no gaps in the heap.
+/// The initial capacity of a list of receipts: 16,384 receipts, which take 192 KiB of memory. The C
+/// library allocates blocks of this size with `mmap`, so a page uses memory only once it is
+/// written. A list within this capacity is never moved and leaves no gaps in the heap.
 const FIRST_ROOM: usize = 16_384;
 
 /// A thread of a run, with the receipts of its events.

@@ -13,8 +13,8 @@ use job_bodies::Plan;
 use std::alloc::{AllocError, Global};
 use std::marker::Model;
 
-/// A world whose contracts mention only its live view. They do not mention the number of places for
-/// live jobs, because a state of the plan's machine does not determine that number.
+/// A world whose contracts mention only its live view. The contracts do not mention the number of
+/// places for live jobs, because a state of the plan's machine does not determine that number.
 #[derive(Drop)]
 pub struct ViewedWorld {
     world: World,
