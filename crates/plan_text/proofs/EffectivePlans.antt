@@ -1,4 +1,4 @@
--- Lemmas about effective plans. They differ from a plan only in the sizes of pools with an unbounded queue.
+-- Lemmas about effective plans. An effective plan differs from its plan only in the sizes of pools with an unbounded queue.
 use Rattle.std.proofs.Common.{◌≡◌, ◌<◌, ℕ, zero, suc, Bool, true, false, if◌then◌else◌, ◌&&◌, nat_lt, nat_le, le-leb, List, [], ◌∷◌, length, map, refl, sym, ap, subst, arith}
 use Rattle.std.specs.List.{list_all, list_any}
 use Rattle.std.proofs.lemmas.Bool.{and_parts, and_from}
@@ -73,14 +73,15 @@ map_stayed f (y ∷ ys) same (suc i) x e =
     let rest : map f ys ≡ ys = cc in
     map_stayed f ys rest i x e
 
--- a plan is its own effective plan exactly if each of its pools is its own effective pool
+-- if each pool of a plan is its own effective pool, the plan is its own effective plan; the next lemma is the converse
 pub effective_plan_is : (plan : Plan) → EachPlace plan.pools (λ i pool. effective_pool pool ≡ pool) → effective_plan plan ≡ plan
 effective_plan_is plan each = ap (λ (pools : List Pool). record plan { pools = pools }) (map_stays effective_pool plan.pools each)
 
 pub effective_pools : (plan : Plan) → effective_plan plan ≡ plan → EachPlace plan.pools (λ i pool. effective_pool pool ≡ pool)
 effective_pools plan same = map_stayed effective_pool plan.pools (ap (λ (p : Plan). p.pools) same)
 
--- a plan is its own effective plan exactly if each pool with an unbounded queue has core as its maximum and the largest size as its queue
+-- if each pool with an unbounded queue has core as its maximum and the largest size as its queue, the plan is its own effective plan; the
+-- next lemma is the converse
 pub effective_by_sizes : (plan : Plan) → ((p : ℕ) → p < length plan.pools → (pool_at plan p).unbounded ≡ true → ((pool_at plan p).max ≡ (pool_at plan p).core) × ((pool_at plan p).queue ≡ MAX_SIZE))
     → effective_plan plan ≡ plan
 effective_by_sizes plan sizes = effective_plan_is plan (λ i pool e.

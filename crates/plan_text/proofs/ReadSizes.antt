@@ -21,7 +21,7 @@ use Rattle.plan_text.specs.PlanOf.{plan_of_entries, plan_of}
 use Rattle.plan_text.proofs.Buildable.{is_read}
 use Rattle.plan_text.proofs.EffectivePlans.{effective_pool_is, effective_plan_is}
 
--- sizes of an unbounded queue whose maximum is in range: the maximum is core, and the queue is the largest size
+-- if the queue is unbounded and the resulting maximum is in range, this maximum is core, and the queue is the largest size
 sizes_over_unbounded : (core : ℕ) (max queue : Option ℕ) → is_within core MAX_SIZE (sizes_of core max queue).max ≡ true → (sizes_of core max queue).unbounded ≡ true
     → ((sizes_of core max queue).max ≡ core) × ((sizes_of core max queue).queue ≡ MAX_SIZE)
 sizes_over_unbounded core max (Some queue) within on = absurd cc
@@ -53,7 +53,7 @@ effective_if_valid index value pool e valid =
     let sizes = sizes_over_unbounded core max queue (rw (max_is, core_is) within) (unbounded_is ∙ on) in
     (sym max_is ∙ sizes.0 ∙ core_is, sym queue_is ∙ sizes.1)))))))))
 
--- the pools of a document that was read
+-- if a document was read as entries, its pools were read from a list of values
 pools_of : {P : Type 0} (document : Members) (entries : Entries) → entries_of document ≡ Ok entries → ((values : List Data) → read_each read_pool 0 values ≡ Ok entries.pools → P) → P
 unfolding entries_of
 pools_of document entries e next =

@@ -82,7 +82,7 @@ unbounded_maximum : plan_of (pool_of (codes "\"unbounded\"") (codes "3")) ≡ Er
 unfolding plan_on_literals
 unbounded_maximum = refl
 
--- the fault of another text as a queue
+-- the fault of a queue that is a string other than `unbounded`
 no_size : plan_of (pool_of (codes "2") (codes "\"Unbounded\"")) ≡ Err (at_entry part.Pool 0 5)
 unfolding plan_on_literals
 no_size = refl
@@ -97,7 +97,7 @@ no_truth : plan_of (pool ++ codes "prestart = 1\n") ≡ Err (at_entry part.Pool 
 unfolding plan_on_literals
 no_truth = refl
 
--- the same fault of the key `may_reject`
+-- the fault of a `may_reject` that is not a boolean
 no_truth_of_may_reject : plan_of (pool ++ codes "may_reject = 1\n") ≡ Err (at_entry part.Pool 0 5)
 unfolding plan_on_literals
 no_truth_of_may_reject = refl

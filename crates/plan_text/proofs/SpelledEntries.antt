@@ -69,7 +69,7 @@ pool_again index name core max queue false true false within = refl
 pool_again index name core max queue false false true within = rw within refl
 pool_again index name core max queue false false false within = refl
 
--- the table of a pool is read as the effective pool
+-- the table of a pool is read as the pool's effective pool
 pool_back : (index : ℕ) (pool : Pool) → is_within pool.core MAX_SIZE pool.max ≡ true → read_pool index (pool_data pool) ≡ Ok (effective_pool pool)
 pool_back index pool within = pool_again index pool.name pool.core pool.max pool.queue pool.prestart pool.may_reject pool.unbounded within
 

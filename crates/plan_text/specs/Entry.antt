@@ -53,8 +53,8 @@ number_at entry key =
     ok_or (as_integer value) (fault_at entry WRONG_TYPE) >>= λ number.
     Ok (count_of number)
 
--- the size that a value gives, seen as an integer and as a string: an integer as a count, and None for the string `unbounded`; a fault for
--- any other value
+-- the size in a value, given the value as an integer and as a string, if it is one: an integer as a count, or None for the string
+-- `unbounded`; a fault for any other value
 abbrev pub size_of : Entry → Option ℤ → Option (List ℕ) → Result (Option ℕ) PlanFault
 size_of entry (Some number) text = Ok (Some (count_of number))
 size_of entry None (Some text) = ensure (bytes_eq text (codes "unbounded")) (fault_at entry WRONG_TYPE) >>= λ _. Ok None

@@ -82,8 +82,8 @@ impl<'a> Entry<'a> {
         value.as_str().ok_or(self.refuses(WRONG_TYPE))
     }
 
-    /// Returns the integer at this key, or a number that is out of range if it is negative. Returns
-    /// a fault if the key is absent or the value has another type.
+    /// Returns the integer at this key. A negative integer becomes a number that is out of range.
+    /// Returns a fault if the key is absent or the value has another type.
     #[tactic(auto, unfolding(crate::specs::Entry::number_at))]
     pub fn number(&self, key: &str) -> Result<u64, TextError>
         ensures { Gives (λ number. number) result (spec.number_at (entry_view self.now) key.now) }
@@ -93,8 +93,8 @@ impl<'a> Entry<'a> {
         Ok(count_of(number))
     }
 
-    /// Returns the size at this key: the integer, or a number that is out of range if it is
-    /// negative, or `None` if the value is the string `unbounded`. Returns a fault if the key is
+    /// Returns the size at this key: the integer, or `None` if the value is the string `unbounded`.
+    /// A negative integer becomes a number that is out of range. Returns a fault if the key is
     /// absent or the value is neither.
     #[tactic(auto, unfolding(crate::specs::Entry::size_at))]
     pub fn size(&self, key: &str) -> Result<Option<u64>, TextError>

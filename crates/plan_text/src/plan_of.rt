@@ -22,9 +22,9 @@ use support::number::MEMORY;
 /// Parses the bytes of a plan.
 ///
 /// The `max` and the `queue` of a pool are each an integer or the string `unbounded`. With
-/// `queue = "unbounded"` the pool's queue is unbounded and its `max` has no effect: the plan has
-/// core as the maximum, and 1,000,000 as the queue. If `max` is a number, it must be in range all
-/// the same. If the queue has a capacity, `max = "unbounded"` is out of range.
+/// `queue = "unbounded"`, the pool's queue is unbounded and its `max` has no effect: in the plan,
+/// the maximum is core, and the queue is 1,000,000. A `max` that is a number must still be in
+/// range. If the queue has a capacity, `max = "unbounded"` is out of range.
 ///
 /// # Errors
 ///

@@ -5,7 +5,7 @@ ghost use Rattle.plan_text.specs.Sizes as spec;
 
 use job_bodies::{MAX_SIZE, is_within};
 
-/// The maximum and the queue of a pool.
+/// The maximum of a pool, the capacity of its queue, and whether its queue is unbounded.
 #[derive(Clone, Copy)]
 pub struct Sizes {
     pub max: u64,
@@ -13,8 +13,9 @@ pub struct Sizes {
     pub unbounded: bool,
 }
 
-/// Returns the sizes of a pool with this core, given its `max` and its `queue`. `None` is the text
-/// `unbounded`. If the queue has a capacity, a maximum without a bound is out of range.
+/// Returns the sizes of a pool with this core, given its `max` and its `queue`, each of which is
+/// `None` for the text `unbounded`. If the queue has a capacity, the maximum `unbounded` becomes a
+/// number that is out of range.
 pub fn sizes_of(core: u64, max: Option<u64>, queue: Option<u64>) -> Sizes
     ensures { result ≡ spec.sizes_of core max queue }
 {
@@ -32,8 +33,9 @@ pub fn sizes_of(core: u64, max: Option<u64>, queue: Option<u64>) -> Sizes
     }
 }
 
-/// Returns the maximum of a pool with an unbounded queue, in which it has no effect: core. A number
-/// that is out of range for a maximum stays, so that it is a fault as in any other pool.
+/// Returns the maximum of a pool with this core and an unbounded queue, given its `max`, which is
+/// `None` for the text `unbounded`. The maximum has no effect there, and is core. But a number that
+/// is out of range stays, so that it is a fault as in any other pool.
 fn max_over_unbounded(core: u64, max: Option<u64>) -> u64
     ensures { result ≡ spec.max_over_unbounded core max }
 {

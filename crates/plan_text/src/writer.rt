@@ -11,12 +11,13 @@ use crate::plan_values::plan_document;
 use job_bodies::Plan;
 use std::alloc::{AllocError, Global};
 
-/// Writes a plan as TOML. [`read_plan`](crate::read_plan) parses the text as the same plan, unless
-/// the text is longer than a plan's text may be.
+/// Writes a plan as TOML. If the text is not longer than a plan's text may be,
+/// [`read_plan`](crate::read_plan) parses it as the same plan, except for the sizes of pools with
+/// an unbounded queue.
 ///
-/// An unbounded queue is written as `queue = "unbounded"`, and the `max` of its pool as the number
-/// that the pool has. Both sizes have no effect in such a pool. [`read_plan`](crate::read_plan)
-/// gives it core as its maximum and 1,000,000 as its queue, whatever they were in the plan.
+/// An unbounded queue is written as `queue = "unbounded"`, and the `max` of its pool as a number.
+/// [`read_plan`](crate::read_plan) gives such a pool core as its maximum and 1,000,000 as its
+/// queue, whatever they were in the plan. Neither size has an effect there.
 ///
 /// A submit that a get names fills a slot of its own. The slot's name is `s` followed by the
 /// position of the submit in its body. Other submits fill no slot.
