@@ -12,7 +12,7 @@ started_below pool e = grind (arith, common_steps)
 pub queued_at_core : (pool : PoolView) → answer pool ≡ Queued → (pool.core ≤ pool.threads) × (length pool.queue < room_limit pool.unbounded pool.capacity pool.idle (length pool.queue))
 queued_at_core pool e = grind (arith, common_steps)
 
--- if the job is refused, the queue was bounded and full, and the pool had its maximum of threads
+-- if the job is refused, the queue was bounded with at least as many jobs as its capacity, and the pool had its maximum of threads
 pub refused_when_full : (pool : PoolView) → answer pool ≡ Refused → (pool.unbounded ≡ false) × (pool.capacity ≤ length pool.queue) × (pool.max ≤ pool.threads)
 refused_when_full pool e = grind (arith, common_steps)
 
@@ -48,6 +48,6 @@ retired_retires pool after e = grind (arith, common_steps)
 pub full_refuses : (pool : PoolView) → pool.core ≤ pool.max → pool.unbounded ≡ false → length pool.queue ≡ queue_limit pool.capacity pool.idle → pool.threads ≡ pool.max → answer pool ≡ Refused
 full_refuses pool sizes bounded full all_started = grind (arith, common_steps)
 
--- the queue of a refusing pool within its limits is exactly full
+-- if a pool within its limits refuses the job, its queue is bounded and exactly full, and it has exactly its maximum of threads
 pub refused_exactly : (pool : PoolView) → IsSound pool → answer pool ≡ Refused → (pool.unbounded ≡ false) × (length pool.queue ≡ queue_limit pool.capacity pool.idle) × (pool.threads ≡ pool.max)
 refused_exactly pool sound e = grind (arith, common_steps)

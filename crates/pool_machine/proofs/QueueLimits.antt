@@ -3,7 +3,7 @@ use Rattle.std.proofs.Common.{◌≡◌, ℕ, zero, suc, ◌+◌, ◌<◌, ◌�
 use Rattle.std.proofs.lemmas.Bool.{ne_eqb}
 use Rattle.pool_machine.specs.PoolState.{queue_limit, room_limit}
 
--- a queue of a capacity of at least 1 can hold that many jobs
+-- the limit of a bounded queue with a capacity of at least 1 is this capacity
 limit-suc : (n idle : ℕ) → queue_limit (suc n) idle ≡ suc n
 limit-suc n idle = ap (λ (b : Bool). cond b idle (suc n)) (ne_eqb (suc n) 0 (λ (same : suc n ≡ 0). omega arith))
 
@@ -12,7 +12,7 @@ pub capacity-le : (capacity idle : ℕ) → capacity ≤ queue_limit capacity id
 capacity-le zero idle = omega arith
 capacity-le (suc n) idle = omega (arith, limit-suc n idle)
 
--- a queue that is not longer than before is still within its limit if, in a bounded queue of capacity 0, each job has an idle worker
+-- a queue that did not become longer is still within its limit. If it is bounded with capacity 0, each of its jobs must have an idle worker
 pub still_within : (unbounded : Bool) (capacity idle idle' n n' : ℕ) → n ≤ room_limit unbounded capacity idle n → n' ≤ n → (unbounded ≡ false → capacity ≡ 0 → n ≤ idle → n' ≤ idle') → n' ≤ room_limit unbounded capacity idle' n'
 still_within true capacity idle idle' n n' within shorter each = omega arith
 still_within false zero idle idle' n n' within shorter each = each refl refl within
@@ -23,7 +23,7 @@ pub room_for_one : (unbounded : Bool) (capacity idle n : ℕ) → n < room_limit
 room_for_one true capacity idle n room = omega arith
 room_for_one false capacity idle n room = omega (arith, room)
 
--- a queue without room is bounded, and its capacity is at most the number of its jobs
+-- a queue without room is bounded, and the number of its jobs is at least its capacity
 pub no_room_means : (unbounded : Bool) (capacity idle n : ℕ) → room_limit unbounded capacity idle n ≤ n → (unbounded ≡ false) × (capacity ≤ n)
 no_room_means true capacity idle n none = absurd (omega (arith, none))
 no_room_means false capacity idle n none = (refl, omega (arith, none, capacity-le capacity idle))

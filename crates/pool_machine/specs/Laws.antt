@@ -36,9 +36,9 @@ pub record LoadIsOffered : Type 0 where
   pub by_finish : (pool : PoolView) → load (finished pool) ≡ load pool
   pub by_retire : (pool after : PoolView) → retired pool ≡ Some after → load after < load pool
 
--- when operations fail: the pool refuses a job exactly when its queue is bounded and full and it has its maximum of threads; a take fails
--- exactly when no worker is idle or the queue is empty; a retirement fails exactly when no worker is idle, the pool has at most core threads, or its
--- queue is bounded with capacity 0 and each idle worker has a job in it
+-- the conditions under which operations fail. The pool refuses a job exactly when its queue is bounded and full and it has its maximum of
+-- threads. A take fails exactly when no worker is idle or the queue is empty. A retirement fails exactly when no worker is idle, the pool
+-- has at most core threads, or its queue is bounded with capacity 0 and each idle worker has a job in it
 pub record FailureConditions (pool : PoolView) : Type 0 where
   pub refuses : answer pool ≡ Refused ↔ (pool.unbounded ≡ false) × (length pool.queue ≡ queue_limit pool.capacity pool.idle) × (pool.threads ≡ pool.max)
   pub takes_none : taken pool ≡ None ↔ (pool.idle ≡ 0) ⊎ (pool.queue ≡ [])

@@ -21,13 +21,14 @@ pub record PoolView : Type 0 where
 abbrev pub new_pool : Pool → PoolView
 new_pool pool = record { core = pool.core; max = pool.max; capacity = pool.queue; unbounded = pool.unbounded; threads = first_workers pool; idle = first_workers pool; queue = [] }
 
--- the number of jobs that a bounded queue of this capacity can hold at most in a pool with this number of idle workers: its capacity; a queue of
--- capacity 0 is a SynchronousQueue, which holds a job for each idle worker until that worker takes it
+-- the most jobs that a bounded queue of this capacity can hold in a pool with this number of idle workers: its capacity; or, if the
+-- capacity is 0, one job for each idle worker: the queue is then a SynchronousQueue, which holds a job for a worker until the worker takes
+-- it
 abbrev pub queue_limit : ℕ → ℕ → ℕ
 queue_limit capacity idle = if capacity == 0 then idle else capacity
 
--- the number of jobs below which a queue has room for one more, if it is unbounded or not, has this capacity and this number of jobs, and its
--- pool has this number of idle workers; an unbounded queue always has room
+-- a queue has room for one more job if the number of its jobs is below this limit. The arguments are whether the queue is unbounded, its
+-- capacity, the number of idle workers of its pool, and the number of its jobs. An unbounded queue always has room
 abbrev pub room_limit : Bool → ℕ → ℕ → ℕ → ℕ
 room_limit unbounded capacity idle queued = if unbounded then queued + 1 else queue_limit capacity idle
 
@@ -66,8 +67,8 @@ taken pool = taken_from pool pool.idle pool.queue
 abbrev pub finished : PoolView → PoolView
 finished pool = record pool { idle = pool.idle + 1 }
 
--- whether a worker may end that leaves this number of idle workers: the pool has more than core threads, and in a bounded queue of capacity 0 each job
--- in the queue still has an idle worker, because a worker that was handed a job does not end
+-- whether an idle worker may end, if this number of workers is idle afterwards: the pool has more than core threads, and in a bounded queue
+-- of capacity 0 each job still has an idle worker, because a worker that was handed a job does not end
 abbrev pub may_retire : PoolView → ℕ → Bool
 may_retire pool idle = nat_lt pool.core pool.threads && (pool.unbounded || nat_lt 0 pool.capacity || nat_le (length pool.queue) idle)
 
@@ -75,12 +76,13 @@ abbrev pub retired_of : PoolView → ℕ → Option PoolView
 retired_of pool zero = None
 retired_of pool (suc idle) = if may_retire pool idle then Some (record pool { threads = pool.threads - 1; idle = idle }) else None
 
--- the pool after an idle worker ended; None if no worker is idle, the pool has at most core threads, or its queue is bounded with
--- capacity 0 and each idle worker has a job in it
+-- the pool after an idle worker ended; None if no worker is idle, the pool has at most core threads, or its queue is bounded with capacity
+-- 0 and each idle worker has a job in it
 abbrev pub retired : PoolView → Option PoolView
 retired pool = retired_of pool pool.idle
 
--- the invariant of a pool: its sizes are valid, and its idle workers, threads and bounded queue are within their limits
+-- the invariant of a pool: its core, maximum and capacity are in their ranges (the capacity can be 0), and its idle workers, threads and
+-- queued jobs are within their limits
 pub record IsSound (pool : PoolView) : Type 0 where
   pub some_core : 1 ≤ pool.core
   pub core_within_max : pool.core ≤ pool.max

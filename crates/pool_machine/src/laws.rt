@@ -12,9 +12,9 @@ pub fn sizes_stay()
     ensures { (first : PoolView) → IsInvariant (HasSizesOf first) }
 {}
 
-/// Proves that a pool with valid sizes never has more threads than its maximum, more idle workers
-/// than threads, or more jobs in a bounded queue than its capacity, or than idle workers if the
-/// capacity is 0.
+/// Proves that a pool with valid sizes never has more threads than its maximum or more idle workers
+/// than threads. If its queue is bounded, it never has more queued jobs than its capacity, or than
+/// idle workers if the capacity is 0.
 pub fn pools_stay_sound()
     ensures start { (pool : Pool) → IsTrue (has_valid_sizes pool) → IsSound (new_pool pool) }
     ensures kept { IsInvariant IsSound }
@@ -35,11 +35,12 @@ pub fn load_is_offered()
     ensures { LoadIsOffered }
 {}
 
-/// Proves when an operation of a pool fails. The pool refuses a job exactly when its queue is
-/// bounded and full and it has its maximum of threads. [`PoolState::take`](crate::PoolState::take) fails exactly
-/// when no worker is idle or the queue is empty. [`PoolState::retire`](crate::PoolState::retire)
-/// fails exactly when no worker is idle, the pool has at most core threads, or its queue is bounded
-/// with capacity 0 and each idle worker has a job in it.
+/// Proves under which conditions an operation of a pool fails. The pool refuses a job exactly when
+/// its queue is bounded and full and it has its maximum of threads.
+/// [`PoolState::take`](crate::PoolState::take) fails exactly when no worker is idle or the queue is
+/// empty. [`PoolState::retire`](crate::PoolState::retire) fails exactly when no worker is idle, the
+/// pool has at most core threads, or its queue is bounded with capacity 0 and each idle worker has
+/// a job in it.
 pub fn failure_conditions()
     ensures { (pool : PoolView) → IsSound pool → FailureConditions pool }
 {}

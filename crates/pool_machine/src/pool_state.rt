@@ -17,7 +17,8 @@ use std::marker::Model;
 ///
 /// A worker that finished a job is idle until it takes the head of the queue. So the queue can be
 /// full while workers are idle. The rules are those of Java's `ThreadPoolExecutor` with an
-/// `ArrayBlockingQueue`, with a `SynchronousQueue` if the capacity is 0, or with an unbounded queue.
+/// `ArrayBlockingQueue`, with a `SynchronousQueue` if the capacity is 0, or with an unbounded
+/// queue.
 #[derive(Drop)]
 pub struct PoolState {
     core: u64,
@@ -79,9 +80,10 @@ impl PoolState {
 
     /// Offers the job with this number to the pool, as Java's `execute` does. If the pool has fewer
     /// than core threads, a new thread starts the job, even if workers are idle. Otherwise the job
-    /// is appended to the queue if there is room. A queue of capacity 0, as Java's
-    /// `SynchronousQueue`, has room for each idle worker, and an unbounded queue always has room. Otherwise a new thread starts it if the
-    /// pool has fewer than its maximum of threads. Otherwise the job is refused.
+    /// is appended to the queue if there is room. An unbounded queue always has room. A queue of
+    /// capacity 0, as Java's `SynchronousQueue`, has room for one job for each idle worker. If
+    /// there is no room, a new thread starts the job if the pool has fewer threads than its
+    /// maximum. Otherwise the job is refused.
     ///
     /// A new thread is busy with its job from the start. If the job is refused, the pool is
     /// unchanged.
@@ -166,8 +168,9 @@ impl PoolState {
     }
 
     /// Ends an idle worker if the pool has more than core threads, whether or not jobs are queued.
-    /// With a capacity of 0, each queued job was handed to an idle worker, which does not end.
-    /// Returns whether a worker ended. If none can end, the pool is unchanged. Allocates no memory.
+    /// In a bounded queue of capacity 0, each job was handed to an idle worker, and these workers
+    /// do not end. Returns whether a worker ended. If none can end, the pool is unchanged.
+    /// Allocates no memory.
     pub fn retire(&mut self) -> bool
         ensures ended { OnTrue result (retired self.old ≡ Some self.new) }
         ensures nothing { OnFalse result (retired self.old ≡ None) }
@@ -244,8 +247,8 @@ impl PoolState {
         self.threads - self.idle
     }
 
-    /// Returns the number of jobs in the queue. A bounded queue has at most its capacity of them, or
-    /// as many as workers are idle if its capacity is 0.
+    /// Returns the number of jobs in the queue. A bounded queue has at most its capacity of them,
+    /// or as many as workers are idle if its capacity is 0.
     pub fn queued(&self) -> usize
         ensures value { result ≡ length self.now.queue }
         ensures sound { IsSound self.now }
