@@ -18,7 +18,8 @@ is_linked queue.Synchronous = false
 is_linked queue.Priority = false
 is_linked queue.Other = false
 
--- whether the queue is unbounded: a `LinkedBlockingQueue` without a capacity, or with one that a line cannot tell from none
+-- whether the queue counts as unbounded: it is a `LinkedBlockingQueue`, and its line has the capacity of a queue that was created without
+-- one
 abbrev pub has_unbounded_queue : PoolSizes → Bool
 has_unbounded_queue sizes = is_linked sizes.queue && sizes.capacity == UNBOUNDED_CAPACITY
 

@@ -1,5 +1,6 @@
 //! The events of a recording that invalidate a SAFE answer, and their texts. SAFE means that no
-//! order of the plan's events refuses a job of a pool that must not reject, or deadlocks.
+//! sequence of the plan's events ends in a deadlock, or in a submit that a pool refuses although it
+//! must not reject jobs.
 
 ghost use Rattle.std.specs.Prelude.{◌≡◌, Some};
 ghost use Rattle.recordings.specs.EventText as spec;

@@ -8,7 +8,7 @@ pub fn recording_lines_are_canonical()
     ensures { RecordingLinesAreCanonical }
 {}
 
-/// Proves that [`UNBOUNDED_CAPACITY`](crate::UNBOUNDED_CAPACITY) has its documented value.
+/// Proves that [`UNBOUNDED_CAPACITY`](crate::UNBOUNDED_CAPACITY) is 1,000,000,000.
 pub fn unbounded_capacity_is_stated()
     ensures { UnboundedCapacityIsStated }
 {}

@@ -8,10 +8,10 @@ use crate::words::{is_word, parse_number, parse_word_and_number, strip_word};
 use job_bodies::MAX_LINE_NUMBER;
 use line_words::split_space;
 
-/// The capacity of an unbounded queue in a `pool` line. A `LinkedBlockingQueue` that was created
-/// without a capacity has one of 2,147,483,647, and a recorder writes a number above
-/// [`MAX_LINE_NUMBER`] as this limit. So a queue that was created with such a capacity counts as
-/// unbounded too.
+/// The capacity of an unbounded queue in a `pool` line. A `LinkedBlockingQueue` that is created
+/// without a capacity has the capacity 2,147,483,647, and a recorder writes each number above
+/// [`MAX_LINE_NUMBER`] as `MAX_LINE_NUMBER`. So each `LinkedBlockingQueue` with at least this
+/// capacity counts as unbounded.
 pub const UNBOUNDED_CAPACITY: usize = MAX_LINE_NUMBER;
 
 /// The settings of a pool. No number in a line is above
@@ -32,7 +32,8 @@ pub struct PoolSizes {
 }
 
 impl PoolSizes {
-    /// Returns whether the queue is unbounded: a `LinkedBlockingQueue` of [`UNBOUNDED_CAPACITY`].
+    /// Returns whether the queue counts as unbounded: a `LinkedBlockingQueue` whose capacity is
+    /// [`UNBOUNDED_CAPACITY`].
     pub fn has_unbounded_queue(self) -> bool
         ensures { result ≡ spec.has_unbounded_queue self }
     {
