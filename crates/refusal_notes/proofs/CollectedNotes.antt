@@ -37,7 +37,7 @@ failing_of_bound-is : (plan : Plan) (p : ℕ) (bound : Option Bound) → filter 
 failing_of_bound-is plan p None = refl
 failing_of_bound-is plan p (Some bound) = failing_of_section (bound_section p bound) (bound_rows plan p bound)
 
--- the failing conditions of a bound and of another section are the failing rows of both
+-- the failing conditions of a bound and of another section are the failing rows of the bound and then those of the section
 failing_of_pool : (plan : Plan) (p : ℕ) (bound : Option Bound) (other : Section) (rows : List Row)
     → filter note_fails (bound_conditions plan p bound ++ in_section other rows) ≡ failing_of_bound plan p bound ++ in_section other (filter fails rows)
 failing_of_pool plan p bound other rows =

@@ -13,7 +13,7 @@ use Rattle.refusal_notes.specs.declared.failing_rows.FailingRows.{FailingRows}
 abbrev pub Keeps : FailingRows → List Row → Type 0
 Keeps found seen = OnOk found.outcome (found.rows.items ≡ filter fails seen)
 
--- the failing conditions of the bound of pool p; there are none if the pool has no bound
+-- the failing conditions of the bound of pool p; none if there is no bound
 abbrev pub failing_of_bound : Plan → ℕ → Option Bound → List Note
 failing_of_bound plan p None = []
 failing_of_bound plan p (Some bound) = in_section (bound_section p bound) (filter fails (bound_rows plan p bound))

@@ -1,6 +1,6 @@
 //! The failing conditions of a certificate, as notes. Each note belongs to a section: the ranks, or
-//! one vector of a pool. The *bound* of a pool is the standing or lifetime vector that bounds its
-//! queue. A pool that may reject jobs or has an unbounded queue need not have one.
+//! one vector of a pool. The *bound* of a pool is its standing or lifetime vector, which bounds its
+//! queue. A pool that may reject jobs or has an unbounded queue can have none.
 
 ghost use Rattle.std.specs.Prelude.{◌≡◌, ◌<◌, ◌++◌, IsTrue, IfOk, OnOk, filter, length};
 ghost use Rattle.weights.specs.Bound.{bound_vector, bound_rows};
@@ -64,7 +64,7 @@ fn push_vector_notes(
     found.push_notes(notes, section_of(pool, bound))
 }
 
-/// Appends the failing conditions of the pool's bound. There are none if the pool has no bound.
+/// Appends the failing conditions of the pool's bound, or nothing if the pool has no bound.
 fn push_bound_notes(
     alloc: Global,
     notes: &mut Vec<Note>,
