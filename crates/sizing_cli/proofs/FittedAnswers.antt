@@ -35,7 +35,7 @@ either_true : (a b : Bool) → b ≡ true → (a || b) ≡ true
 either_true true b on = refl
 either_true false b on = on
 
--- if the plan is its own effective plan, so is the plan with the sizes that were found: where a maximum grows, it equals its core
+-- if the plan is its own effective plan, so is the plan with the sizes that were found: a maximum that grows equals its core
 pub fit_is_effective : (plan fit : Plan) (cert : Cert) → effective_plan plan ≡ plan → IsSized plan cert fit → effective_plan fit ≡ fit
 fit_is_effective plan fit cert same sized = effective_by_sizes fit (λ p inside on.
     let alike = sym (pool_at-outline fit p) ∙ ap (λ (q : Plan). pool_at q p) sized.fits.same_outline ∙ pool_at-outline plan p in
@@ -60,7 +60,7 @@ bad_text_is_not_done answer other same bad done =
     let no : BadText ≡ Done = sym bad ∙ (sym (ap (λ (a : Answer). a.status) same) ∙ done) in
     absurd cc
 
--- the same for the result of a search
+-- if the plan is its own effective plan, the sizes that a search found are those of such a plan too
 pub found_is_effective : (plan : Plan) (found : SizesFound) → effective_plan plan ≡ plan → IsFound plan found → AreEffective found
 found_is_effective plan (Found fit cert) same sized = fit_is_effective plan fit cert same sized
 found_is_effective plan (NotFound cause) same is_cause = tt

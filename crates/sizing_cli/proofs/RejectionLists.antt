@@ -5,7 +5,7 @@ use Rattle.std.proofs.lemmas.List.{length_push, get_or_append_left, get_or_push,
 use Rattle.job_bodies.specs.Plan.{Plan}
 use Rattle.report.specs.Finding.{RejectsAfter, AreRejections}
 
--- one more number, of the pool whose index is the length of the list
+-- the list stays valid if the number for the next pool is appended
 pub one_more : (plan : Plan) (found : List (Option ℕ)) (x : Option ℕ) → AreRejections plan found → IfSome x (RejectsAfter plan (length found)) → AreRejections plan (found ++ x ∷ [])
 one_more plan found x before is p = elim (cases_lt p (length found)) [
   | inl earlier ↦ subst (λ (y : Option ℕ). IfSome y (RejectsAfter plan p)) (sym (get_or_append_left found (x ∷ []) None p earlier)) (before p)

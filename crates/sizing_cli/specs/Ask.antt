@@ -103,7 +103,7 @@ pub record AnswersCertFault (form : Form) (source : PlanSource) (fault : CertFau
 
 -- ---- answers
 
--- the status of a finding; a safe plan with a warning that is no note has the status of a no if `strict` is set
+-- the status of a finding; if `strict` is set, a safe plan has the status `Refused` if there is a warning that is not a note
 abbrev pub status_of : Bool → List Warning → PlanFinding → Status
 status_of strict warnings (Safe cert rejections) = if strict && has_warning warnings then Refused else Done
 status_of strict warnings (NotSafe witness sizes) = Refused

@@ -51,7 +51,7 @@ status_of findings = if length findings == 0 then Done else (if list_all is_unde
 abbrev pub conform_text : Plan → List Finding → List ℕ
 conform_text plan findings = if length findings == 0 then codes "conforms" ++ 10 ∷ [] else findings_text plan findings
 
--- the line of a pool that rejected jobs as the plan allows, with their number; nothing if there are none
+-- the line with the number of jobs that the pool rejected as the plan allows; empty if it rejected none
 abbrev pub rejections_line : Plan → PoolRejections → List ℕ
 rejections_line plan of_pool =
     if of_pool.count == 0 then []
@@ -67,7 +67,8 @@ answer_of plan recording (Invalid found) = bad_recording recording found
 answer_of plan recording (Compared findings rejections) = findings_answer plan findings.items rejections.items
 
 -- ---- the findings
--- if there are no findings, the recording conforms, and each line of it that invalidates that result is a rejection that the plan allows
+-- if there are no findings, the recording conforms, and each of its lines that would invalidate this result is a rejection that the plan
+-- allows
 abbrev pub AreAllFindings : Plan → List ℕ → List Finding → Type 0
 AreAllFindings plan recording findings = findings ≡ [] → Conforms plan (lines_of recording) × HasNoInvalidation plan (lines_of recording)
 
@@ -97,8 +98,8 @@ AnswersBundle (Some bundle) answer = AnswersReading bundle.second (plan_of bundl
 abbrev pub IsConformAnswer : List ℕ → Answer → Type 0
 IsConformAnswer input answer = MatchBool (nat_lt MAX_RECORDED_BYTES (length input)) (answer ≡ input_too_long) (AnswersBundle (bundle_of input) answer)
 
--- what status 0 means: the input is a plan and a recording that conforms to it, and each line of the recording that invalidates
--- that result is a rejection that the plan allows
+-- what status 0 means: the input is a plan and a recording that conforms to it, and each line of the recording that would invalidate this
+-- result is a rejection that the plan allows
 pub record IsConformingInput (input : List ℕ) : Type 0 where
   pub bundle : Bundle
   pub is_bundle : bundle_of input ≡ Some bundle

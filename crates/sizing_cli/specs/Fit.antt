@@ -45,8 +45,8 @@ pub record HasLongPlanText (plan : Plan) : Type 0 where
   pub is_text : IsPlanText plan text
   pub long : MAX_PLAN_BYTES < length text
 
--- the bundle of the written text of the fitted plan and of the certificate, which `check` accepts; the text is read as the fitted plan,
--- with the sizes of unbounded pools that have no effect as in every text
+-- the text is the bundle of a written text of the fitted plan and the text of the certificate. The text of the plan is read as the
+-- effective plan of the fitted plan
 pub record IsBundleOf (fit : Plan) (cert : Cert) (text : List ℕ) : Type 0 where
   pub fit_text : List ℕ
   pub is_text : IsPlanText fit fit_text
@@ -72,7 +72,7 @@ pub record IsAsDeclared (plan : Plan) (found : SizesFound) : Type 0 where
   pub cert : Cert
   pub is : found ≡ Found plan cert
 
--- the sizes that were found are those of a plan that a text can have: it is its own effective plan
+-- if sizes were found, the plan with these sizes is its own effective plan
 abbrev pub AreEffective : SizesFound → Type 0
 AreEffective (Found fit cert) = effective_plan fit ≡ fit
 AreEffective (NotFound cause) = ⊤

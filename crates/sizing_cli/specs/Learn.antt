@@ -51,8 +51,8 @@ failed_gets_comment gets =
     if nat_eq gets 0 then [] else
     (codes "# Gets that timed out or were interrupted: " ++ (decimal gets ++ (codes ". A body has only those that returned later." ++ 10 ∷ [])))
 
--- the comment for a pool that may reject jobs: the number of jobs that it rejected, or that its queue is a SynchronousQueue if it rejected
--- none
+-- the comment for a pool that may reject jobs: the number of jobs that it rejected; if it rejected none, that its queue is a
+-- SynchronousQueue
 abbrev pub rejection_comment : Plan → PoolRejections → List ℕ
 rejection_comment plan of_pool =
     if of_pool.count == 0
@@ -91,16 +91,17 @@ pub record IsSeen (lines : List RecordedLine) (seen : InferredPlan) : Type 0 whe
   pub unfinished_jobs : seen.unfinished_jobs ≡ unfinished_jobs lines
   pub failed_gets : seen.failed_gets ≡ failed_gets lines
 
--- The text is this plan's. Comments at its head give the extent of the recording, the pools that rejected jobs, and each finding.
+-- The text is this plan's. Comments at its head give the extent of the recording, the pools that may reject jobs, and each finding.
 pub record IsTextOf (seen : InferredPlan) (plan : Plan) (rejections : List PoolRejections) (findings : List Finding) (text : List ℕ) : Type 0 where
   pub is_plan : plan_of text ≡ Ok plan
   pub written : List ℕ
   pub is_written : IsPlanText plan written
   pub text_is : text ≡ head_comment seen ++ (rejection_comments plan rejections ++ (comments plan findings ++ 10 ∷ written))
 
--- The text is a plan's. Its pools are those of the recording, and exactly those that reject jobs there or have a queue of 0 may reject jobs. The count of each
--- kind of client is the largest number seen at once. The jobs and the rounds follow its bodies, and it has enough clients. Every other finding is in a comment at
--- its head, in the order of the recording's lines. If there is none, the recording conforms to the plan.
+-- The text is a plan's. Its pools are those of the recording, and `with_rejecting_pools` says which of them may reject jobs. The count of
+-- each kind of client is the largest number seen at once. The jobs and the rounds of the recording follow the plan's bodies, and the plan
+-- has enough clients. Each other finding is in a comment at the head of the text, in the order of the recording's lines. If there is none,
+-- the recording conforms to the plan.
 pub record IsLearnedText (recording text : List ℕ) : Type 0 where
   pub seen : InferredPlan
   pub is_seen : IsSeen (lines_of recording) seen
@@ -139,8 +140,8 @@ pub record IsLearned (strict : Bool) (recording : List ℕ) (answer : Answer) : 
 abbrev pub not_learned : InferenceLimit → Answer
 not_learned reason = record { text = codes "no plan was learned: " ++ inference_limit_text reason ++ 10 ∷ []; status = Refused }
 
--- no conforming plan was found: for a reason that the lines give, or because the inferred plan does not conform, or because
--- the plan's text is too long
+-- the recording is well-formed, and the answer is that no plan was learned, with a reason. The reason is `Text`, `Paths`, or one for which
+-- `IsReason` holds. This definition does not say when `Text` or `Paths` is the reason
 pub record IsNotLearned (recording : List ℕ) (answer : Answer) : Type 0 where
   pub no_fault : IsFirstFault (lines_read recording) None
   pub reason : InferenceLimit

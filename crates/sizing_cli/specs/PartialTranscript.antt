@@ -11,7 +11,8 @@ use Rattle.sizing_cli.specs.Answer.{Answer, followed_by, bad_event}
 use Rattle.sizing_cli.specs.Report.{replay_of_lines}
 use Rattle.sizing_cli.specs.Transcript.{ending, reply_to}
 
--- the whole answer is the answer so far followed by its ending, after this number of rejected jobs
+-- for each reachable state with this view, the whole answer is the answer so far followed by the last line of the replay; `rejected` jobs
+-- were rejected
 abbrev pub IsWithEnding : Plan → View → ℕ → Answer → Answer → Type 0
 IsWithEnding plan world rejected front whole = (s : State) → IsReached plan s → live_view plan s ≡ world → whole ≡ followed_by front (ending plan s rejected)
 

@@ -42,15 +42,15 @@ abbrev pub is_rejection : Reply → Bool
 is_rejection (reply.Performed (outcome.Rejected p j)) = true
 is_rejection _ = false
 
--- the number of rejected jobs after a reply
+-- the number of rejected jobs after the reply, given their number before it
 abbrev pub count_rejection : Reply → ℕ → ℕ
 count_rejection reply rejected = if is_rejection reply then suc rejected else rejected
 
--- the number of rejected jobs, if a pool of the plan may reject jobs
+-- the number of rejected jobs that the last line shows; None if no pool of the plan may reject jobs
 abbrev pub shown_rejections : Plan → ℕ → Option ℕ
 shown_rejections plan rejected = if may_reject plan then Some rejected else None
 
--- the last line of a replay that ends in this state, after this number of rejected jobs
+-- the last line of a replay that ends in state s; `rejected` jobs were rejected
 abbrev pub ending : Plan → State → ℕ → Answer
 ending plan s rejected = record { text = summary s.refusals (shown_rejections plan rejected) (unfinished s); status = Done }
 
@@ -64,14 +64,14 @@ abbrev pub reply_to : Plan → State → Line → State × Reply
 reply_to plan s (Perform event) = event_reply s (step plan s event)
 reply_to plan s (Stuck members) = (s, reply.Stuck (is_waiting_set plan s members))
 
--- the answer with this reply, followed by the rest of the replay, or by the last line if no line is replayed after the
--- reply; `rejected` jobs were rejected before the reply
+-- the answer with this reply, followed by the rest of the replay, or by the last line if no line is replayed after the reply. `rejected`
+-- jobs were rejected before the reply
 abbrev pub reply_then : Plan → ℕ → ℕ → State × Reply → (State → ℕ → Answer) → Answer
 reply_then plan rejected number x rest =
     let rejected' = count_rejection x.1 rejected in
     followed_by (reply_answer plan number x.1) (if is_last x.1 then ending plan x.0 rejected' else rest x.0 rejected')
 
--- the replay of the lines from a state, with numbers from `number`, after this number of rejected jobs
+-- the replay of the lines from state s. The first line has the number `number`, and `rejected` jobs were rejected before it
 abbrev pub transcript : Plan → State → ℕ → ℕ → List Line → Answer
 transcript plan s rejected number [] = ending plan s rejected
 transcript plan s rejected number (line ∷ lines) = reply_then plan rejected number (reply_to plan s line) (λ s' rejected'. transcript plan s' rejected' (number + 1) lines)

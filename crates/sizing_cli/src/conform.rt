@@ -67,7 +67,8 @@ fn findings_answer(
     Ok(Answer { text, status })
 }
 
-/// Appends a line for each pool that rejected jobs as the plan allows, with their number.
+/// Appends a line for each pool that rejected jobs as the plan allows, with the number of these
+/// jobs.
 fn push_rejections(
     text: &mut String,
     plan: &Plan,

@@ -112,8 +112,8 @@ fn without_witness(alloc: Global, plan: &Plan, sizes: SizesFound) -> Result<Plan
     }
 }
 
-/// Returns the finding that the plan is safe by this certificate, with the rejections that are
-/// found.
+/// Returns the finding that the plan is safe by this certificate. The finding also has, for each
+/// pool, after how many events it rejects a job, if a search found such events.
 fn safe_finding(alloc: Global, plan: &Plan, cert: Cert) -> Result<PlanFinding, AllocError>
     requires { IsTrue (accepted plan.now cert) }
     ensures finding { IfOk result (IsFinding plan.now) }

@@ -77,12 +77,14 @@ fn learn_from_all(alloc: Global, strict: bool, recording: &[u8]) -> Result<Answe
     }
 }
 
-/// Writes comments that list what the recording shows beyond the inferred plan, and then that plan.
-/// Pools of the plan may reject jobs if they reject jobs in the recording. Returns `None` if the
-/// plan does not explain the recording: a job or a round follows no body of the plan, it is
-/// undecided whether it follows one, or there are more rounds of a kind than the plan allows. If
-/// the text would be too long, the answer says so. A round is one pass of a client through its
-/// body.
+/// Returns the answer for the inferred plan, in which each pool that rejects jobs in the recording
+/// may reject jobs. The answer is the text of the plan, after comments that list what the recording
+/// shows beyond the plan. With `strict`, it is the list of differences if the recording does not
+/// conform to the plan. If the text would be too long, the answer says so.
+///
+/// Returns `None` if the plan does not explain the recording: a job or a round follows no body of
+/// the plan, it is undecided whether it follows one, or there are more rounds of a kind than the
+/// plan allows. A round is one pass of a client through its body.
 fn plan_answer(
     alloc: Global,
     strict: bool,
@@ -223,8 +225,8 @@ fn push_failed_gets(text: &mut String, gets: usize) -> Result<(), AllocError>
     )
 }
 
-/// Appends a comment for each pool that may reject jobs: the number of jobs that it rejected, or
-/// that its queue is a `SynchronousQueue` if it rejected none.
+/// Appends a comment for each pool that may reject jobs: the number of jobs that it rejected or, if
+/// it rejected none, that its queue is a `SynchronousQueue`.
 fn push_rejection_comments(
     text: &mut String,
     plan: &Plan,

@@ -1,4 +1,4 @@
-//! The search for rejections by the pools that may reject jobs.
+//! The search for events after which a pool that may reject jobs rejects one.
 
 ghost use Rattle.std.specs.Prelude.{IfOk, IfSome};
 ghost use Rattle.report.specs.Finding.{RejectsAfter, AreRejections};
@@ -8,12 +8,12 @@ use counterexample::find_rejection;
 use job_bodies::Plan;
 use std::alloc::{AllocError, Global};
 
-/// The maximum number of states in which a rejection is searched for.
+/// The maximum number of states that the search for a rejection by one pool visits.
 const STATES: usize = 100_000;
 
 /// Returns, for each pool of the certificate, the number of events after which the pool rejects a
-/// job, or `None` if no such events were found. Searches only for the pools without a bound: if the
-/// certificate accepts the plan, a pool with a bound never rejects a job.
+/// job, or `None` if no such events were found. Does not search if the pool has a bound: it never
+/// rejects a job if the certificate accepts the plan.
 #[tactic(auto, using(crate::proofs::RejectionLists::one_more))]
 pub(crate) fn rejections_of(
     alloc: Global,
@@ -32,7 +32,7 @@ pub(crate) fn rejections_of(
 }
 
 /// Returns the number of events after which the pool rejects a job. Returns `None` if the pool has
-/// a bound, or if no such events were found.
+/// a bound, or if the search found no such events.
 fn rejection_of(
     alloc: Global,
     plan: &Plan,

@@ -37,8 +37,8 @@ pub fn replay_lines(alloc: Global, plan: &Plan, lines: EventLines<'_>) -> Result
 }
 
 /// Appends the replies to the event lines, up to and including the first impossible event, and
-/// counts the jobs that pools rejected. Returns the number of the first malformed line, counted
-/// from 1, or `None` if no line is malformed.
+/// counts in `rejected` the jobs that pools rejected. Returns the number of the first malformed
+/// line, counted from 1, or `None` if no line is malformed.
 fn push_replies(
     alloc: Global,
     plan: &Plan,
@@ -120,8 +120,9 @@ fn is_rejection(reply: Reply) -> bool
     matches!(reply, Reply::Performed(Outcome::Rejected(_, _)))
 }
 
-/// Appends the line with the numbers of refusals, of rejected jobs if a pool may reject jobs, and
-/// of unfinished jobs. Returns the answer.
+/// Appends the last line, and returns the answer. The line has the number of refused submits and
+/// the number of unfinished jobs. If a pool of the plan may reject jobs, it also has the number of
+/// rejected jobs.
 fn finish(
     mut answer: Answer,
     plan: &Plan,
