@@ -27,7 +27,7 @@ pub record StandingLaws (plan : Plan) (p : ℕ) (v : Vector) : Type 0 where
   pub queued : (pool_at plan p).unbounded ≡ false → (k : ℕ) → k < length plan.classes → (class_at plan k).pool ≡ p → 1 ≤ queued_weight v k
   pub within : (pool_at plan p).unbounded ≡ false → total plan v ≤ (pool_at plan p).queue
 
--- a row of a list is one of the rows of a bounded queue
+-- if the queue is bounded, a row of the list is among the conditions, which are this list for a bounded queue and none for an unbounded one
 row_if_bounded : (unbounded : Bool) (all : List Row) (x : Row) → unbounded ≡ false → In x all → In x (cond unbounded [] all)
 row_if_bounded true all x bounded i = absurd cc
 row_if_bounded false all x bounded i = i
@@ -97,7 +97,7 @@ pub bound_vector_laws : (plan : Plan) (p : ℕ) (bound : Bound) → BoundLaws pl
 bound_vector_laws plan p (Standing v) of_bound = of_bound.laws
 bound_vector_laws plan p (Lifetime v) of_bound = of_bound.laws
 
--- the inequalities of the bound of pool p; a pool without a bound needs none
+-- the inequalities of the bound of pool p; if there is no bound, pool p needs none: it may reject jobs, or its queue is unbounded
 abbrev pub PoolBoundLaws : Plan → ℕ → Option Bound → Type 0
 PoolBoundLaws plan p None = needs_no_bound (pool_at plan p) ≡ true
 PoolBoundLaws plan p (Some bound) = BoundLaws plan p bound

@@ -1,4 +1,5 @@
--- The invariants of the reachable states of a plan in which each pool has a bound whose rows hold, or may reject jobs.
+-- The invariants of the reachable states of a plan in which each pool has a bound whose rows hold, or needs none because it may reject jobs
+-- or its queue is unbounded.
 use Rattle.std.specs.Prelude.{⊤}
 use Rattle.std.proofs.Common.{◌≡◌, ℕ, ◌<◌, ◌≤◌, Bool, true, false, ◌||◌, List, length, Option, Some, None, refl, sym, ap₂, ◌∙◌}
 use Rattle.std.proofs.lemmas.Bool.{false≢true}
@@ -40,7 +41,8 @@ pub record Bounded (plan : Plan) (bounds : ℕ → Option Bound) (s : State) : T
   pub balanced : (p : ℕ) → p < length plan.pools → IsBoundBalanced plan (bounds p) s
   pub none_refused : s.refusals ≡ 0
 
--- the inequalities of the bound of pool p hold, and a rejected job does not increase its weight; a pool without a bound needs none
+-- the inequalities of the bound of pool p hold, and a rejected job does not increase the weight of a state; if there is no bound, pool p
+-- needs none
 abbrev pub BoundHolds : Plan → ℕ → Option Bound → Type 0
 BoundHolds plan p None = needs_no_bound (pool_at plan p) ≡ true
 BoundHolds plan p (Some bound) = BoundLaws plan p bound × RejectedAreLight plan (bound_vector bound)
@@ -48,7 +50,7 @@ BoundHolds plan p (Some bound) = BoundLaws plan p bound × RejectedAreLight plan
 abbrev pub BoundsHold : Plan → (ℕ → Option Bound) → Type 0
 BoundsHold plan bounds = (p : ℕ) → p < length plan.pools → BoundHolds plan p (bounds p)
 
--- a bound whose rows hold satisfies its inequalities
+-- if the rows of a bound hold, or there is none and pool p needs none, `BoundHolds` holds
 pub bound_holds : (plan : Plan) (p : ℕ) (bound : Option Bound) → HasBound plan p bound → BoundHolds plan p bound
 bound_holds plan p None has = has
 bound_holds plan p (Some bound) has = (bound_laws plan p bound has.0 has.1, has.2)
@@ -68,7 +70,7 @@ bound_balanced_step plan p (Some bound) s s' o ordered holds kept happened balan
 pub needs_a_bound : (pool : Pool) → pool.may_reject ≡ false → pool.unbounded ≡ false → needs_no_bound pool ≡ true → ⊥
 needs_a_bound pool must bounded none = false≢true (sym (ap₂ (λ (a b : Bool). a || b) must bounded) ∙ none)
 
--- no submit to a pool that has a bound, or must not reject jobs, finds the queue full while the pool has max threads
+-- no submit to a pool that must not reject jobs finds a bounded queue without room while the pool has max threads
 must_not_refuse : (plan : Plan) (bound : Option Bound) (s : State) (a : Parent) (body : List Action) (i k : ℕ) → HasValidBodies plan → BoundHolds plan (pool_of plan k) bound → StateInvariant plan s → HaveJobs plan s → IsBoundBalanced plan bound s
     → IsAtAction plan s a body i (Some (action.Submit k)) → (pool_at plan (pool_of plan k)).may_reject ≡ false
     → HasNoRoom plan s (pool_of plan k) → (pool_at plan (pool_of plan k)).max ≤ threads plan s (pool_of plan k) → ⊥
@@ -117,7 +119,7 @@ keeps_sizes plan bounds s bounded = record {
   within_queue = λ p inside. bounded_within (pool_at plan p).unbounded (pool_at plan p).queue (pool_part s p).idle (length (pool_part s p).queue) (bounded.kept.pools p inside).within_queue;
 }
 
--- the law that a plan in which each pool has a bound, or may reject jobs, refuses nothing
+-- the law that a plan in which each pool has a bound, or needs none, refuses nothing
 pub bounded_plans_refuse_nothing : BoundedPlansRefuseNothing
 bounded_plans_refuse_nothing plan bounds well_formed hold events s reached =
     let is_ordered = ordered plan well_formed in

@@ -25,15 +25,15 @@ use Rattle.soundness.proofs.Bounded.{IsBoundBalanced, BoundHolds, needs_a_bound,
 
 -- ---- a pool whose queue was full at some time
 
--- an invariant of a pool after a call found its queue full. With a standing vector the queue is never full, so there is no such
--- state. With a lifetime vector the queue's capacity and the threads together are at most the jobs submitted to the pool and its
--- prestarted threads. Nothing is known of a pool without a bound.
+-- an invariant of a pool after a call found its queue full. With a standing vector the queue is never full, so there is no such state. With
+-- a lifetime vector, the capacity of the queue plus the number of threads is at most the number of jobs submitted to the pool plus the
+-- number of its prestarted threads. Nothing is known of a pool without a bound.
 abbrev pub WasFull : Plan → Option Bound → State → ℕ → Type 0
 WasFull plan None s p = ⊤
 WasFull plan (Some (Standing v)) s p = ⊥
 WasFull plan (Some (Lifetime v)) s p = (pool_at plan p).queue + threads plan s p ≤ jobs_made plan s p + first_workers (pool_at plan p)
 
--- the invariant of a pool after a call found its queue full; the queue is bounded
+-- after a call found the queue of a pool full, the queue is bounded and `WasFull` holds
 abbrev pub QueueWasFull : Plan → Option Bound → State → ℕ → Type 0
 QueueWasFull plan bound s p = ((pool_at plan p).unbounded ≡ false) × WasFull plan bound s p
 

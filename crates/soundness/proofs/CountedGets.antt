@@ -179,7 +179,8 @@ module _ (plan : Plan) (ranks : Ranks) (v : Vector) (p : ℕ) (s : State) (order
       let right = sum_by-add (λ (e : ℕ × CreatedJob). weight e.1) owed_to numbered in
       omega (arith, each, left, right, sum_of_elements blocks 0 s.jobs, sum_of_elements owes 0 s.jobs, sum_of_elements weight 0 s.jobs, owed-le-debts plan ranks v r s.jobs s.jobs)
 
-  -- the number of jobs of the pool that may block is at most the vector's total, because the weight of all jobs is
+  -- the number of jobs of the pool that may block is at most the vector's total, because this number is at most the weight of all jobs, and
+  -- that is at most the total
   pub may_block-le-total : IsBalanced DoneWeight plan v s → may_block plan ranks s p ≤ total plan v
   may_block-le-total balanced = omega (arith, may_block-le-weight, actors_weight-le-total DoneWeight plan v s ordered kept balanced)
 
@@ -190,7 +191,8 @@ module _ (plan : Plan) (ranks : Ranks) (v : Vector) (p : ℕ) (s : State) (order
       let limit = laws.within in
       omega (arith, may_block-le-total balanced)
 
--- the law that in every reachable state at most as many jobs of a pool may block as its blocked vector allows, and fewer than core
+-- the law that in every reachable state the number of jobs of a pool that may block is at most the total of its blocked vector, and below
+-- core
 pub fewer_than_core_may_block : FewerThanCoreMayBlock
 fewer_than_core_may_block plan ranks p v s well_formed inside ranks_hold hold reached =
     let laws = blocked_laws plan (is_counted plan ranks) p v hold in

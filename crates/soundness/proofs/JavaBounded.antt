@@ -1,5 +1,5 @@
--- In a plan in which each pool has a bound whose rows hold, or may reject jobs, no submit is refused in Java's steps, and no call requests a thread
--- from a pool with a standing vector.
+-- Submits in Java's steps, in a plan in which each pool has a bound whose rows hold, or needs none: no submit is refused, and no call
+-- requests a thread from a pool with a standing vector.
 use Rattle.std.proofs.Common.{◌≡◌, ℕ, List, Option, Some, subst}
 use Rattle.std.proofs.lemmas.Bool.{false_from_ne_true}
 use Rattle.job_bodies.specs.Plan.{Plan}

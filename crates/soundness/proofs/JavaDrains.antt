@@ -54,7 +54,8 @@ java_held plan cert ordered laws s reached =
 abbrev pub Pays : Plan → Cert → ℕ → JavaState → JavaState → Type 0
 Pays plan cert n s s' = n + 3 * todo plan cert.ranks s'.machine + calls_done s ≤ 3 * todo plan cert.ranks s.machine + calls_done s'
 
--- each possible event of a job or a pool pays: 1 if it is a job event or a take, and 0 if it is the end of a thread
+-- each possible event of a job or a pool pays for itself: for 1 event if it is a job event or a take, and for 0 if it is the end of a
+-- thread
 pub happened_pays : (plan : Plan) (cert : Cert) (s : JavaState) (e : Event) (s' : JavaState) → CertLaws plan cert → JavaHeld plan cert s → JavaHeld plan cert s' → is_of_no_client e ≡ true → JavaHappens plan s e s' → Pays plan cert (one_if (is_of_job_or_pool e)) s s'
 happened_pays plan cert s e s' laws held held' of_no_client happened =
     ⊎_elim

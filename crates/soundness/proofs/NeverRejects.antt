@@ -21,14 +21,14 @@ use Rattle.soundness.proofs.JavaEvents.{is_submission}
 use Rattle.soundness.proofs.Calls.{QueueWasFull, bound_leaves_room}
 use Rattle.soundness.proofs.Skipping.{choices_sound}
 
--- a pool to which a submit finds a full queue and max threads has no bound
+-- if a submit finds a full queue and max threads, its pool has no bound
 no_bound_if_full : (plan : Plan) (bound : Option Bound) (s : State) (a : Parent) (body : List Action) (i k : ℕ) → HasValidBodies plan → BoundHolds plan (pool_of plan k) bound → StateInvariant plan s → HaveJobs plan s → IsBoundBalanced plan bound s
     → IsAtAction plan s a body i (Some (action.Submit k))
     → HasNoRoom plan s (pool_of plan k) → (pool_at plan (pool_of plan k)).max ≤ threads plan s (pool_of plan k) → bound ≡ None
 no_bound_if_full plan None s a body i k ordered holds kept have balanced at no_room all_started = refl
 no_bound_if_full plan (Some bound) s a body i k ordered holds kept have balanced at no_room all_started = absurd (not_refused plan bound s a body i k ordered holds.0 kept have balanced at no_room all_started)
 
--- a pool whose queue was full, and in which a submit finds max threads, has no bound
+-- if a submit whose call found the queue full finds max threads, its pool has no bound
 no_bound_if_requested : (plan : Plan) (bound : Option Bound) (s : State) (a : Parent) (body : List Action) (i k : ℕ) → HasValidBodies plan → BoundHolds plan (pool_of plan k) bound → StateInvariant plan s → IsBoundBalanced plan bound s
     → IsAtAction plan s a body i (Some (action.Submit k))
     → QueueWasFull plan bound s (pool_of plan k) → (pool_at plan (pool_of plan k)).max ≤ threads plan s (pool_of plan k) → bound ≡ None

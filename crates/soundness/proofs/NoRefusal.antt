@@ -151,7 +151,7 @@ not_refused plan (Lifetime v) s a body i k ordered laws kept have balanced at no
 pub never_refused : (plan : Plan) (bound : Bound) (s s' : State) (p : ℕ) {e : Event} → HasValidBodies plan → BoundLaws plan p bound → StateInvariant plan s → HaveJobs plan s → IsBalanced (bound_get_return bound) plan (bound_vector bound) s → Happens plan s e s' (outcome.Refused p) → ⊥
 never_refused plan bound s s' p ordered laws kept have balanced (is_refused a body i k at must no_room all_started) = not_refused plan bound s a body i k ordered laws kept have balanced at no_room all_started
 
--- no actor is at a submit to a pool with a bound whose rows hold, and that has a full queue and max threads
+-- if the rows of a pool's bound hold, no actor is at a submit to this pool while its queue is full and it has max threads
 pub never_declined : (plan : Plan) (bound : Bound) (s : State) (p : ℕ) → HasValidBodies plan → BoundLaws plan p bound → StateInvariant plan s → HaveJobs plan s → IsBalanced (bound_get_return bound) plan (bound_vector bound) s → IsDeclined plan s p → ⊥
 never_declined plan bound s p ordered laws kept have balanced full =
     not_refused plan bound s full.actor full.body full.position full.class ordered (subst (λ (q : ℕ). BoundLaws plan q bound) (sym full.of_pool) laws) kept have balanced full.at full.no_room full.all_started

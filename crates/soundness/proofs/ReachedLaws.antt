@@ -44,7 +44,7 @@ pub sum_stays_within_total : SumStaysWithinTotal
 sum_stays_within_total get_return plan v s well_formed hold light reached =
     within.sum_of-le-total get_return plan v s (ordered plan well_formed) (kept plan s well_formed reached) (balanced get_return plan v s well_formed (vector_laws get_return plan v hold) light reached)
 
--- the law that a pool with a bound whose rows hold refuses and rejects nothing
+-- the law that a pool with a bound whose rows hold refuses and rejects nothing, if rejected jobs are light
 pub bounds_refuse_nothing : BoundsRefuseNothing
 bounds_refuse_nothing plan p bound s s' event well_formed fits hold light reached =
     let is_ordered = ordered plan well_formed in
@@ -56,7 +56,8 @@ bounds_refuse_nothing plan p bound s s' event well_formed fits hold light reache
       λ j rejected. never_declined plan bound s p is_ordered laws invariant have is_balanced (rejected_when plan s s' event p j rejected),
     )
 
--- the law that the number of queued jobs of a pool is at most the total of a vector in which each of them weighs at least 1
+-- the law that the number of queued jobs of a pool is at most the total of a vector in which each of them weighs at least 1, if rejected
+-- jobs are light
 pub queues_stay_within_total : QueuesStayWithinTotal
 queues_stay_within_total plan p v s well_formed inside hold weighs light reached =
     let is_ordered = ordered plan well_formed in

@@ -1,4 +1,4 @@
--- In the machine, only the answer `Refused` of a pool rejects a job, so a pool that rejects a job has a full queue and max threads.
+-- In the machine, a pool rejects a job only if it answers `Refused`. Its queue is then full, and it has max threads.
 use Rattle.std.proofs.Common.{◌≡◌, ℕ, ◌≤◌, List, length, Option, Some, None, refl, sym, ap, ◌∙◌}
 use Rattle.std.proofs.lemmas.Option.{none-some, same_Some}
 use Rattle.job_bodies.specs.declared.action.Action.{Action}
@@ -52,6 +52,6 @@ declined plan s after event p j (is_rejected a body i k at may) is_step =
     let full = refused_when_full (pool_seen plan s (pool_of plan k)) (answer_when_rejected plan s after a i k p j (answer (pool_seen plan s (pool_of plan k))) same) in
     record { actor = a; body = body; position = i; class = k; at = at; of_pool = refl; no_room = (full.0, full.1); all_started = full.2 }
 
--- an event that rejects a job is that of an actor at a submit to a pool with a full queue and max threads
+-- if a pool rejects a job in an event, an actor is at a submit to this pool, which has a full queue and max threads
 pub rejected_when : (plan : Plan) (s after : State) (event : Event) (p j : ℕ) → step plan s event ≡ Some (after, outcome.Rejected p j) → IsDeclined plan s p
 rejected_when plan s after event p j is_step = declined plan s after event p j (happens plan s event after (outcome.Rejected p j) is_step) is_step

@@ -94,6 +94,6 @@ offer_is_met = refl
 pub offer_is_missed : threads_of (one_idle ++ Misses (event.Client 1) ∷ Acts (event.Client 1) ∷ []) ≡ Some (record { queue = []; idle = 1 } ∷ [], 1)
 offer_is_missed = refl
 
--- no offer to a queue of a greater capacity is missed
+-- in the plan `nested`, whose queue has a greater capacity, the offer cannot be missed
 pub no_offer_is_missed : choices_replay nested (Some (without_calls (start nested))) (Acts (event.Client 0) ∷ Acts (event.Job 0) ∷ Misses (event.Job 0) ∷ []) ≡ None
 no_offer_is_missed = refl

@@ -30,8 +30,8 @@ may_block_in plan ranks p job = may_block_at plan ranks job.class job.stage && p
 abbrev pub may_block : Plan → Ranks → State → ℕ → ℕ
 may_block plan ranks s p = count_by (may_block_in plan ranks p) s.jobs
 
--- if the rows of the ranks and of a pool's blocked vector hold, then in every reachable state the number of jobs of this pool that are at a
--- counted get or before one is at most the vector's total, and below the pool's core size
+-- Let the rows of the ranks and of a pool's blocked vector hold. Then in every reachable state, the number of jobs of this pool that are at
+-- or before a counted get is at most the vector's total, and below the pool's core size
 abbrev pub FewerThanCoreMayBlock : Type 0
 FewerThanCoreMayBlock = (plan : Plan) (ranks : Ranks) (p : ℕ) (v : Vector) (s : State) → IsWellFormed plan → p < length plan.pools → AllHold (rank_rows plan ranks) → AllHold (blocked_rows plan p (is_counted plan ranks) v) → IsReached plan s
     → (may_block plan ranks s p ≤ total plan v) × (may_block plan ranks s p < (pool_at plan p).core)

@@ -31,18 +31,18 @@ bound_of cert p = (pool_cert_at cert p).bound
 abbrev pub BoundedPoolsNeverReject : Plan → (ℕ → Option Bound) → Type 0
 BoundedPoolsNeverReject plan bounds = (events : List Event) (s s' : State) (event : Event) (p j : ℕ) → Reaches plan events s → step plan s event ≡ Some (s', Rejected p j) → bounds p ≡ None
 
--- in every state that choices reach, a pool has no bound if an actor's call requests a thread of it and it has max threads, so that the
--- job is refused or rejected
+-- in every state that choices reach: if an actor's call requests a thread of a pool that has max threads, so that the job is refused or
+-- rejected, the pool has no bound
 abbrev pub BoundedPoolsNeverDecline : Plan → (ℕ → Option Bound) → Type 0
 BoundedPoolsNeverDecline plan bounds = (choices : List Choice) (s : JavaState) (event : Event) (x : Submission) → ChoicesReach plan choices s → submission plan s.machine event ≡ Some x
     → IsTrue (is_calling s.requesting x.actor (pool_of plan x.class)) → (pool_at plan (pool_of plan x.class)).max ≤ threads plan s.machine (pool_of plan x.class) → bounds (pool_of plan x.class) ≡ None
 
--- The guarantees of an accepted certificate for its plan: every reachable state is safe; in every reachable state with an
--- unfinished job an event of a job or a take is possible; and the plan drains, that is, if no client acts, the number of job
--- events and takes that can follow is bounded, and when none of them is possible, no job is unfinished. These three hold if each
--- submit is one event (the first three fields), if each submit is the steps of Java's `execute` (the `java` fields), and if, in
--- addition to these steps, actors skip submits together with their gets and exchange alike jobs (the `skipping` fields). Last, a pool
--- that has a bound in the certificate rejects no job, even if it may, with submits in one event and in the steps of the `skipping` fields.
+-- The guarantees of an accepted certificate for its plan. Every reachable state is safe. In every reachable state with an unfinished job,
+-- an event of a job or a take is possible. The plan drains: if no client acts, the number of job events and takes that can follow is
+-- bounded, and when none of them is possible, no job is unfinished. The first three fields are for submits of one event each. The `java`
+-- fields are for submits in the steps of Java's `execute`. The `skipping` fields are for these steps if actors also skip submits together
+-- with their gets and exchange alike jobs. The last two fields say that a pool with a bound in the certificate rejects no job, even if it
+-- may: the first for submits of one event each, and the second for the steps of the `skipping` fields.
 pub record Promises (plan : Plan) (cert : Cert) : Type 0 where
   pub safe : Safe plan
   pub makes_progress : MakesProgress plan
@@ -70,14 +70,14 @@ AcceptedPlansMakeProgress = (plan : Plan) (cert : Cert) → IsWellFormed plan �
 abbrev pub AcceptedPlansDrain : Type 0
 AcceptedPlansDrain = (plan : Plan) (cert : Cert) → IsWellFormed plan → IsTrue (accepted plan cert) → Drains plan cert.ranks
 
--- the bound of pool p is a standing or a lifetime vector whose rows hold and under which a rejected job does not increase the weight of a
--- state; or there is none, and the pool needs none, because it may reject jobs or its queue is unbounded
+-- pool p has a bound, a standing or a lifetime vector, whose rows hold and under which a rejected job does not increase the weight of a
+-- state; or it has none and needs none, because it may reject jobs or its queue is unbounded
 abbrev pub HasBound : Plan → ℕ → Option Bound → Type 0
 HasBound plan p None = IsTrue (needs_no_bound (pool_at plan p))
 HasBound plan p (Some bound) = IsTrue (vector_fits plan (bound_vector bound)) × AllHold (bound_rows plan p bound) × RejectedAreLight plan (bound_vector bound)
 
--- in the state, no submit was refused, no pool has more threads than its maximum, and no bounded queue is longer than its capacity, or than
--- the number of idle workers if its capacity is 0
+-- in the state, no submit was refused, and no pool has more threads than its maximum; no bounded queue has more jobs than its capacity, or
+-- than its pool has idle workers if the capacity is 0
 pub record KeepsSizes (plan : Plan) (s : State) : Type 0 where
   pub none_refused : s.refusals ≡ 0
   pub within_max : (p : ℕ) → p < length plan.pools → threads plan s p ≤ (pool_at plan p).max
@@ -116,8 +116,8 @@ JavaRefusesNothing plan = (events : List Event) (s : JavaState) → JavaReaches 
 abbrev pub BoundedPlansJavaRefuseNothing : Type 0
 BoundedPlansJavaRefuseNothing = (plan : Plan) (bounds : ℕ → Option Bound) → IsWellFormed plan → ((p : ℕ) → p < length plan.pools → HasBound plan p (bounds p)) → JavaRefusesNothing plan
 
--- if each pool of a well-formed plan has a bound or needs none, and the bound of pool p is a standing vector, no call ever finds the
--- queue of p full, so no call requests a thread above core from p
+-- if each pool of a well-formed plan has a bound or needs none, and the bound of pool p is a standing vector, no call ever finds the queue
+-- of p full. So no call requests a thread above core from p
 abbrev pub StandingPoolsAreNotAsked : Type 0
 StandingPoolsAreNotAsked = (plan : Plan) (bounds : ℕ → Option Bound) (p : ℕ) (v : Vector) (events : List Event) (s : JavaState) (a : Parent) → IsWellFormed plan
     → ((q : ℕ) → q < length plan.pools → HasBound plan q (bounds q))

@@ -25,9 +25,9 @@ use Rattle.soundness.specs.Execute.{JavaState, Submission, is_calling, offer_fai
 use Rattle.soundness.specs.JavaSafe.{JavaCanProgress, IsJavaQuiescent}
 use Rattle.soundness.specs.Exchange.{after_exchange, can_exchange}
 
--- a choice: `Acts` performs an event; `Skips` makes the actor of the event skip the submit at which it is; `Misses` makes the offer
--- of the event's actor fail although a thread may be idle, which can happen at a queue of capacity 0; `Exchanges` exchanges the jobs
--- that an actor submitted at two positions
+-- a choice: `Acts` performs an event. `Skips` makes the actor of the event skip the submit at which it is. `Misses` makes the offer of the
+-- event's actor fail although a thread may be idle, which can happen at a queue of capacity 0. `Exchanges` exchanges the jobs that an actor
+-- submitted at two positions
 pub data Choice : Type 0 where
   Acts : Event → Choice
   Skips : Event → Choice
@@ -52,8 +52,8 @@ skip_submit plan s (Some x) = if has_begun plan s x then None else Some (record 
 abbrev pub has_no_queue : Pool → Bool
 has_no_queue pool = not pool.unbounded && pool.queue == 0
 
--- the state after the offer of the submit finds no thread at a queue of capacity 0, because an idle thread is not back at the queue
--- yet; None if there is no submit, its next step is no offer, or the queue has a greater capacity
+-- the state after the offer of the submit finds no thread at a queue of capacity 0, although a thread may be idle: it is not back at the
+-- queue yet. None if there is no submit, its next step is no offer, or the queue has a greater capacity or is unbounded
 abbrev pub miss_thread : Plan → JavaState → Option Submission → Option JavaState
 miss_thread plan s None = None
 miss_thread plan s (Some x) =
@@ -113,9 +113,9 @@ pub record ChoicesLeadTo (plan : Plan) (s : JavaState) (choices : List Choice) (
   pub of_no_client : IsTrue (list_all no_client_acts choices)
   pub replayed : choices_replay plan (Some s) choices ≡ Some s'
 
--- If no client acts after a state that choices reach, the number of job events, takes, and skips and missed offers by jobs that follow is
--- at most three times the remaining work of that state. When no job event and no take is possible any longer, no job is unfinished. In
--- between, threads above core may end and jobs may be exchanged.
+-- Let no client act after a state that choices reach. Then the number of the job events, takes, skips by jobs and missed offers by jobs
+-- that follow is at most three times the remaining work of that state. When no job event and no take is possible any longer, no job is
+-- unfinished. In between, threads above core may end and jobs may be exchanged.
 pub record SkippingDrains (plan : Plan) (ranks : Ranks) : Type 0 where
   pub bounded : (s s' : JavaState) (choices : List Choice) → ChoicesLeadTo plan s choices s' → count_by is_of_jobs choices ≤ 3 * todo plan ranks s.machine
   pub drained : (s s' : JavaState) (choices : List Choice) → ChoicesLeadTo plan s choices s' → IsJavaQuiescent plan s' → (j : ℕ) → IsFalse (is_unfinished (job_at s'.machine j).stage)

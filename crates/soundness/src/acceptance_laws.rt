@@ -3,7 +3,7 @@
 //! A *take* is the event in which a worker takes a job from a queue. The *remaining work* of a job
 //! is the number of job events and takes that are left until it and all jobs that it will submit
 //! are done. A *standing* or *lifetime* vector bounds the queue of a pool, and its *rows* are the
-//! conditions on it. A submit that a pool rejects because the plan allows it does not count as
+//! conditions on it. If a pool rejects a job as the plan allows, the submit does not count as
 //! refused: it is skipped together with its get.
 
 ghost use Rattle.soundness.specs.Headline.{
@@ -21,8 +21,9 @@ ghost use Rattle.soundness.specs.Headline.{AcceptedPlansMaySkip, AcceptedPlansMa
 ghost use Rattle.soundness.specs.Headline.{AcceptedBoundsNeverReject, AcceptedBoundsNeverDecline};
 
 /// Proves that, if a certificate accepts a well-formed plan, every reachable state is safe. In a
-/// safe state, no submit was refused, each pool is within its maximum and its queue's capacity, and
-/// no set of unfinished jobs waits only for its own members, now or at later gets.
+/// safe state, no submit was refused, and no set of unfinished jobs waits only for its own members,
+/// now or at later gets. No pool has more threads than its maximum, and no bounded queue has more
+/// jobs than its capacity, or than its pool has idle workers if the capacity is 0.
 pub fn accepted_plans_are_safe()
     ensures { AcceptedPlansAreSafe }
 {}
@@ -42,11 +43,11 @@ pub fn accepted_plans_drain()
 {}
 
 /// Proves that a well-formed plan refuses nothing if each pool has a standing or a lifetime vector
-/// whose rows hold, or needs none because it may reject jobs or its queue is unbounded. No reachable
-/// state then has a refused submit, a pool with more threads than its maximum, or a bounded queue
-/// longer than its capacity (or than the number of idle workers if the capacity is 0). No ranks and
-/// no blocked vectors are needed. If a pool may reject jobs, a done job of its classes must weigh at
-/// most as much as a queued one in each of these vectors.
+/// whose rows hold, or needs none because it may reject jobs or its queue is unbounded. In each of
+/// these vectors, a rejected job must weigh at most as much as a queued job of its class. No ranks
+/// and no blocked vectors are needed. In each reachable state, no submit was refused, and no pool
+/// has more threads than its maximum. No bounded queue has more jobs than its capacity, or than its
+/// pool has idle workers if the capacity is 0.
 pub fn bounded_plans_refuse_nothing()
     ensures { BoundedPlansRefuseNothing }
 {}
@@ -73,18 +74,15 @@ pub fn accepted_plans_java_drain()
     ensures { AcceptedPlansJavaDrain }
 {}
 
-/// Proves that a well-formed plan refuses nothing if each pool has a standing or a lifetime vector
-/// whose rows hold, or needs none, even if a submit takes the separate steps of Java's `execute`.
-/// What no reachable state has, and the condition on done jobs, are those of
-/// [`bounded_plans_refuse_nothing`].
+/// Proves the law [`bounded_plans_refuse_nothing`] for submits in the separate steps of Java's
+/// `execute`. The conditions are the same, and so is what holds in each reachable state.
 pub fn bounded_plans_java_refuse_nothing()
     ensures { BoundedPlansJavaRefuseNothing }
 {}
 
 /// Proves that no call of Java's `execute` ever finds a full queue in a pool with a standing
-/// vector. So no call requests a thread above core from this pool. The plan must be well-formed,
-/// and each of its pools must have a standing or a lifetime vector whose rows hold, or need none.
-/// The condition on done jobs is that of [`bounded_plans_refuse_nothing`].
+/// vector. So no call requests a thread above core from this pool. The plan, its pools and their
+/// vectors must satisfy the conditions of [`bounded_plans_refuse_nothing`].
 pub fn standing_pools_are_not_asked()
     ensures { StandingPoolsAreNotAsked }
 {}
@@ -114,15 +112,15 @@ pub fn accepted_plans_drain_with_skips()
     ensures { AcceptedPlansDrainWithSkips }
 {}
 
-/// Proves that, if a certificate accepts a well-formed plan and has a bound for the queue of a pool,
-/// the pool rejects no job in any reachable state, even if the plan says that it may.
+/// Proves that a pool with a bound in a certificate that accepts the plan rejects no job in any
+/// reachable state, even if the plan says that it may. The plan must be well-formed.
 pub fn accepted_bounds_never_reject()
     ensures { AcceptedBoundsNeverReject }
 {}
 
-/// Proves that, if a certificate accepts a well-formed plan and has a bound for the queue of a pool,
-/// the pool refuses and rejects no job, under the assumptions of [`accepted_plans_may_skip`]: a call
-/// that requests a thread of this pool finds fewer than max threads.
+/// Proves the law [`accepted_bounds_never_reject`] under the assumptions of
+/// [`accepted_plans_may_skip`]: a call that requests a thread of a pool with a bound finds fewer
+/// than max threads, so the pool refuses and rejects no job.
 pub fn accepted_bounds_never_decline()
     ensures { AcceptedBoundsNeverDecline }
 {}

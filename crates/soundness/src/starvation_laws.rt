@@ -7,10 +7,10 @@
 ghost use Rattle.soundness.specs.CountedGets.{FewerThanCoreMayBlock, NoLooseWaitingSets};
 ghost use Rattle.soundness.specs.Drain.{FullIsWhole, FullIsOfThePlan};
 
-/// Proves that, if the rows of the ranks and of a pool's blocked vector hold, the number of the
-/// pool's jobs that can be blocked is at most the vector's total, and less than the pool's core
-/// size, in every reachable state. A job can be blocked if it runs, and its current action or a
-/// later action is a counted get.
+/// Proves a limit on the jobs of a pool that can be blocked, if the rows of the ranks and of the
+/// pool's blocked vector hold. In every reachable state, the number of these jobs is at most the
+/// vector's total, and less than the pool's core size. A job can be blocked if it runs, and its
+/// current action or a later action is a counted get.
 pub fn fewer_than_core_may_block()
     ensures { FewerThanCoreMayBlock }
 {}
