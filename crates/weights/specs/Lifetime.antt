@@ -1,5 +1,5 @@
--- The conditions of the lifetime vector of pool p: the queue and the threads of p have room for all jobs that are ever submitted to it. An
--- unbounded queue needs none but L1, V2 to V4, L5, V6 and V7.
+-- The conditions of the lifetime vector of pool p: the queue and the threads of p have room for all jobs that are ever submitted to it. If
+-- the queue of p is unbounded, the only conditions are L1, V2 to V4, L5, V6 and V7.
 use Rattle.std.specs.Prelude.{ℕ, ◌+◌, ◌-◌, if◌then◌else◌, List, [], ◌∷◌, ◌++◌, map}
 use Rattle.std.specs.List.{flat_map, enumerate_from}
 use Rattle.job_bodies.specs.Plan.{Pool, Plan, pool_at, first_workers}

@@ -85,8 +85,9 @@ fn visit_all_l2_rows<V: RowVisitor>(plan: &Plan, pool: usize, vector: &Vector, v
 
 impl Vector {
     /// Passes all conditions of the pool's lifetime vector to the visitor: first L1 of each pool,
-    /// then the rows of [`Vector::visit_rows`] with L5 in place of V5, then, unless the queue of the
-    /// pool is unbounded, L2 of each weight of each class of the pool, and L3.
+    /// and then the rows of [`Vector::visit_rows`] with L5 in place of V5. Unless the queue of the
+    /// pool is unbounded, these are followed by L2 of each weight of each class of the pool, and
+    /// L3.
     pub fn visit_lifetime_rows<V: RowVisitor>(&self, plan: &Plan, pool: usize, visitor: &mut V)
         requires fits { IsTrue (spec.vector_fits plan.now self.now) }
         requires pool { pool < length plan.now.pools }

@@ -1,6 +1,6 @@
-//! The conditions of the standing vector of a pool, which show that the number of queued jobs never
-//! exceeds the capacity of the queue. An unbounded queue has no condition of this kind. [`Rule`]
-//! explains the names of the rows.
+//! The conditions of the standing vector of a pool. They show that the number of queued jobs never
+//! exceeds the capacity of the queue. If the queue is unbounded, the only conditions are V2 to V7,
+//! and they set no limit on the queued jobs. [`Rule`] explains the names of the rows.
 
 ghost use Rattle.std.specs.Prelude.{◌≡◌, ◌==◌, ◌<◌, ◌∷◌, [], if◌then◌else◌, IsTrue, Some, length, map, slice_get};
 ghost use Rattle.job_bodies.specs.WellFormed.{IsWellFormed};
@@ -55,8 +55,8 @@ fn visit_queued_rows<V: RowVisitor>(plan: &Plan, pool: usize, vector: &Vector, v
 
 impl Vector {
     /// Passes all conditions of the pool's standing vector to the visitor: first the rows of
-    /// [`Vector::visit_rows`], then S1 of each class of the pool and S2, unless the queue of the pool
-    /// is unbounded.
+    /// [`Vector::visit_rows`], and then, unless the queue of the pool is unbounded, S1 of each
+    /// class of the pool and S2.
     pub fn visit_standing_rows<V: RowVisitor>(&self, plan: &Plan, pool: usize, visitor: &mut V)
         requires fits { IsTrue (spec.vector_fits plan.now self.now) }
         requires pool { pool < length plan.now.pools }
