@@ -39,11 +39,12 @@ abbrev pub event_of : Parent → Event
 event_of (parent.Client c) = event.Client c
 event_of (parent.Job j) = event.Job j
 
--- the queue of pool p is bounded and full
+-- the queue of pool p is bounded, and has at least as many jobs as its capacity; for a capacity of 0 the latter always holds
 abbrev pub HasNoRoom : Plan → State → ℕ → Type 0
 HasNoRoom plan s p = ((pool_at plan p).unbounded ≡ false) × ((pool_at plan p).queue ≤ length (pool_part s p).queue)
 
--- a rejection does not require a full pool here, because in Java's steps the pool may have room again
+-- the event leads from state s to another state, with an outcome. A rejection does not require a full pool here, because in Java's steps
+-- the pool may have room again
 pub data Happens (plan : Plan) (s : State) : Event → State → Outcome → Type 0 where
   works : (a : Parent) (body : List Action) (i u : ℕ) → IsAtAction plan s a body i (Some (action.Work u))
       → Happens plan s (event_of a) (with_position a (i + 1) s) (outcome.Worked u)
@@ -80,7 +81,7 @@ pub data Happens (plan : Plan) (s : State) : Event → State → Outcome → Typ
 same_outcome : (plan : Plan) (s : State) (e : Event) (x : State × Outcome) (s' : State) (o : Outcome) → Some x ≡ Some (s', o) → Happens plan s e x.0 x.1 → Happens plan s e s' o
 same_outcome plan s e x s' o same happened = subst (λ (y : State × Outcome). Happens plan s e y.0 y.1) (same_Some x (s', o) same) happened
 
--- a submit to a full pool satisfies the relation, whether or not the pool may reject jobs
+-- a submit to a pool without room and with its maximum of threads satisfies the relation, whether or not the pool may reject jobs
 full_happens : (plan : Plan) (s : State) (a : Parent) (body : List Action) (i k : ℕ) → IsAtAction plan s a body i (Some (action.Submit k))
     → HasNoRoom plan s (pool_of plan k) → (pool_at plan (pool_of plan k)).max ≤ threads plan s (pool_of plan k)
     → (may : Bool) → (pool_at plan (pool_of plan k)).may_reject ≡ may

@@ -117,7 +117,7 @@ pub two_clients_refused : outcomes_from_start (one_pool 1 1 1 2) two_clients_ref
     ≡ Some (Started 0) ∷ Some (Worked 1) ∷ Some (Finished 0) ∷ Some (Got 0) ∷ Some Looped ∷ Some (Queued 1) ∷ Some (Refused 0) ∷ []
 two_clients_refused = refl
 
--- if the pool may reject jobs, the seventh event is rejected instead, and the get of the submit returns at once
+-- if the pool may reject jobs, the submit in the seventh event is rejected instead, and its get returns at once
 pub two_clients_rejected : outcomes_from_start (rejecting (one_pool 1 1 1 2)) (two_clients_refused-events ++ event.Client 1 ∷ [])
     ≡ Some (Started 0) ∷ Some (Worked 1) ∷ Some (Finished 0) ∷ Some (Got 0) ∷ Some Looped ∷ Some (Queued 1) ∷ Some (Rejected 0 2) ∷ Some (Got 2) ∷ []
 two_clients_rejected = refl
@@ -126,8 +126,8 @@ two_clients_rejected = refl
 pub two_clients_rejected-ends : after (rejecting (one_pool 1 1 1 2)) two_clients_refused-events ends ≡ Some (0, 1)
 two_clients_rejected-ends = refl
 
--- with a queue of capacity 0, the sixth event hands the second job to the idle thread, and the seventh is rejected, because that thread does
--- not take another job
+-- with a queue of capacity 0, the sixth event hands the second job to the idle thread. The submit in the seventh event is rejected, because
+-- that thread takes no other job
 pub handed_over : outcomes_from_start (rejecting (one_pool 1 1 0 2)) (two_clients_refused-events ++ event.Take 0 ∷ [])
     ≡ Some (Started 0) ∷ Some (Worked 1) ∷ Some (Finished 0) ∷ Some (Got 0) ∷ Some Looped ∷ Some (Queued 1) ∷ Some (Rejected 0 2) ∷ Some (Took 1) ∷ []
 handed_over = refl

@@ -17,8 +17,8 @@ use Rattle.written_machine.specs.LooseWaiting.{IsLooseWaitingSet}
 abbrev pub HoldsWhereReached : (Plan → State → Type 0) → Type 0
 HoldsWhereReached holds = (plan : Plan) (s : State) → IsWellFormed plan → IsReached plan s → holds plan s
 
--- pool p has at most its maximum of threads and, unless its queue is unbounded, at most as many queued jobs as its capacity, or as idle
--- workers if its capacity is 0
+-- pool p has at most its maximum of threads. Unless its queue is unbounded, it has at most as many queued jobs as its capacity, or as idle
+-- workers if the capacity is 0
 pub record KeepsSizes (plan : Plan) (s : State) (p : ℕ) : Type 0 where
   pub within_max : threads plan s p ≤ (pool_at plan p).max
   pub within_queue : IsFalse (pool_at plan p).unbounded → length (pool_part s p).queue ≤ queue_limit (pool_at plan p).queue (pool_part s p).idle

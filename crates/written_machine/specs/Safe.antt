@@ -1,5 +1,6 @@
--- The safety of a plan: in every reachable state no submit has been refused, each pool is within its maximum and, if its queue is bounded,
--- its capacity (or its number of idle workers if the capacity is 0), and no set of unfinished jobs waits only for its own members, now or at later gets.
+-- The safety of a plan: in every reachable state no submit has been refused, and no pool has more threads than its maximum. No bounded
+-- queue has more jobs than its capacity, or than its pool has idle workers if the capacity is 0. No set of unfinished jobs waits only for
+-- its own members, now or at later gets.
 use Rattle.std.specs.Prelude.{◌≡◌, ◌≤◌, ◌<◌, ℕ, Bool, true, false, IsTrue, IsFalse, is_some, List, length}
 use Rattle.job_bodies.specs.Plan.{Plan, pool_at}
 use Rattle.pool_machine.specs.PoolState.{queue_limit}

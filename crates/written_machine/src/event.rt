@@ -25,9 +25,9 @@ pub enum Outcome {
     Queued(usize),
     /// The pool with this index refused the job of a submit. No job was created.
     Refused(usize),
-    /// The full pool with the first index rejected the job of a submit, as the plan allows. The
-    /// submit is skipped together with its get: the job with the second number was created as a job
-    /// that is done.
+    /// The pool with the first index was full and rejected the job of a submit, as the plan allows.
+    /// The submit is skipped together with its get: a job with the second number was created, and
+    /// is done.
     Rejected(usize, usize),
     /// The actor performed this number of units of work.
     Worked(u32),

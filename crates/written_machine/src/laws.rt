@@ -14,8 +14,8 @@ ghost use Rattle.written_machine.specs.Laws.{
 };
 
 /// Proves that, in every reachable state of a well-formed plan, each pool has at most its maximum
-/// of threads and, unless its queue is unbounded, at most as many queued jobs as its capacity, or as
-/// idle workers if the capacity is 0.
+/// of threads. Unless its queue is unbounded, it has at most as many queued jobs as its capacity,
+/// or as idle workers if the capacity is 0.
 pub fn pools_keep_their_sizes()
     ensures { PoolsKeepTheirSizes }
 {}
