@@ -99,9 +99,9 @@ pub record IsTextOf (seen : InferredPlan) (plan : Plan) (rejections : List PoolR
   pub text_is : text ≡ head_comment seen ++ (rejection_comments plan rejections ++ (comments plan findings ++ 10 ∷ written))
 
 -- The text is a plan's. Its pools are those of the recording, and `with_rejecting_pools` says which of them may reject jobs. The count of
--- each kind of client is the largest number seen at once. The jobs and the rounds of the recording follow the plan's bodies, and the plan
--- has enough clients. Each other finding is in a comment at the head of the text, in the order of the recording's lines. If there is none,
--- the recording conforms to the plan.
+-- each kind of client is the largest number of its rounds that were open at once, and at least 1. The jobs and the rounds of the recording
+-- follow the plan's bodies, and the plan has enough clients. Each other finding is in a comment at the head of the text, in the order of
+-- the recording's lines. If there is none, the recording conforms to the plan.
 pub record IsLearnedText (recording text : List ℕ) : Type 0 where
   pub seen : InferredPlan
   pub is_seen : IsSeen (lines_of recording) seen
