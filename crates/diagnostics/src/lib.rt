@@ -45,7 +45,7 @@ pub use diagnostic::{Diagnostic, Faults, NumberRange, push_faults};
 pub use entry_places::{BodyPlaces, PlanPlaces, PoolPlaces, plan_places};
 pub use line_laws::each_message_is_a_line;
 pub use lint::{Lint, has_warning, is_note};
-pub use lowered_maxes::{at_core, has_max_above_core};
+pub use lowered_maxes::{at_core, can_be_lowered};
 pub use open_futures::has_open_future;
 pub use plan_faults::faults_of;
 pub use warning_lines::push_warnings;

@@ -8,11 +8,22 @@ use crate::lint_conditions::may_grow;
 use job_bodies::{Plan, Pool};
 use std::alloc::{AllocError, Global};
 
-/// Returns whether some pool's maximum is above its core size.
-pub fn has_max_above_core(plan: &Plan) -> bool
-    ensures { result ≡ spec.has_max_above_core plan.now }
+/// Returns whether some pool's maximum is above its core size, and no such pool may reject jobs.
+///
+/// With a lower maximum, a pool that may reject jobs can reject more of them, and clients that wait
+/// for no job do something else. So the plan with lowered maximums says nothing about such a plan.
+pub fn can_be_lowered(plan: &Plan) -> bool
+    ensures { result ≡ spec.can_be_lowered plan.now }
 {
-    plan.pools().iter().any(|pool| may_grow(pool))
+    let pools = plan.pools();
+    pools.iter().any(|pool| may_grow(pool)) && !pools.iter().any(|pool| may_grow_and_reject(pool))
+}
+
+/// Returns whether the pool's maximum is above its core size, and the pool may reject jobs.
+fn may_grow_and_reject(pool: &Pool) -> bool
+    ensures { result ≡ spec.may_grow_and_reject pool.now }
+{
+    may_grow(pool) && pool.may_reject
 }
 
 /// Returns the plan with each maximum lowered to the core size of its pool.

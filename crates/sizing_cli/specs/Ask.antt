@@ -16,7 +16,7 @@ use Rattle.diagnostics.specs.declared.lint.Lint.{Lint}
 use Rattle.diagnostics.specs.declared.lint.Lint.TheVariants.{StaleCertificate}
 use Rattle.diagnostics.specs.declared.warnings.Warning.{Warning}
 use Rattle.diagnostics.specs.Lints.{AreLints, lints_in, has_warning}
-use Rattle.diagnostics.specs.AtCore.{at_core, has_max_above_core}
+use Rattle.diagnostics.specs.AtCore.{at_core, can_be_lowered}
 use Rattle.diagnostics.specs.Diagnostic.{HaveSingleLines, WarnInSingleLines, faults_text, warnings_text}
 use Rattle.diagnostics.specs.Lines.{HasNoNewline}
 use Rattle.diagnostics.specs.PlanPlaces.{FitPlan}
@@ -139,9 +139,9 @@ needed_of plan (Safe cert rejections) = needed_places plan cert
 needed_of plan (NotSafe witness sizes) = needed_by_sizes sizes
 needed_of plan (NotDecided sizes) = needed_by_sizes sizes
 
--- the lowered plan is the plan with each maximum lowered to the core size of its pool, and its certificate accepts it
+-- the lowered plan is the plan with each maximum lowered to the core size of its pool, its certificate accepts it, and the plan can be lowered
 pub record IsAcceptedAtCore (plan : Plan) (lowered : LoweredPlan) : Type 0 where
-  pub above : has_max_above_core plan ≡ true
+  pub can_be : can_be_lowered plan ≡ true
   pub is_at_core : lowered.plan ≡ at_core plan
   pub is_accepted : IsTrue (accepted lowered.plan lowered.cert)
 

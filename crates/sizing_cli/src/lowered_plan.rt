@@ -9,7 +9,7 @@ use crate::certificate::WORKERS;
 use crate::noop_gate::NoopGate;
 use cert_search::search;
 use cert_text::Cert;
-use diagnostics::{at_core, has_max_above_core};
+use diagnostics::{at_core, can_be_lowered};
 use job_bodies::Plan;
 use report::PlanFinding;
 use std::alloc::Global;
@@ -26,9 +26,9 @@ pub(crate) struct LoweredPlan {
 
 /// Searches for a certificate of the plan with each maximum lowered to the core size of its pool.
 /// Returns `None` if it finds none. Also returns `None`, without a search, if `finding` already
-/// says whether the plan is safe, or if no maximum is above its core size. A plan that is not safe
-/// needs no search if none of its pools may reject jobs: until the lowered plan refuses a submit,
-/// both plans behave alike, so the lowered plan is not safe either.
+/// says whether the plan is safe, if no maximum is above its core size, or if such a pool may reject
+/// jobs. Otherwise both plans behave alike until the lowered plan refuses a submit. So a plan that
+/// is not safe needs no search: the lowered plan is not safe either.
 ///
 /// # Errors
 ///
@@ -57,7 +57,7 @@ fn search_lowered<R: Threads + Wait + Sync>(
     ensures lowered { IfOk result (λ found. IfSome found (spec.IsAcceptedAtCore plan.now)) }
     ensures fault { IfErr result (λ fault. IsTrue (is_of_search fault.number)) }
 {
-    if !has_max_above_core(plan) {
+    if !can_be_lowered(plan) {
         return Ok(None);
     }
     let lowered = at_core(alloc, plan)?;
