@@ -72,7 +72,8 @@ The answer is `yes` or `no`, and then a line for each pool:
 `standing T of Q`: at most T jobs are in the queue at once, and its capacity is Q. A certificate can
 have `lifetime T of Q` instead: at most T jobs are ever submitted, and Q of them fit into queue and
 threads. `may reject` in its place: the pool has `may_reject = true`, and no bound for its queue. For
-an unbounded queue Q is the word `unbounded`; this word alone means that T is not known.
+an unbounded queue, `unbounded` is in place of Q, and T need not bound the jobs in the queue; it is
+in place of all of this if the pool has no bound.
 `blocked T of B`: at most T of the pool's threads wait for jobs that need this pool, and B, core - 1,
 may.
 
@@ -140,8 +141,8 @@ with `(now X)` after each number that changes, where X is the number in the plan
 `changes N`, the number of changes. With --bundle the answer is the plan with the new sizes, a line
 `%%`, and a certificate, to which `sizing check` answers yes.
 
-No size decreases. For the certificate that was found, no smaller core, maximum or queue will do;
-another certificate may need less.
+No size decreases. For the certificate that was found, no smaller core or maximum will do, and with
+these maximums no smaller queue; another certificate may need less.
 
 Otherwise the answer is `no fitting sizes found`, and the reason:
   class NAME submits itself
@@ -149,8 +150,9 @@ Otherwise the answer is `no fitting sizes found`, and the reason:
   class NAME action I: submits for ever, never got
   pool NAME: sizes above 1000000
 With the first three, no sizes have a certificate. With the fourth the search reached the limit for a
-size or a weight, or nothing gets some jobs of a pool that may reject; other sizes may do. Actions
-are numbered from 0. With --bundle the answer can also be `no bundle: text too long`.
+size or a weight, or nothing gets some jobs of a pool that may reject or has an unbounded queue;
+other sizes may do. Actions are numbered from 0. With --bundle the answer can also be
+`no bundle: text too long`.
 
 Exit status:
   0  no size changes, or a bundle was written
@@ -166,7 +168,7 @@ sizing run --rounds N PLAN CERTIFICATE
        sizing run --rounds N < INPUT",
     notes: "\
 If `sizing check` answers yes, a thread is started for each client, and for each pool as many threads
-as its maximum. Each client that repeats goes through its body N times, the others once, until all
+as it may have. Each client that repeats goes through its body N times, the others once, until all
 jobs are done. No submit is refused, however the threads are scheduled. A unit of work is counted
 and takes no time. A run has at most 64 clients, 64 threads of pools, and 1000000 events: for each
 job one per action and 2 more, for each client one per action and one between two rounds.
@@ -225,8 +227,8 @@ Otherwise it lists the warnings, and then says
                wait only for each other; how many jobs can wait in the queue of each pool, and who
                submits them
   NOT SAFE     steps that end in a refused submit or in jobs that wait only for each other, and
-               sizes that prevent it, or why there are none
-  NOT DECIDED  neither was found; sizes that are certainly safe
+               sizes that prevent it, or why none were found
+  NOT DECIDED  neither was found; sizes that are safe, or why none were found
 
 The values of --format, which excludes --json and --dot:
   text    lines for a person, as above; also without --format
@@ -284,10 +286,10 @@ sizing conform PLAN RECORDING
 RECORDING has a line for each event of the service's pools, as the recorder in `java/` writes it
 (docs/RECORDING.md).
 
-The answer is `conforms` if each pool has the sizes of the plan, each job and each round of a client
-follows its body (it can skip a submit together with its get, and get alike jobs in any order and
-sooner), and at no time more rounds of a kind are open than its `count`. This says nothing of other runs of the service. Otherwise the answer lists
-the first difference of each class and kind:
+The answer is `conforms` only if each pool has the sizes of the plan, each job and each round of a
+client follows its body (it can skip a submit together with its get, and get alike jobs in any order
+and sooner), and at no time more rounds of a kind are open than its `count`. This says nothing of
+other runs of the service. Otherwise the answer lists the first difference of each class and kind:
   line 812: job 44 of class order in pool web submitted price to pool db; its body has no such
   submit after get stock
   line 903: kind tomcat: 31 at once, count is 30

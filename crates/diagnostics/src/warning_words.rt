@@ -241,7 +241,7 @@ fn words_of_max(alloc: Global, plan: &Plan, number: usize) -> Result<String, All
     let core = pool.core;
     let max = pool.max;
     format!(in alloc;
-        "pool {name}: max {max} has no effect: a thread above core {core} starts only when the queue is full, and it never is"
+        "pool {name}: max {max} has no effect: a thread above core {core} starts only if a submit finds the queue full, and none does"
     )
 }
 
