@@ -148,13 +148,13 @@ class Fit:
         return self.fault_of_less(fitted, cert)
 
     def fault_of_less(self, fitted, cert):
-        """Returns a text that reports a size that fell, a changed queue of a pool that may reject jobs, a max that rose above its core, or
+        """Returns a text that reports a size that fell, a changed queue of a pool that may reject jobs or is unbounded, a max that rose above its core, or
         a changed core or queue that could be smaller; an empty text if there is none."""
         for number, (now, found) in enumerate(zip(self.plan.pools, fitted.pools)):
             if any(new < old for new, old in zip(sizes_of(found), sizes_of(now))):
                 return f"a size of {now.name} falls"
             if (now.may_reject or now.unbounded) and found.queue != now.queue:
-                return f"the queue of {now.name} changes, which may reject jobs"
+                return f"the queue of {now.name} changes, which may reject jobs or is unbounded"
             if found.max > now.max and found.max != found.core:
                 return f"the max of {now.name} rises further than its core"
             for less in lessened(now, found):

@@ -34,12 +34,12 @@ About pools over a `SynchronousQueue`, which is the queue of 0 of a plan:
 - A get may return before the thread is back at the queue. So the next submit may be rejected although no job is unfinished. It is
   never rejected if the thread waits in the queue.
 - A thread above core that is idle for the keep-alive time ends. If a job is handed to it at that moment, the job still runs.
-- `DiscardOldestPolicy` finds no job in the queue to discard, and calls `execute` again, until the stack overflows.
+- `DiscardOldestPolicy` finds no job in the queue to discard, and calls `execute` again, until a thread is idle or the stack overflows.
 
 About pools over a `LinkedBlockingQueue` without a capacity, which is the unbounded queue of a plan, as that of `newFixedThreadPool`:
 
-- An offer to the queue never fails. So no thread above core starts, whatever the maximum is, and the handler is called only after
-  `shutdown`. With core 0 one thread starts.
+- An offer to the queue never fails. So no submit starts a thread above core, whatever the maximum is, and the handler is called only
+  after `shutdown`. With core 0 one thread starts.
 - If each of the n core threads runs a job that submits a job to the pool and gets it, all of them wait forever. A pool with n - 1
   such jobs at a time serves all rounds. Over a bounded queue that is full, a thread above core helps.
 """

@@ -37,8 +37,8 @@ import java.util.function.UnaryOperator;
  * on OpenJDK 17 only; if another JDK has other fields, the recorder logs the same warning.
  *
  * <p>A stage is submitted by the round, job or permit that built the chain, after the get of the stage before it. If the submitter
- * waits for a stage ({@code join}, {@code get}, {@code allOf(..).join()}) when the stage ends, the get is recorded then. Otherwise it
- * is recorded before the next stage of the chain, or at the end of the submitter if the stage is done by then: a get of it would not
+ * waits for a stage ({@code join}, {@code get}, {@code allOf(..).join()}, {@code anyOf(..).join()}) when the stage ends, the get is
+ * recorded then, or with {@code allOf} when the stages before it are done. Otherwise it is recorded before the next stage of the chain, or at the end of the submitter if the stage is done by then: a get of it would not
  * wait. So a recording does not show that a future is never joined, if its job happens to be done by the end of the round. A stage
  * that is submitted after the end of its round is recorded as a round of kind {@code KIND_after_end}, which no plan has.
  *
