@@ -11,25 +11,31 @@ use cert_text::Cert;
 use job_bodies::Plan;
 use std::alloc::Global;
 
-/// A certificate that an attempt found, and the sizes that it needs.
+/// A certificate that an attempt found, and the sizes that the certificate needs.
 #[derive(Drop)]
 pub(crate) struct Attempt {
     pub(crate) cert: Cert,
     /// The core and maximum that each pool needs.
     pub(crate) threads: Vec<PoolThreads>,
-    /// The sum of the increases of all cores, maximums and queues, compared with the sizes that the
-    /// plan declares.
+    /// The sum of the amounts by which the cores, maximums and queues exceed the declared ones. The
+    /// maximum of a pool with an unbounded queue does not count.
     pub(crate) cost: u64,
-    /// The largest number of pools from which a round had to choose the pool whose core it raises.
-    /// It is 0 if each round had a pool with a large enough core. The rounds are repeated when a
-    /// maximum grew, but only their first execution counts.
+    /// The largest number of pools among which a round chose the pool whose core it raised. It is 0
+    /// if no round raised a core. If the rounds were repeated, only their first execution counts.
     pub(crate) choices: usize,
 }
 
-/// Searches for a certificate, starting with these cores and maximums. The first round without a
-/// pool whose core is large enough skips the `passed_over` pools that need the smallest increases,
-/// and raises the core of the next pool. Returns an obstacle as the error if the attempt finds no
-/// certificate or no sizes for it.
+/// Searches for a certificate and for the least sizes with which it accepts the plan. The search
+/// starts with the cores and maximums in `threads`.
+///
+/// A round that finds no pool with a large enough core raises the core of the pool that needs the
+/// smallest increase. The first such round skips the `passed_over` pools that need the smallest
+/// increases, and raises the core of the next pool.
+///
+/// # Errors
+///
+/// Returns an obstacle if the search finds no certificate, or no sizes for the certificate. Also
+/// returns an error if memory runs out.
 pub(crate) fn attempt_from(
     alloc: Global,
     cache: &mut VectorCache,
@@ -49,8 +55,9 @@ pub(crate) fn attempt_from(
     }
 }
 
-/// Returns the sum of the increases of all cores, maximums and queues from the plan to `fit`. The
-/// maximum of a pool with an unbounded queue does not count, because it has no effect.
+/// Returns the sum of the amounts by which the cores, maximums and queues of `fit` exceed those of
+/// `plan`. The maximum of a pool with an unbounded queue does not count, because such a maximum has
+/// no effect.
 pub(crate) fn growth(plan: &Plan, fit: &Plan) -> u64 {
     let mut growth = 0u64;
     for (pool, fit) in plan.pools().iter().zip(fit.pools()) {

@@ -15,7 +15,8 @@ use job_bodies::{Action, Client, Plan, has_get_of};
 use std::alloc::{AllocError, Global};
 use weights::{Vector, submitted_class};
 
-/// Returns the number at index `place` of the class's row of weights, or 0 if there is none.
+/// Returns the weight at index `place` in the row of the class, or 0 if there is no such class or
+/// index.
 fn number_of(vector: &Vector, class: usize, place: usize) -> u64
     ensures { result ≡ slice_index (vector_spec.class_weights vector.now class) place }
 {
@@ -44,8 +45,9 @@ fn done(plan: &Plan, vector: &Vector, class: usize) -> u64
     number_of(vector, class, actions + 2)
 }
 
-/// Returns the total weight of the open jobs after the action at this position. `current_weight` is
-/// their total weight before the action.
+/// Returns the total weight of the open jobs after the action at this position. A job is *open*
+/// between its submit and its get. `current_weight` is the total weight of the open jobs before the
+/// action.
 fn open_weight_after(
     plan: &Plan,
     vector: &Vector,
@@ -72,7 +74,8 @@ fn open_weight_after(
     }
 }
 
-/// Returns the largest total weight that the open jobs have at any position of the body.
+/// Returns the largest total weight of the open jobs at any position of the body. A job is *open*
+/// between its submit and its get.
 fn most(plan: &Plan, vector: &Vector, body: &[Action]) -> u64
     requires valid { IsValidBody plan.now body.now }
     requires small { JobsAreSmall vector.now }
@@ -88,9 +91,11 @@ fn most(plan: &Plan, vector: &Vector, body: &[Action]) -> u64
     most
 }
 
-/// Returns the weight of the actor before the action. `behind` is its weight after the action. A
-/// submit adds the weight of the queued job. A get subtracts the weight of the done job, but the
-/// result is at least `least`.
+/// Returns the weight of the actor before the action, given its weight `behind` after the action:
+///
+/// - Before `work`, the weight is the same.
+/// - Before a submit, it is larger by the weight of the queued job.
+/// - Before a get, it is smaller by the weight of the done job, but at least `least`.
 fn before(
     plan: &Plan,
     vector: &Vector,
@@ -113,8 +118,9 @@ fn before(
     }
 }
 
-/// Returns the weight of the actor at each position of its body, computed backwards from its weight
-/// `last` at the end. At a get, the weight is at least `least`.
+/// Returns the weight of the actor at each position of its body. The weight at the end is `last`,
+/// and the other weights are computed backwards from the end. The weight before a get is at least
+/// `least`.
 fn weights(
     alloc: Global,
     plan: &Plan,
@@ -142,7 +148,8 @@ fn weights(
     Ok(weights)
 }
 
-/// Returns the weights of a job with this body when queued, at each position, and when done.
+/// Returns the weights of a job with this body: when it is queued, at each position of the body,
+/// and when it is done.
 pub(crate) fn class_row(
     alloc: Global,
     plan: &Plan,

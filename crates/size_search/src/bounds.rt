@@ -9,11 +9,15 @@ use least_vectors::Kind;
 use std::alloc::Global;
 use weights::Bound;
 
-/// Returns the vector that bounds the pool's queue. For an unbounded queue, returns `None` if the
-/// search finds no standing vector. For a bounded queue of a pool that may reject jobs, returns
-/// `None` if the search finds no vector for which the queue is large enough. For any other pool,
-/// returns the pool as the obstacle if the search finds no vector. `pool_threads` has the current
-/// core and maximum of this pool, and `maxes` has the current maximums of all pools.
+/// Returns the vector that bounds the pool's queue. `pool_threads` has the current core and maximum
+/// of this pool, and `maxes` has the current maximums of all pools.
+///
+/// - If the queue is unbounded, the result is a standing vector, or `None` if the search finds
+///   none.
+/// - If the queue is bounded and the pool may reject jobs, the result is a vector for which the
+///   queue is large enough. It is `None` if the search finds no such vector.
+/// - For any other pool, the result is the vector that requires the smallest increase of the queue.
+///   If the search finds no vector, returns the pool as the obstacle.
 pub(crate) fn bound_of(
     alloc: Global,
     cache: &mut VectorCache,
@@ -44,8 +48,8 @@ pub(crate) fn bound_of(
     }
 }
 
-/// Returns the standing vector of the pool with the smallest total that the search finds, or `None`
-/// if it finds none.
+/// Returns the standing vector with the smallest total that the search finds for the pool, or
+/// `None` if the search finds no standing vector.
 fn standing_bound(
     alloc: Global,
     cache: &mut VectorCache,
@@ -66,12 +70,14 @@ fn standing_bound(
 #[derive(Drop)]
 struct LeastBound {
     bound: Bound,
-    /// The amount by which the vector requires a larger queue than the pool has.
+    /// The number of places that the pool's queue lacks for this vector. It is 0 if the queue is
+    /// large enough.
     missing: u64,
 }
 
-/// Returns the standing vector of the pool, or its lifetime vector if that requires a smaller
-/// increase of the queue. Returns `None` if the search finds no such vector.
+/// Returns the standing vector or the lifetime vector of the pool, whichever requires the smaller
+/// increase of the queue. If both require the same increase, returns the standing vector. Returns
+/// `None` if the search finds no vector.
 fn least_bound(
     alloc: Global,
     cache: &mut VectorCache,
@@ -120,8 +126,8 @@ fn least_bound(
     )
 }
 
-/// Returns the queue capacity that the pool needs to accept this number of jobs in its lifetime.
-/// Each thread that is not prestarted starts with a job, which needs no place in the queue.
+/// Returns the queue capacity that the pool needs to accept `jobs` jobs in its lifetime. Each
+/// thread that is not prestarted starts with a job, and this job needs no place in the queue.
 fn lifetime_queue(pool: &Pool, pool_threads: PoolThreads, jobs: u64) -> u64 {
     let first_workers = if pool.prestart { pool_threads.core } else { 0 };
     jobs.saturating_add(first_workers)

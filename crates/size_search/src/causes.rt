@@ -14,7 +14,7 @@ use job_bodies::{Action, Plan, has_get_of};
 use std::alloc::{AllocError, Global};
 use weights::submitted_class;
 
-/// Returns a cause: a reason why no certificate accepts the plan, whatever its sizes. Returns
+/// Returns a cause, which is a reason why no certificate accepts the plan with any sizes. Returns
 /// `None` if the plan has no cause.
 ///
 /// # Errors
@@ -38,9 +38,9 @@ pub fn cause_of(alloc: Global, plan: &Plan) -> Result<Option<Cause>, AllocError>
     Ok(None)
 }
 
-/// Returns whether a repeating client causes a submit that is never got, to a pool that needs no
-/// bound. This is not a cause, but then no sizes are enough for the plan's steady certificate.
-/// [`cause_of`] must have found no cause.
+/// Returns whether repeating clients, or jobs that result from their submits, never get a job that
+/// they submit to a pool that needs no bound. Such a submit is not a cause, but then no sizes are
+/// enough for the plan's steady certificate. [`cause_of`] must have found no cause for the plan.
 pub(crate) fn loses_without_bound(alloc: Global, plan: &Plan) -> Result<bool, AllocError>
     requires { IsWithoutCause plan.now }
     ensures loses { IfOk result (λ loses. loses ≡ true → LosesWithoutBound plan.now) }
@@ -57,7 +57,7 @@ pub(crate) fn loses_without_bound(alloc: Global, plan: &Plan) -> Result<bool, Al
 }
 
 /// Returns, as a cause, the first class that submits itself, directly or through other classes.
-/// Returns `None` if there is none.
+/// Returns `None` if there is no such class.
 fn circle(alloc: Global, plan: &Plan) -> Result<Option<Cause>, AllocError>
     ensures cause { IfOk result (λ found. IfSome found (IsCause plan.now)) }
     ensures none { IfOk result (λ found. IfNone found (NoCircle plan.now)) }
@@ -84,10 +84,12 @@ fn submits_itself(alloc: Global, plan: &Plan, number: usize) -> Result<bool, All
     Ok(submitted_classes.has(number))
 }
 
-/// Returns the first submit without a get in the body of a client kind that repeats, as the number
-/// of the client kind and the position of the submit. If `without_bound` is true, considers only
-/// submits to pools that need no bound, and otherwise only submits to the other pools. Returns
-/// `None` if there is none.
+/// Returns the first submit without a get in the bodies of the client kinds that repeat. The result
+/// is the number of the client kind and the position of the submit. It is `None` if there is no
+/// such submit.
+///
+/// If `without_bound` is `true`, considers only submits to pools that need no bound. Otherwise
+/// considers only submits to pools that need a bound.
 fn lost_by_clients(plan: &Plan, without_bound: bool) -> Option<(usize, usize)>
     ensures lost { IfSome result (λ found. LostByClients plan.now without_bound found.0 found.1) }
     ensures none { IfNone result ((c i : ℕ) → ¬ LostByClients plan.now without_bound c i) }
@@ -103,11 +105,13 @@ fn lost_by_clients(plan: &Plan, without_bound: bool) -> Option<(usize, usize)>
     None
 }
 
-/// Returns the first submit without a get in the body of a class in `submitted_classes`, as the
-/// number of the class and the position of the submit. `submitted_classes` must have exactly the
-/// classes that repeating clients submit, directly or through other jobs. If `without_bound` is
-/// true, considers only submits to pools that need no bound, and otherwise only submits to the
-/// other pools. Returns `None` if there is none.
+/// Returns the first submit without a get in the bodies of the classes in `submitted_classes`. The
+/// result is the number of the class and the position of the submit. It is `None` if there is no
+/// such submit. `submitted_classes` must have exactly the classes that repeating clients submit,
+/// directly or through other jobs.
+///
+/// If `without_bound` is `true`, considers only submits to pools that need no bound. Otherwise
+/// considers only submits to pools that need a bound.
 fn lost_by_jobs(
     plan: &Plan,
     submitted_classes: &SubmittedClasses,
@@ -128,9 +132,11 @@ fn lost_by_jobs(
     None
 }
 
-/// Returns the position of the first submit of the body that has no get. If `without_bound` is
-/// true, considers only submits to pools that need no bound, and otherwise only submits to the
-/// other pools. Returns `None` if there is none.
+/// Returns the position of the first submit whose job the body never gets. Returns `None` if there
+/// is no such submit.
+///
+/// If `without_bound` is `true`, considers only submits to pools that need no bound. Otherwise
+/// considers only submits to pools that need a bound.
 fn submit_without_get(plan: &Plan, body: &[Action], without_bound: bool) -> Option<usize>
     ensures found { IfSome result
         (λ i. IsNeverGot body.now i × (goes_without_bound plan.now body.now i ≡ without_bound)) }
@@ -147,7 +153,7 @@ fn submit_without_get(plan: &Plan, body: &[Action], without_bound: bool) -> Opti
     None
 }
 
-/// Returns whether the action at this position is a submit that has no get.
+/// Returns whether the action at this position is a submit whose job the body never gets.
 fn is_without_get(body: &[Action], position: usize) -> bool
     requires { position < length body.now }
     ensures { (result ≡ true) ↔ IsNeverGot body.now position }
@@ -155,7 +161,7 @@ fn is_without_get(body: &[Action], position: usize) -> bool
     matches!(body[position], Action::Submit(_)) && !has_get_of(body, position)
 }
 
-/// Returns whether the pool to which the submit at this position goes needs no bound.
+/// Returns whether the submit at this position goes to a pool that needs no bound.
 fn goes_without_bound(plan: &Plan, body: &[Action], position: usize) -> bool
     ensures { result ≡ goes_without_bound plan.now body.now position }
 {

@@ -38,7 +38,7 @@ fn copied(alloc: Global, vector: &Vector) -> Result<Vector, AllocError>
     })
 }
 
-/// Returns the vector of the steady certificate, or `None` if one of its weights is above
+/// Returns the vector of the steady certificate, or `None` if the vector has a weight above
 /// [`MAX_WEIGHT`](job_bodies::MAX_WEIGHT).
 fn steady_vector(alloc: Global, plan: &Plan, levels: &[u64]) -> Result<Option<Vector>, AllocError>
     requires free { NoCircle plan.now }
@@ -65,7 +65,7 @@ fn steady_vector(alloc: Global, plan: &Plan, levels: &[u64]) -> Result<Option<Ve
     }))
 }
 
-/// Returns the vector as the bound of a pool, or `None` if the pool needs no bound.
+/// Returns the vector as the bound of a pool's queue, or `None` if the pool needs no bound.
 fn bound_of(
     alloc: Global,
     vector: &Vector,
@@ -80,8 +80,8 @@ fn bound_of(
     Ok(Some(Bound::Standing(vector)))
 }
 
-/// Returns the part of the steady certificate for one pool: the vector is both its bound and its
-/// blocked vector.
+/// Returns the part of the steady certificate for one pool. The vector is the blocked vector of the
+/// pool and, if the pool needs a bound, also the bound of its queue.
 fn pool_of(alloc: Global, vector: &Vector, pool: &Pool) -> Result<PoolCert, AllocError>
     ensures { IfOk result (λ part. part ≡ spec.pool_of vector.now pool.now) }
 {
@@ -101,12 +101,17 @@ fn pools_of(alloc: Global, plan: &Plan, vector: &Vector) -> Result<Vec<PoolCert>
     Ok(pools)
 }
 
-/// Returns the steady certificate of the plan, or `None` if a weight of its vector is above
+/// Returns the steady certificate of the plan, or `None` if it has a weight above
 /// [`MAX_WEIGHT`](job_bodies::MAX_WEIGHT). No class of the plan may submit itself, directly or
 /// through other classes.
 ///
-/// With large enough sizes, this certificate accepts the plan if no repeating client causes a
-/// submit that is never got. The queues of pools that may reject jobs need not be large.
+/// The steady certificate has one vector, which is the blocked vector of every pool and the bound
+/// of every pool that needs a bound. A pool needs no bound if it may reject jobs or its queue is
+/// unbounded.
+///
+/// Assume that each job that repeating clients submit, directly or through other jobs, is also got.
+/// Then the certificate accepts the plan with large enough sizes. A pool that needs no bound can
+/// keep its queue.
 ///
 /// # Errors
 ///

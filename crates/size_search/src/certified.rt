@@ -11,10 +11,15 @@ use std::alloc::{AllocError, Global};
 use weights::{Ranks, Vector};
 
 /// Returns the certificate that results from a [`RankAssignment`] in which every pool has a rank.
-/// The sizes that this certificate needs can be smaller than the sizes of the assignment, so the
-/// caller computes them anew from the plan's sizes. Returns an obstacle as the error if a pool has
-/// no rank, if its blocked vector is not found, or if the bound of a pool that needs one is not
-/// found.
+/// The certificate can need smaller sizes than those of the assignment. So the caller computes the
+/// sizes anew, from the plan's sizes.
+///
+/// Returns an obstacle as the error in these cases:
+///
+/// - A pool has no rank.
+/// - The blocked vector of a pool is not found.
+/// - A pool needs a bound, and no bound is found for it.
+/// - The search has already computed as many vectors as it may.
 pub(crate) fn cert_of(
     alloc: Global,
     cache: &mut VectorCache,
@@ -34,9 +39,12 @@ pub(crate) fn cert_of(
     })
 }
 
-/// Returns the bound and the blocked vector of each pool. A pool that may reject jobs has a bound
-/// only if its queue is large enough for one. A pool with an unbounded queue has a bound only if
-/// the search finds a standing vector.
+/// Returns the bound and the blocked vector of each pool. The bound is the vector that bounds the
+/// pool's queue. It is `None` in two cases:
+///
+/// - The queue is unbounded, and the search finds no standing vector.
+/// - The queue is bounded, the pool may reject jobs, and the search finds no vector for which the
+///   queue is large enough.
 fn pool_certs(
     alloc: Global,
     cache: &mut VectorCache,
@@ -60,10 +68,12 @@ fn pool_certs(
     Ok(pools)
 }
 
-/// Returns the blocked vector that was found for a pool in the round that gave it this rank. The
-/// vector is still valid, because the pool's counted gets are the same as in that round: each pool
-/// that had no rank in that round now has at least this rank. Returns the pool as the obstacle if
-/// there is no vector.
+/// Returns the blocked vector that was found for a pool in the round that gave the pool this rank.
+/// Returns the pool as the obstacle if there is no vector.
+///
+/// The ranks of the later rounds do not invalidate the vector. Each pool without a rank in that
+/// round later got at least this rank. So the pool's jobs have the same counted gets as in that
+/// round.
 fn blocked_of(
     alloc: Global,
     cache: &VectorCache,

@@ -6,18 +6,26 @@
 ghost use Rattle.size_search.specs.NoSizesHelp.{NoSizesHelp};
 ghost use Rattle.size_search.specs.NoSizesHelp.{SizesExist};
 
-/// States that no certificate accepts a plan with a cause, whatever its sizes. A cause is a class
-/// that submits itself, directly or through other classes, or a submit that is made forever and
-/// never got, to a pool that needs a bound.
+/// States that no certificate accepts a plan with a cause, even if the plan's sizes are changed. A
+/// plan has a cause in these two cases:
+///
+/// - A class submits itself, directly or through other classes.
+/// - Repeating clients, or jobs that result from their submits, never get a job that they submit to
+///   a pool that needs a bound.
 pub fn no_sizes_help()
     ensures { NoSizesHelp }
 {}
 
-/// States when a plan has sizes with which some certificate accepts it. Assume that each weight of
-/// its steady certificate is at most `MAX_WEIGHT`, and that the total of its vector is below
-/// `MAX_SIZE`. Assume also that no repeating client causes a submit that is never got, to a pool
-/// that needs no bound. Then such sizes exist exactly when no class submits itself, directly or
-/// through other classes, and no repeating client causes a submit that is never got.
+/// States when a plan has sizes with which some certificate accepts it.
+///
+/// Assume that each weight of the plan's steady certificate is at most `MAX_WEIGHT`, and that the
+/// total of its vector is below `MAX_SIZE`. Assume also that each job that repeating clients
+/// submit, directly or through other jobs, is got if its pool needs no bound. Then such sizes exist
+/// exactly when two conditions hold:
+///
+/// - No class submits itself, directly or through other classes.
+/// - Each job that repeating clients submit, directly or through other jobs, is got if its pool
+///   needs a bound.
 pub fn sizes_exist()
     ensures { SizesExist }
 {}

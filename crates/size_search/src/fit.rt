@@ -20,8 +20,8 @@ use soundness::Note;
 use std::alloc::{AllocError, Global};
 use weights::{Bound, Place, Vector};
 
-/// Returns the core that a pool with this blocked vector needs: 1 more than the vector's total,
-/// which bounds the number of the pool's jobs that wait for other jobs.
+/// Returns the core that a pool with this blocked vector needs: 1 more than the total of the
+/// vector. The total bounds the number of the pool's jobs that wait for other jobs at one time.
 pub(crate) fn core_needed(plan: &Plan, blocked: &Vector) -> u64
     requires well_formed { IsWellFormed plan.now }
     requires fits { IsTrue (vector_fits plan.now blocked.now) }
@@ -30,9 +30,12 @@ pub(crate) fn core_needed(plan: &Plan, blocked: &Vector) -> u64
     blocked.total(plan) + 1
 }
 
-/// Returns the queue capacity that a pool with this core and maximum needs for this bound. If the
-/// bound is a lifetime vector, each thread that is not prestarted starts with a job, which needs no
-/// place in the queue.
+/// Returns the queue capacity that this bound requires of a pool with the core and maximum of
+/// `pool`.
+///
+/// For a standing vector, the capacity is the total of the vector. For a lifetime vector, it is the
+/// total minus the number of threads that are not prestarted. Each of these threads starts with a
+/// job, and this job needs no place in the queue.
 fn queue_of_bound(plan: &Plan, bound: &Bound, pool: &Pool) -> u64
     requires well_formed { IsWellFormed plan.now }
     requires fits { IsTrue (vector_fits plan.now (bound_vector bound.now)) }
@@ -48,8 +51,8 @@ fn queue_of_bound(plan: &Plan, bound: &Bound, pool: &Pool) -> u64
     }
 }
 
-/// Returns the queue capacity that pool `number`, with the core and maximum of `pool`, needs for
-/// this bound, or 0 if there is no bound or the queue is unbounded.
+/// Returns the queue capacity that pool `number` needs for this bound if it has the core and
+/// maximum of `pool`. Returns 0 if there is no bound or the queue is unbounded.
 fn queue_needed(plan: &Plan, bound: &Option<Bound>, number: usize, pool: &Pool) -> u64
     requires well_formed { IsWellFormed plan.now }
     requires fits { IsTrue (bound_fits plan.now number bound.now) }
@@ -62,8 +65,8 @@ fn queue_needed(plan: &Plan, bound: &Option<Bound>, number: usize, pool: &Pool) 
     }
 }
 
-/// Returns the queue capacity of the pool, raised to `needed`. A pool that needs no bound keeps its
-/// capacity.
+/// Returns the capacity of the pool's queue, raised to `needed` if it is smaller. If the pool needs
+/// no bound, returns the capacity unchanged.
 fn raised_queue(pool: &Pool, needed: u64) -> u64
     ensures { result
         ≡ (if needs_no_bound pool.now then pool.now.queue else max pool.now.queue needed) }
@@ -75,9 +78,9 @@ fn raised_queue(pool: &Pool, needed: u64) -> u64
     }
 }
 
-/// Returns the pool with this number, with its core and then its queue raised to what the
-/// certificate needs. A prestarted pool with a larger core can need a larger queue. The queue of a
-/// pool that needs no bound stays unchanged.
+/// Returns the pool with this number, with its core and its queue raised to what the certificate
+/// needs. The core is raised first, because a prestarted pool with a larger core can need a larger
+/// queue. If the pool needs no bound, its queue stays unchanged.
 fn raised_pool(alloc: Global, plan: &Plan, cert: &Cert, number: usize) -> Result<Pool, AllocError>
     requires fits { IsTrue (cert_fits plan.now cert.now) }
     requires number { number < length plan.now.pools }
@@ -105,7 +108,7 @@ fn raised_pools(alloc: Global, plan: &Plan, cert: &Cert) -> Result<Vec<Pool>, Al
     Ok(pools)
 }
 
-/// Returns whether a condition at this place limits the total of a vector. These limits depend on
+/// Returns whether a condition at this place limits the total of a vector. Such a limit depends on
 /// the pool's sizes.
 fn is_total(place: Place) -> bool
     ensures { result ≡ spec.is_total place }
@@ -113,8 +116,8 @@ fn is_total(place: Place) -> bool
     matches!(place, Place::Total)
 }
 
-/// Returns the first of these failing conditions that does not limit a total, or `None` if all of
-/// them do.
+/// Returns the first of these failing conditions that does not limit a total, or `None` if each of
+/// them limits a total.
 fn first_elsewhere(notes: &[Note]) -> Option<Note>
     ensures { result ≡ find (λ note. not (spec.is_total note.place)) notes.now }
 {
@@ -126,8 +129,8 @@ fn first_elsewhere(notes: &[Note]) -> Option<Note>
     None
 }
 
-/// Returns the first condition of the certificate that fails and that does not depend on cores and
-/// queues, or `None` if there is none.
+/// Returns the first failing condition of the certificate that does not depend on cores and queues,
+/// or `None` if there is no such condition.
 fn failing_elsewhere(alloc: Global, plan: &Plan, cert: &Cert) -> Result<Option<Note>, AllocError>
     requires { IsTrue (cert_fits plan.now cert.now) }
     ensures { IfOk result (λ found. found ≡ failing_elsewhere plan.now cert.now) }
@@ -136,9 +139,9 @@ fn failing_elsewhere(alloc: Global, plan: &Plan, cert: &Cert) -> Result<Option<N
     Ok(first_elsewhere(&failing))
 }
 
-/// Returns whether the queue of the raised pool with this number is smaller than the certificate
-/// needs. This is possible only if the pool may reject jobs, because the queue of such a pool stays
-/// unchanged.
+/// Returns whether the queue of pool `number` is smaller than the certificate needs, after the
+/// sizes were raised. This is possible only for a pool that may reject jobs, because the queue of
+/// such a pool is not raised.
 fn is_tight(plan: &Plan, cert: &Cert, raised: &[Pool], number: usize) -> bool
     requires well_formed { IsWellFormed plan.now }
     requires fits { IsTrue (cert_fits plan.now cert.now) }
@@ -152,8 +155,8 @@ fn is_tight(plan: &Plan, cert: &Cert, raised: &[Pool], number: usize) -> bool
     pool.queue < queue_needed(plan, &needs.bound, number, pool)
 }
 
-/// Returns, as the reason, the first raised pool whose queue is smaller than the certificate needs,
-/// or `None` if there is none.
+/// Returns [`Unfit::Queue`] with the number of the first raised pool whose queue is smaller than
+/// the certificate needs. Returns `None` if there is no such pool.
 fn tight_queue(plan: &Plan, cert: &Cert, raised: &[Pool]) -> Option<Unfit>
     requires well_formed { IsWellFormed plan.now }
     requires fits { IsTrue (cert_fits plan.now cert.now) }
@@ -168,8 +171,8 @@ fn tight_queue(plan: &Plan, cert: &Cert, raised: &[Pool]) -> Option<Unfit>
     None
 }
 
-/// Returns the reason why the sizes that the certificate needs are not possible, or `None` if they
-/// are. `raised` has the plan's pools with these sizes.
+/// Returns the reason why the pools cannot have the sizes that the certificate needs, or `None` if
+/// they can. `raised` has the plan's pools with these sizes.
 fn unfit_sizes(plan: &Plan, cert: &Cert, raised: &[Pool]) -> Option<Unfit>
     requires well_formed { IsWellFormed plan.now }
     requires fits { IsTrue (cert_fits plan.now cert.now) }
@@ -182,8 +185,9 @@ fn unfit_sizes(plan: &Plan, cert: &Cert, raised: &[Pool]) -> Option<Unfit>
     }
 }
 
-/// Returns the reason why no cores and queues make the certificate accept the plan, or `None` if
-/// there is none. `raised` has the plan's pools with the sizes that the certificate needs.
+/// Returns the reason why no choice of cores and queues makes the certificate accept the plan, or
+/// `None` if some choice does. `raised` has the plan's pools with the sizes that the certificate
+/// needs.
 fn unfit(
     alloc: Global,
     plan: &Plan,
@@ -201,15 +205,16 @@ fn unfit(
     }
 }
 
-/// Returns the plan with each core and each queue raised to what the certificate needs. Among the
-/// cores and queues that are no smaller than the plan's, these are the least with which the
-/// certificate accepts the plan. A plan that is already accepted is returned unchanged. Larger
-/// maximums would not allow smaller cores. If there are no such cores and queues, returns the plan
-/// and the reason.
+/// Raises the cores and queues of the plan to the least with which the certificate accepts the
+/// plan, and returns the resulting plan. No core or queue becomes smaller. If the certificate
+/// already accepts the plan, the plan stays unchanged. Larger maximums would not allow smaller
+/// cores.
 ///
-/// The queue of a pool that may reject jobs or has an unbounded queue stays unchanged. If the
-/// certificate bounds the queue of a pool that may reject jobs, this queue must already be as large
-/// as the bound requires, unless the queue is unbounded.
+/// If no such cores and queues exist, the inner result is an error: the given plan and the reason.
+///
+/// The queue of a pool stays unchanged if the pool may reject jobs or the queue is unbounded. A
+/// bounded queue for which the certificate has a bound must then already be as large as the bound
+/// requires.
 ///
 /// # Errors
 ///
@@ -267,10 +272,11 @@ fn smallest_pools(alloc: Global, plan: &Plan) -> Result<Vec<Pool>, AllocError>
     Ok(small)
 }
 
-/// Returns the plan with each core and each queue set to 1, except the queues of pools that may
-/// reject jobs and the unbounded queues, which stay unchanged. [`fitted`] raises the sizes of that
-/// plan to the least cores and queues with which the certificate accepts the plan. These sizes can
-/// be smaller than the declared sizes.
+/// Returns the plan with each core and each queue set to 1. The queue of a pool stays unchanged if
+/// the pool may reject jobs or the queue is unbounded.
+///
+/// [`fitted`] raises the sizes of the returned plan to the least cores and queues with which a
+/// certificate accepts the plan. These can be smaller than the declared cores and queues.
 ///
 /// # Errors
 ///

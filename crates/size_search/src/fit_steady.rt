@@ -19,9 +19,10 @@ use cert_text::Cert;
 use job_bodies::Plan;
 use std::alloc::{AllocError, Global};
 
-/// Returns the plan with the least sizes that its steady certificate needs, or
-/// [`NoSizes::TooLarge`] if these sizes are too large or no sizes are enough. `TooLarge` names the
-/// pool of `obstacle`, at which the attempt to find sizes by rounds failed.
+/// Returns the plan with the least sizes that its steady certificate needs. Returns
+/// [`NoSizes::TooLarge`] if the steady certificate is too large or no sizes are enough for it.
+/// `TooLarge` then names the pool of `obstacle`, which is where the attempt to find sizes by rounds
+/// failed.
 pub(crate) fn fit_steady(
     alloc: Global,
     plan: &Plan,
@@ -38,8 +39,9 @@ pub(crate) fn fit_steady(
     fit_steady_where_got(alloc, plan, obstacle)
 }
 
-/// Returns the plan with the least sizes that its steady certificate needs, or
-/// [`NoSizes::TooLarge`] with the pool of `obstacle` if they are too large.
+/// Returns the plan with the least sizes that its steady certificate needs. Returns
+/// [`NoSizes::TooLarge`] with the pool of `obstacle` if the steady certificate is too large. Each
+/// job that repeating clients submit, directly or through other jobs, must be got.
 fn fit_steady_where_got(
     alloc: Global,
     plan: &Plan,
@@ -55,8 +57,8 @@ fn fit_steady_where_got(
     }
 }
 
-/// Returns the plan with the least sizes for `cert`, its steady certificate, or
-/// [`NoSizes::TooLarge`] with the pool of `obstacle` if they are too large.
+/// Returns the plan with the least sizes for its steady certificate, which is `cert`. Returns
+/// [`NoSizes::TooLarge`] with the pool of `obstacle` if these sizes are too large.
 fn fit_steady_cert(
     alloc: Global,
     plan: &Plan,
@@ -83,8 +85,8 @@ fn too_large(plan: &Plan, obstacle: Obstacle) -> SizesFound
     SizesFound::NotFound(NoSizes::TooLarge(obstacle.pool(plan)))
 }
 
-/// Returns the plan with the least sizes for its steady certificate, or `None` if the certificate's
-/// total is at least `MAX_SIZE`.
+/// Returns the plan with the least sizes for its steady certificate, or `None` if the total of the
+/// certificate's vector is at least `MAX_SIZE`.
 fn least_steady_sizes(alloc: Global, plan: &Plan, cert: &Cert) -> Result<Option<Plan>, AllocError>
     requires free { IsAllGot plan.now }
     requires well_formed { IsWellFormed plan.now }
@@ -101,9 +103,8 @@ fn least_steady_sizes(alloc: Global, plan: &Plan, cert: &Cert) -> Result<Option<
     }
 }
 
-/// Returns the plan with the least sizes for its steady certificate, given the plan `wide`, whose
-/// maximums were raised to what that certificate needs. Returns `None` if these sizes are too
-/// large.
+/// Returns the plan with the least sizes for its steady certificate, or `None` if these sizes are
+/// too large. `wide` is the plan with each maximum raised to what the certificate needs.
 fn least_wide(
     alloc: Global,
     plan: &Plan,

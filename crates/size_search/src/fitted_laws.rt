@@ -5,11 +5,17 @@ ghost use Rattle.size_search.specs.Fitted.{FittedSizesAreLeast, AcceptedPlansFit
 ghost use Rattle.size_search.specs.Widened.{WidenedMaxesAreLeast};
 ghost use Rattle.size_search.specs.Unfit.{ReportedCoresNeedLargerMaxes};
 
-/// States that the fitted plan is larger, that the certificate accepts it, and that no larger plan
-/// that the certificate accepts has a smaller core or queue. If there is no fitted plan, the
-/// certificate accepts no larger plan. A plan is *larger* here if it differs from the given one
-/// only in cores and queues, none of them is smaller, and each pool that may reject jobs or has an
-/// unbounded queue has the same queue.
+/// States that fitting gives the least cores and queues with which a certificate accepts a plan.
+///
+/// Call a plan *larger* than the given plan if these conditions hold:
+///
+/// - The two plans differ only in cores and queues.
+/// - No core and no queue is smaller.
+/// - Each pool that may reject jobs or has an unbounded queue has the same queue.
+///
+/// Then the fitted plan is larger, and the certificate accepts it. No larger plan that the
+/// certificate accepts has a smaller core or queue than the fitted plan. If there is no fitted
+/// plan, the certificate accepts no larger plan.
 pub fn fitted_sizes_are_least()
     ensures { FittedSizesAreLeast }
 {}
@@ -19,32 +25,42 @@ pub fn accepted_plans_fit()
     ensures { AcceptedPlansFit }
 {}
 
-/// States that a certificate that accepts a plan also accepts it with other cores and queues. This
-/// holds if no core becomes smaller, and if the limit on the total of a bound does not become
-/// smaller either. For an unbounded queue, that limit does not matter.
+/// States when a certificate that accepts a plan also accepts it with other cores and queues.
+///
+/// Let two plans differ only in cores and queues, and let the certificate accept the first plan.
+/// Assume that no core of the second plan is smaller. Assume also that no limit on the total of a
+/// bound is smaller, except for unbounded queues. Then the certificate accepts the second plan.
 pub fn larger_sizes_are_accepted()
     ensures { LargerSizesAreAccepted }
 {}
 
-/// States that fitting a plan whose cores and queues are 1 gives the least cores and queues with
-/// which the certificate accepts the plan. The queue of a pool that may reject jobs or has an
-/// unbounded queue stays unchanged.
+/// States that fitting the smallest plan gives the least cores and queues with which the
+/// certificate accepts a plan.
+///
+/// In the smallest plan, each core and each queue is 1. But a pool that may reject jobs or has an
+/// unbounded queue keeps its queue, in the smallest plan and in the fitted plan. If there is no
+/// fitted plan, no choice of cores, and of queues of the other pools, makes the certificate accept
+/// the plan.
 pub fn smallest_fit_is_least()
     ensures { SmallestFitIsLeast }
 {}
 
-/// States that no maximum of the widened plan is larger than necessary. Consider any sizes with
-/// which the certificate accepts the plan, and whose maximums are no smaller than the plan's. Each
-/// of their cores is at least the core that the certificate needs with the plan's own maximums.
-/// Each of their maximums is at least the widened plan's maximum, which is the plan's maximum
-/// raised to that core if the core is larger.
+/// States that no maximum of the widened plan is larger than necessary. In the widened plan, each
+/// maximum is raised to the core that the certificate needs with the plan's own maximums, if this
+/// core is larger.
+///
+/// Let the certificate accept the plan with other sizes, and let none of their maximums be smaller
+/// than the plan's. Then each of these maximums is at least the widened plan's. Each core is at
+/// least the core that the certificate needs with the plan's own maximums.
 pub fn widened_maxes_are_least()
     ensures { WidenedMaxesAreLeast }
 {}
 
-/// States that, if a plan cannot be fitted because of the core of a pool, this pool needs a larger
-/// maximum. If the certificate accepts the plan with other sizes, and none of their maximums is
-/// smaller than the plan's, the maximum of this pool is larger than the plan's.
+/// States that a pool needs a larger maximum if its core is the reason why the plan cannot be
+/// fitted.
+///
+/// Let the certificate accept the plan with other sizes, and let none of their maximums be smaller
+/// than the plan's. Then the maximum of this pool is larger than in the plan.
 pub fn reported_cores_need_larger_maxes()
     ensures { ReportedCoresNeedLargerMaxes }
 {}

@@ -7,10 +7,11 @@ use cert_text::Cert;
 use job_bodies::Plan;
 use std::alloc::AllocError;
 
-/// The result of a search for sizes: a plan with new sizes, or the reason why no sizes were found.
+/// The result of a search for sizes: the plan with sizes with which a certificate accepts it, or
+/// the reason why the search found none.
 #[derive(Drop)]
 pub enum SizesFound {
-    /// A plan with new sizes, and a certificate that accepts it.
+    /// The plan with the sizes that were found, and a certificate that accepts it.
     Found { plan: Plan, cert: Cert },
     /// No sizes were found, for this reason.
     NotFound(NoSizes),
@@ -19,13 +20,19 @@ pub enum SizesFound {
 /// The reason why no sizes were found.
 #[derive(Clone, Copy, PartialEq, Eq)]
 pub enum NoSizes {
-    /// No certificate accepts the plan with any sizes, for this reason. The plan can still be safe.
+    /// A cause: a reason why no certificate accepts the plan with any sizes. The plan can still be
+    /// safe.
     Cause(Cause),
-    /// The plan's steady certificate is too large: it needs sizes above 1,000,000, or it has a
-    /// weight above [`MAX_WEIGHT`](job_bodies::MAX_WEIGHT). The reason can also be that no size is
-    /// enough for it, because a submit that is made forever and never got goes to a pool that may
-    /// reject jobs or has an unbounded queue. The first attempt failed at the pool with this
-    /// number. The number is 0 if that attempt failed at no particular pool. Other sizes can exist.
+    /// The plan's steady certificate is too large to be used. Other sizes can exist. The
+    /// certificate is too large in these cases:
+    ///
+    /// - It needs a size above 1,000,000.
+    /// - It has a weight above [`MAX_WEIGHT`](job_bodies::MAX_WEIGHT).
+    /// - Repeating clients cause a submit that is never got, and that goes to a pool that may
+    ///   reject jobs or has an unbounded queue. No size is enough for the certificate then.
+    ///
+    /// The number is that of the pool at which the first attempt failed. It is 0 if that attempt
+    /// failed at no particular pool.
     TooLarge(usize),
 }
 
@@ -39,9 +46,9 @@ pub(crate) enum Obstacle {
 }
 
 impl Obstacle {
-    /// Returns the number of the pool to report. This is the pool of the obstacle, or 0 if the
-    /// obstacle names no pool of the plan. The search is not trusted, so an obstacle can name a
-    /// pool that does not exist.
+    /// Returns the number of the pool to report: the pool of the obstacle, or 0 if the obstacle
+    /// names no pool of the plan. The search is not trusted, so an obstacle can name a pool that
+    /// does not exist.
     pub(crate) fn pool(self, plan: &Plan) -> usize
         requires { 0 < length plan.now.pools }
         ensures { result < length plan.now.pools }

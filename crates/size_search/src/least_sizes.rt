@@ -10,8 +10,8 @@ use cert_text::Cert;
 use job_bodies::Plan;
 use std::alloc::{AllocError, Global};
 
-/// Returns the plan with its sizes raised to the least that the certificate needs. Returns an
-/// obstacle if no sizes are enough.
+/// Returns the plan with each size raised to the least that the certificate needs, or an obstacle
+/// if no such sizes are found.
 pub(crate) fn least_sizes(
     alloc: Global,
     plan: &Plan,
@@ -29,9 +29,13 @@ pub(crate) fn least_sizes(
     })
 }
 
-/// Returns the plan with its maximums raised until none is below the core that its pool needs.
-/// Raising one maximum can make another raise necessary, so the raises are repeated, at most once
-/// for each pool. If that is not enough, some maximum was raised twice, and no sizes are enough.
+/// Returns the plan with its maximums raised until no maximum is below the core that the pool
+/// needs. Returns the reason if the certificate does not fit the plan, or needs a core above
+/// `MAX_SIZE`.
+///
+/// Raising one maximum can make another raise necessary. The raises are therefore repeated, at most
+/// once for each pool. If that is not enough, some maximum was raised twice, and no sizes are
+/// enough.
 fn widest(alloc: Global, plan: &Plan, cert: &Cert) -> Result<Result<Plan, Unfit>, AllocError>
     ensures { IfOk result (λ answer. IfOk answer (IsLeastWide plan.now cert.now)) }
 {
@@ -69,8 +73,9 @@ fn obstacle_of_wide(unfit: Unfit) -> Obstacle {
     }
 }
 
-/// Returns the obstacle for the reason why the plan with raised maximums could not be fitted. A
-/// core above its pool's maximum becomes an unknown obstacle, since it need not exceed `MAX_SIZE`.
+/// Returns the obstacle for the reason why the plan with raised maximums could not be fitted. If
+/// the reason is the core of a pool, returns [`Obstacle::Unknown`], because this core need not be
+/// above `MAX_SIZE`.
 fn obstacle_of_fit(unfit: Unfit) -> Obstacle {
     match unfit {
         Unfit::Queue(pool) => Obstacle::Pool(pool),

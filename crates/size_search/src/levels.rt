@@ -20,8 +20,8 @@ pub(crate) fn number_at(numbers: &[u64], place: usize) -> u64
     }
 }
 
-/// Returns the least level that is above the levels of the classes that the body submits, or 0 if
-/// it submits none.
+/// Returns the least level that is above the levels of all classes that the body submits, or 0 if
+/// the body submits no class.
 fn level_above(levels: &[u64], body: &[Action]) -> u64
     requires { (k : ℕ) → slice_index levels.now k ≤ MAX_CLASSES }
     ensures { result ≡ spec.level_above levels.now body.now }
@@ -35,8 +35,8 @@ fn level_above(levels: &[u64], body: &[Action]) -> u64
     highest
 }
 
-/// Returns, for each class, the least level that is above the current levels of the classes that it
-/// submits. `levels` has the current levels.
+/// Returns, for each class, the least level that is above the current levels of all classes that
+/// the class submits. `levels` has the current levels.
 fn next_levels(alloc: Global, plan: &Plan, levels: &[u64]) -> Result<Vec<u64>, AllocError>
     requires { (k : ℕ) → slice_index levels.now k ≤ MAX_CLASSES }
     ensures { IfOk result (λ next.
@@ -51,9 +51,9 @@ fn next_levels(alloc: Global, plan: &Plan, levels: &[u64]) -> Result<Vec<u64>, A
     Ok(next)
 }
 
-/// Returns the level of each class in the steady certificate: 0 if the class submits none, and
-/// otherwise 1 more than the greatest level of the classes that it submits. The result is
-/// meaningful only if no class submits itself, directly or through other classes.
+/// Returns the level of each class in the steady certificate. The level is 0 if the class submits
+/// no class, and otherwise 1 more than the greatest level of the classes that it submits. The
+/// levels have this meaning only if no class submits itself, directly or through other classes.
 pub(crate) fn steady_levels(alloc: Global, plan: &Plan) -> Result<Vec<u64>, AllocError>
     ensures levels { IfOk result (λ levels. levels.items ≡ spec.steady_levels plan.now) }
     ensures well_formed { IsWellFormed plan.now }

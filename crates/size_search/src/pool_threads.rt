@@ -8,7 +8,7 @@ use std::alloc::{AllocError, Global};
 pub(crate) struct PoolThreads {
     pub(crate) core: u64,
     pub(crate) max: u64,
-    /// Whether the queue of the pool is unbounded, so that its maximum has no effect.
+    /// Whether the queue of the pool is unbounded. The maximum of such a pool has no effect.
     pub(crate) unbounded: bool,
 }
 
@@ -22,16 +22,15 @@ impl PoolThreads {
         }
     }
 
-    /// Returns the amount by which `core` exceeds the current core, plus the amount by which `core`
-    /// exceeds the maximum. Each amount is 0 if `core` is not larger. If the queue is unbounded,
-    /// the second amount is left out.
+    /// Returns the sum of the increases that the core and the maximum need to be at least `core`.
+    /// If the queue is unbounded, the increase of the maximum does not count.
     pub(crate) fn shortfall(self, core: u64) -> u64 {
         self.raised(core).growth(self)
     }
 
     /// Returns the amount by which this core exceeds the core of `other`, plus the amount by which
-    /// this maximum exceeds the maximum of `other`. An amount is 0 if the size is not larger. The
-    /// maximum of a pool with an unbounded queue does not count.
+    /// this maximum exceeds the maximum of `other`. An amount is 0 if there is no increase. If the
+    /// queue is unbounded, the maximum does not count.
     pub(crate) fn growth(self, other: PoolThreads) -> u64 {
         let core = self.core.saturating_sub(other.core);
         if self.unbounded {
@@ -41,7 +40,7 @@ impl PoolThreads {
         }
     }
 
-    /// Returns the core and the maximum, each raised to `core` if it is smaller.
+    /// Returns the sizes with the core and the maximum each raised to at least `core`.
     pub(crate) fn raised(self, core: u64) -> PoolThreads {
         PoolThreads {
             core: self.core.max(core),

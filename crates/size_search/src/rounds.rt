@@ -17,10 +17,11 @@ pub(crate) struct RankAssignment {
     pub(crate) threads: Vec<PoolThreads>,
     /// For each pool, its rank and its blocked vector, or `None` if the pool has no rank yet.
     pub(crate) assigned: Vec<Option<(u64, CacheHit)>>,
-    /// Whether a round raised the maximum of a pool, because its core became larger.
+    /// Whether a round raised the maximum of a pool, because it raised the pool's core above that
+    /// maximum.
     pub(crate) has_widened: bool,
-    /// The largest number of pools from which a round had to choose the pool whose core it raises.
-    /// It is 0 if each round had a pool with a large enough core.
+    /// The largest number of pools among which a round chose the pool whose core it raised. It is 0
+    /// if no round raised a core.
     pub(crate) choices: usize,
 }
 
@@ -36,7 +37,7 @@ impl RankAssignment {
         })
     }
 
-    /// Returns the rank of each pool, and `rank` for a pool that has none yet.
+    /// Returns the rank of each pool. For a pool that has no rank yet, the result contains `rank`.
     pub(crate) fn ranks_or(&self, alloc: Global, rank: u64) -> Result<Vec<u64>, AllocError> {
         self.assigned
             .iter()
@@ -44,8 +45,8 @@ impl RankAssignment {
             .collect(alloc)
     }
 
-    /// Returns, for each pool without a rank, the lightest blocked vector that it has if all pools
-    /// without a rank get `rank`. If `lending` is `false`, no workers have weight.
+    /// Returns, for each pool without a rank, the blocked vector that the search finds if all these
+    /// pools get `rank`. If `lending` is `false`, workers have no weight in the vectors.
     fn lightest_vectors(
         &self,
         alloc: Global,
@@ -77,8 +78,8 @@ impl RankAssignment {
         Ok(hits)
     }
 
-    /// Gives the rank to each pool whose core is large enough for its blocked vector. Returns
-    /// `false` if there is no such pool.
+    /// Gives the rank to each pool of `hits` whose core is large enough for its blocked vector.
+    /// Returns `false` if there is no such pool.
     fn assign_all(&mut self, hits: &[CacheHit], rank: u64) -> bool {
         let mut any = false;
         for hit in hits {
@@ -90,9 +91,10 @@ impl RankAssignment {
         any
     }
 
-    /// Gives the rank to one pool: number `choice`, counted from 0, in ascending order of
-    /// shortfalls. Raises its core, and if necessary its maximum, to what its blocked vector needs.
-    /// Returns [`Obstacle::Unknown`] as the error if `choice` is not below the number of hits.
+    /// Gives the rank to one pool, and raises its core, and if necessary its maximum, to what its
+    /// blocked vector needs. The pool is number `choice`, counted from 0, in ascending order of the
+    /// necessary increases. Returns [`Obstacle::Unknown`] as the error if `choice` is not below the
+    /// number of hits.
     fn assign_one(
         &mut self,
         hits: &[CacheHit],
@@ -112,7 +114,8 @@ impl RankAssignment {
     }
 
     /// Returns the obstacle of a round in which each pool without a rank needs a core above
-    /// `MAX_SIZE`. The obstacle names the pool among them with the smallest shortfall.
+    /// `MAX_SIZE`. The obstacle names the one of these pools that needs the smallest increase of
+    /// its core and maximum.
     fn obstacle_of(&self, hits: &[CacheHit]) -> Obstacle {
         match self.choice_of(hits, 0) {
             Some(hit) => Obstacle::Pool(hit.pool),
@@ -120,8 +123,9 @@ impl RankAssignment {
         }
     }
 
-    /// Returns the cache hit of pool number `choice`, counted from 0, in ascending order of
-    /// shortfalls. Returns `None` if there are not that many hits.
+    /// Returns the hit of pool number `choice`, counted from 0, in ascending order of shortfalls.
+    /// The shortfall of a pool is the increase of its core and maximum that its blocked vector
+    /// requires. Returns `None` if there are not that many hits.
     fn choice_of(&self, hits: &[CacheHit], choice: usize) -> Option<CacheHit> {
         for hit in hits {
             let shortfall = self.shortfall(hit);
@@ -145,8 +149,8 @@ impl RankAssignment {
         }
     }
 
-    /// Returns the pool's shortfall: the sum of the increases of its core and maximum that its
-    /// blocked vector requires.
+    /// Returns the shortfall of the hit's pool: the sum of the increases of its core and maximum
+    /// that the blocked vector requires.
     fn shortfall(&self, hit: &CacheHit) -> u64 {
         match self.threads.get(hit.pool) {
             Some(pool_threads) => pool_threads.shortfall(core_for(hit)),
@@ -160,7 +164,7 @@ fn core_for(hit: &CacheHit) -> u64 {
     hit.total.saturating_add(1)
 }
 
-/// Returns the cache hits of the pools that need a core of at most `MAX_SIZE`.
+/// Returns those of the hits whose pools need a core of at most `MAX_SIZE`.
 fn within_limit(alloc: Global, hits: &[CacheHit]) -> Result<Vec<CacheHit>, AllocError> {
     hits.iter()
         .filter(|hit| core_for(hit) <= MAX_SIZE)
@@ -168,14 +172,28 @@ fn within_limit(alloc: Global, hits: &[CacheHit]) -> Result<Vec<CacheHit>, Alloc
         .collect(alloc)
 }
 
-/// Gives each pool a rank and a blocked vector, starting with these cores and maximums. If
-/// `lending` is `false`, no workers have weight in the vectors. In each round, all pools whose core
-/// is large enough get the number of the round as their rank. If there are none, raises the core of
-/// the pool with the smallest shortfall (the increase of its core plus the increase of its
-/// maximum), and gives the rank to this pool. The first time that this happens, skips the
-/// `passed_over` pools with the smallest shortfalls, and raises the core of the next pool. Returns
-/// an obstacle as the error if each pool without a rank needs a core above `MAX_SIZE`, or if there
-/// are at most `passed_over` pools to choose from.
+/// Gives each pool a rank and a blocked vector, and raises cores and maximums if the vectors need
+/// it. The rounds start with the cores and maximums in `threads`. If `lending` is `false`, workers
+/// have no weight in the vectors.
+///
+/// A round consists of these steps:
+///
+/// 1. The round searches for the blocked vector of each pool without a rank.
+/// 2. Each of these pools whose core is large enough for its vector gets the number of the round as
+///    its rank.
+/// 3. If there is no such pool, the round chooses one pool, and raises its core, and if necessary
+///    its maximum, to what its vector needs. This pool gets the rank.
+///
+/// Step 3 chooses the pool that needs the smallest increase of its core and maximum. The first
+/// round that reaches step 3 instead skips the `passed_over` pools that need the smallest
+/// increases, and chooses the next pool. A pool that needs a core above `MAX_SIZE` is never chosen.
+///
+/// Returns an obstacle as the error in these cases:
+///
+/// - In step 3, each pool without a rank needs a core above `MAX_SIZE`.
+/// - In step 3, there are at most `passed_over` pools to choose from, and the round must skip that
+///   many.
+/// - The search has already computed as many vectors as it may.
 pub(crate) fn assign_ranks(
     alloc: Global,
     cache: &mut VectorCache,
@@ -206,11 +224,13 @@ pub(crate) fn assign_ranks(
     Ok(assignment)
 }
 
-/// Repeats the rounds until no maximum grows, and returns the last assignment. The repetition is
-/// needed because a larger maximum can increase totals: a pool whose workers have weight adds this
-/// weight once for each of its threads. The last repetition that is allowed gives workers no
-/// weight, so that totals no longer depend on maximums. `passed_over` applies only to the first
-/// execution of the rounds, and the field `choices` of the result is from it.
+/// Repeats all rounds until no maximum grows, and returns the last assignment. The repetition is
+/// needed because a larger maximum can increase totals: the weight of a pool's workers counts once
+/// for each thread.
+///
+/// The number of repetitions is limited. In the last of them, workers have no weight, so the totals
+/// do not depend on maximums. `passed_over` applies only to the first execution of the rounds, and
+/// the field `choices` of the result is that of the first execution.
 pub(crate) fn assign_ranks_to_fixpoint(
     alloc: Global,
     cache: &mut VectorCache,

@@ -24,8 +24,8 @@ fn put_row(jobs: &mut Vector, number: usize, row: Vec<u64>)
     jobs.classes[number] = row;
 }
 
-/// Sets the row of the class with this number, whose level is `level`. If a weight in the row is
-/// above `MAX_WEIGHT`, changes nothing and returns `false`.
+/// Computes and stores the row of the class with this number, which has the level `level`. If a
+/// weight in the row is above `MAX_WEIGHT`, stores nothing and returns `false`.
 fn set_class_row(
     alloc: Global,
     plan: &Plan,
@@ -51,8 +51,8 @@ fn set_class_row(
     Ok(true)
 }
 
-/// Sets the row of the class if the class has this level, and otherwise does nothing. If a weight
-/// in the row is above `MAX_WEIGHT`, changes nothing and returns `false`.
+/// Computes and stores the row of the class if the class has this level, and otherwise does
+/// nothing. Returns `false`, without storing the row, if a weight in the row is above `MAX_WEIGHT`.
 fn set_row_of_level(
     alloc: Global,
     plan: &Plan,
@@ -78,8 +78,8 @@ fn set_row_of_level(
     }
 }
 
-/// Sets the rows of the classes of this level. Stops and returns `false` at the first row with a
-/// weight above `MAX_WEIGHT`.
+/// Computes and stores the rows of the classes of this level. Stops and returns `false` at the
+/// first row with a weight above `MAX_WEIGHT`.
 fn set_level_rows(
     alloc: Global,
     plan: &Plan,
@@ -119,9 +119,9 @@ fn no_jobs(alloc: Global, plan: &Plan) -> Result<Vector, AllocError>
     })
 }
 
-/// Returns a vector with the rows of all classes, and without weights for workers and clients.
-/// Computes the rows from the lowest level to the highest. Returns `None` if a weight is above
-/// `MAX_WEIGHT`.
+/// Returns a vector with the rows of all classes, and without weights for workers and clients. The
+/// rows are computed from the lowest level to the highest. Returns `None` if a weight in a row is
+/// above `MAX_WEIGHT`.
 pub(crate) fn jobs_of(
     alloc: Global,
     plan: &Plan,

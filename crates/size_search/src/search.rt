@@ -22,54 +22,62 @@ use job_bodies::{MAX_POOLS, Plan};
 use least_vectors::Levels;
 use std::alloc::{AllocError, Global};
 
-/// The maximum number of further attempts that start with the declared sizes. Each of them skips a
-/// different number of pools in the first round that must raise a core. In a plan with more than
-/// [`FEW_POOLS`] pools, this is also the maximum number of attempts that reset one pool to its
-/// declared core and maximum.
+/// The maximum number of attempts, after the first attempt, that start with the declared sizes.
+/// These attempts differ in the pool whose core they raise first. In a plan with more than
+/// [`FEW_POOLS`] pools, this is also the maximum number of attempts that start with one pool at its
+/// declared sizes.
 const FURTHER_ATTEMPTS: usize = 3;
 
-/// The number of pools up to which one further attempt is made for each raised pool, with this pool
-/// reset to its declared core and maximum. In a plan with more pools, only the most raised pools
-/// are reset.
+/// The number of pools of a plan up to which each raised pool gets an attempt of its own. In this
+/// attempt, the pool starts with its declared core and maximum. In a plan with more pools, only the
+/// most raised pools get such an attempt.
 const FEW_POOLS: usize = 8;
 
 /// Searches for sizes with which a certificate accepts the plan, with few and small increases. If
-/// `first` accepts the plan as it is, returns the plan unchanged, with `first`.
+/// the certificate `first` already accepts the plan, returns the unchanged plan and `first`.
 ///
+/// The search makes several attempts. The result is the attempt with the smallest sum of increases.
 /// An attempt works in rounds, in which pools get ranks and blocked vectors, as in the search for a
-/// certificate. If no pool has a large enough core in a round, the attempt raises the core of the
-/// pool that needs the smallest increase. After the rounds it computes the queues, and reduces all
-/// sizes to what the certificate needs. Further attempts raise another pool first, or start with
-/// one pool reset to its declared core and maximum. The result is the attempt with the smallest sum
-/// of increases.
+/// certificate. If a round finds no pool with a large enough core, it raises the core of the pool
+/// that needs the smallest increase. After the rounds, the attempt computes the queues, and reduces
+/// all sizes to what the certificate needs. Later attempts raise another pool first, or start with
+/// one pool reset to its declared core and maximum.
 ///
-/// The queue of a pool that may reject jobs or has an unbounded queue stays unchanged. The
+/// The queue of a pool stays unchanged if the pool may reject jobs or the queue is unbounded. The
 /// certificate has a bound of such a pool only if the search finds a vector for which the queue is
 /// large enough. An unbounded queue is large enough for each standing vector.
 ///
-/// The *steady certificate* of a plan has one vector, which is the blocked vector of every pool,
-/// and also the bound of every pool that needs one. A pool needs no bound if it may reject jobs or
-/// has an unbounded queue. The steady certificate is too large if it needs sizes above 1,000,000 or
-/// has a weight above [`MAX_WEIGHT`](job_bodies::MAX_WEIGHT). It is also too large if a submit to a
-/// pool that needs no bound is made forever and never got, because no size is enough then. If no
-/// attempt succeeds, the result is the steady certificate with the least sizes for it, unless it is
-/// too large.
+/// If no attempt succeeds, the result is the *steady certificate* of the plan with the least sizes
+/// for it, unless this certificate is too large. The steady certificate has one vector, which is
+/// the blocked vector of every pool, and the bound of every pool that needs a bound. A pool needs
+/// no bound if it may reject jobs or has an unbounded queue. The steady certificate is too large in
+/// these cases:
+///
+/// - It needs a size above 1,000,000.
+/// - It has a weight above [`MAX_WEIGHT`](job_bodies::MAX_WEIGHT).
+/// - A repeating client causes a submit that is never got, and that goes to a pool that needs no
+///   bound. No size is enough for the certificate then.
 ///
 /// If no sizes are found, one of these is the reason:
 ///
-/// - The plan has a cause, so no sizes are enough: a class submits itself, directly or through
-///   other classes, or a repeating client causes a submit that is never got, to a pool that needs a
-///   bound.
+/// - A class submits itself, directly or through other classes. No sizes are enough then.
+/// - A repeating client causes a submit that is never got, and that goes to a pool that needs a
+///   bound. No sizes are enough then.
 /// - The steady certificate is too large. Other sizes can exist.
 ///
-/// If the plan has no cause and its steady certificate is not too large, sizes are found. Unless
-/// the certificate is `first`, a new search then finds a certificate of the plan with these sizes.
+/// If none of these reasons holds, sizes are found. Unless the certificate is `first`, a new search
+/// then finds a certificate of the plan with these sizes.
 ///
-/// The contract proves that the certificate accepts the plan with these sizes, and that they are
-/// the least for this certificate. Among the sizes that are no smaller than the declared ones, the
-/// certificate accepts none with a smaller maximum or a smaller core, and none with these maximums
-/// and a smaller queue. A maximum that is larger than declared equals the core of its pool. With
-/// larger maximums, smaller queues can be enough. Another certificate can need smaller sizes.
+/// The contract proves that the certificate accepts the plan with the sizes that were found, and
+/// that these sizes are the least for this certificate. Compare them with any other sizes that are
+/// no smaller than the declared ones, and with which the certificate accepts the plan:
+///
+/// - No maximum and no core of the other sizes is smaller.
+/// - If the other sizes have the same maximums, no queue is smaller. With larger maximums, smaller
+///   queues can be enough.
+///
+/// A maximum that is larger than declared equals the core of its pool. Another certificate can need
+/// smaller sizes.
 ///
 /// # Errors
 ///
@@ -93,7 +101,8 @@ pub fn search_sizes(
     search_without_first(alloc, plan)
 }
 
-/// Searches for sizes as [`search_sizes`] does, if `first` does not accept the plan.
+/// Searches for sizes as [`search_sizes`] does if it has no certificate `first` that accepts the
+/// plan.
 fn search_without_first(alloc: Global, plan: &Plan) -> Result<SizesFound, AllocError>
     ensures found { IfOk result (IsFound plan.now) }
     ensures decided { IfOk result (IsDecided plan.now) }
@@ -117,8 +126,8 @@ fn sizes_without_cause(alloc: Global, plan: &Plan) -> Result<SizesFound, AllocEr
     }
 }
 
-/// Returns the plan with the sizes that the rounds found, and the certificate that accepts it.
-/// Returns an obstacle if the rounds found none.
+/// Returns the plan with the sizes that the rounds found, and a certificate that accepts this plan.
+/// Returns an obstacle if the rounds found no sizes.
 fn sizes_by_rounds(alloc: Global, plan: &Plan) -> Result<Result<(Plan, Cert), Obstacle>, AllocError>
     ensures { IfOk result (λ answer. IfOk answer (λ found. IsSized plan.now found.1 found.0)) }
 {
@@ -132,8 +141,8 @@ fn sizes_by_rounds(alloc: Global, plan: &Plan) -> Result<Result<(Plan, Cert), Ob
     }
 }
 
-/// Returns a certificate that is likely to accept the plan with other sizes. The certificate was
-/// not checked. Returns an obstacle if the search finds none.
+/// Returns a certificate that is likely to accept the plan after its sizes are raised. The
+/// certificate is not checked. Returns an obstacle if the search finds no certificate.
 pub(crate) fn unchecked_certificate(
     alloc: Global,
     plan: &Plan,
@@ -148,7 +157,8 @@ pub(crate) fn unchecked_certificate(
     })
 }
 
-/// Returns the attempt with the smallest cost, or the obstacle of the first attempt if all failed.
+/// Returns the attempt with the smallest sum of increases, or the obstacle of the first attempt if
+/// all attempts failed.
 fn cheapest_attempt(
     alloc: Global,
     cache: &mut VectorCache,
@@ -160,8 +170,8 @@ fn cheapest_attempt(
     }
 }
 
-/// Returns the cheapest of the attempts that start with the declared sizes, or the obstacle of the
-/// first attempt if all failed.
+/// Makes the attempts that start with the declared sizes, and returns the one with the smallest sum
+/// of increases. Returns the obstacle of the first attempt if all of them failed.
 fn best_from_declared(
     alloc: Global,
     cache: &mut VectorCache,
@@ -179,9 +189,9 @@ fn best_from_declared(
     Ok(best)
 }
 
-/// Returns the cheapest of `best` and of further attempts. Each further attempt starts with the
-/// cores and maximums of the best attempt so far, with one of the most raised pools reset to its
-/// declared ones.
+/// Makes further attempts, and returns the cheapest of these attempts and `best`. Each further
+/// attempt starts with the cores and maximums of the cheapest attempt so far. But one of the most
+/// raised pools starts with its declared core and maximum.
 fn improved_attempt(
     alloc: Global,
     cache: &mut VectorCache,
@@ -196,8 +206,9 @@ fn improved_attempt(
     Ok(best)
 }
 
-/// Makes an attempt that starts with these sizes. The first round that must raise a core skips the
-/// `passed_over` pools that need the smallest increases.
+/// Makes an attempt that starts with these cores and maximums. The first round that must raise a
+/// core skips the `passed_over` pools that need the smallest increases, and raises the core of the
+/// next pool.
 fn attempt(
     alloc: Global,
     cache: &mut VectorCache,
@@ -208,7 +219,8 @@ fn attempt(
     outcome(attempt_from(alloc, cache, threads, passed_over))
 }
 
-/// Returns the cheaper of two attempts, or the first obstacle if both failed.
+/// Returns the cheaper of the attempts that succeeded, or the obstacle of the first attempt if both
+/// failed.
 fn better_attempt(
     first: Result<Attempt, Obstacle>,
     second: Result<Attempt, Obstacle>,
@@ -220,7 +232,8 @@ fn better_attempt(
     }
 }
 
-/// Returns the first attempt, unless the second one is cheaper.
+/// Returns the second attempt if it succeeded and is cheaper than the first, and otherwise the
+/// first.
 fn cheaper_attempt(first: Attempt, second: Result<Attempt, Obstacle>) -> Attempt {
     if let Ok(second) = second {
         if second.cost < first.cost {
@@ -230,8 +243,8 @@ fn cheaper_attempt(first: Attempt, second: Result<Attempt, Obstacle>) -> Attempt
     first
 }
 
-/// Separates an obstacle from an allocation failure: returns the attempt or the obstacle as `Ok`,
-/// and an [`AllocError`] as `Err`.
+/// Separates an obstacle from a failed allocation. Returns the attempt or the obstacle as `Ok`, and
+/// an [`AllocError`] as `Err`.
 fn outcome(
     attempt: Result<Attempt, AttemptError>,
 ) -> Result<Result<Attempt, Obstacle>, AllocError> {
@@ -242,9 +255,10 @@ fn outcome(
     }
 }
 
-/// Returns the pools whose core plus maximum increased most from the declared sizes to those of
-/// `best`. These are all pools with an increase if the plan has at most [`FEW_POOLS`] pools, and
-/// otherwise at most [`FURTHER_ATTEMPTS`] of them.
+/// Returns the pools whose core plus maximum is larger in `best` than declared, in descending order
+/// of the increase. If the plan has more than [`FEW_POOLS`] pools, returns only the first
+/// [`FURTHER_ATTEMPTS`] of these pools. If a queue is unbounded, the increase of the pool's maximum
+/// does not count.
 fn most_raised_pools(
     alloc: Global,
     best: &Attempt,
@@ -273,8 +287,8 @@ fn most_raised_pools(
     Ok(raised)
 }
 
-/// Returns the cores and maximums that the attempt `best` needs, with those of this pool reset to
-/// the declared ones.
+/// Returns the cores and maximums of the attempt `best`, except that this pool has its declared
+/// core and maximum.
 fn reset_pool(
     alloc: Global,
     best: &Attempt,

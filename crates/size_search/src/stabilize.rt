@@ -18,10 +18,10 @@ use std::alloc::{AllocError, Global};
 /// The maximum number of times that the search is repeated.
 const MAX_TURNS: usize = 4;
 
-/// The result of a search for a certificate of the plan with the sizes that were found.
+/// The result of a new search for a certificate, made for the plan with the sizes that were found.
 #[derive(Drop)]
 enum Recheck {
-    /// The search found a certificate that accepts the plan with these sizes, or was skipped
+    /// The search found a certificate that accepts the plan with these sizes. Or it was skipped
     /// because no size has grown.
     Same,
     /// The search found a certificate that needs larger sizes.
@@ -30,12 +30,16 @@ enum Recheck {
     Nothing,
 }
 
-/// Returns `fit`, the plan with the sizes that were found, if no size has grown or if a new search
-/// finds a certificate that accepts `fit`. The result keeps `cert` as its certificate. If the new
-/// search finds a certificate that needs larger sizes, repeats this with the larger sizes and that
-/// certificate, at most [`MAX_TURNS`] times. Otherwise returns the plan with the sizes for its
-/// steady certificate, with which the search always finds a certificate. If those sizes are too
-/// large, returns the plan with the current sizes.
+/// Returns the plan with sizes with which a new search finds a certificate again. `fit` is the plan
+/// with the sizes that were found, and `cert` is a certificate that accepts `fit`. The steps are:
+///
+/// 1. If no size of `fit` has grown, or if a new search finds a certificate that accepts `fit`,
+///    returns `fit` and `cert`.
+/// 2. If the new search finds a certificate that needs larger sizes, repeats step 1 with this
+///    certificate and these sizes, at most [`MAX_TURNS`] times.
+/// 3. Otherwise returns the plan with the least sizes for its steady certificate. With these sizes,
+///    the search always finds a certificate. If these sizes are too large, returns `fit` and
+///    `cert`.
 pub(crate) fn stabilize(
     alloc: Global,
     plan: &Plan,
@@ -66,8 +70,9 @@ pub(crate) fn stabilize(
     or_fit_steady(alloc, plan, fit, cert)
 }
 
-/// Searches for a certificate of `fit`, which is the plan with the sizes that were found. Skips the
-/// search if no size has grown, since the plan then keeps its certificate.
+/// Searches anew for a certificate of `fit`, which is the plan with the sizes that were found. If
+/// no size has grown, skips the search and returns [`Recheck::Same`], because the plan then keeps
+/// its certificate.
 fn recheck_plan(alloc: Global, plan: &Plan, fit: &Plan) -> Result<Recheck, AllocError> {
     if growth(plan, fit) == 0 {
         return Ok(Recheck::Same);
@@ -84,8 +89,8 @@ fn recheck_plan(alloc: Global, plan: &Plan, fit: &Plan) -> Result<Recheck, Alloc
     })
 }
 
-/// Returns the plan with the least sizes for its steady certificate, or the current plan if those
-/// sizes are too large.
+/// Returns the plan with the least sizes for its steady certificate. If these sizes are too large,
+/// returns `fit` and `cert`.
 fn or_fit_steady(
     alloc: Global,
     plan: &Plan,

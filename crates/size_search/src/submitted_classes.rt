@@ -12,8 +12,8 @@ ghost use Rattle.size_search.specs.Reaching.{Has, Covers, Grows, IsReaching, unf
 use job_bodies::{Action, Plan};
 use std::alloc::{AllocError, Global};
 
-/// A set of classes whose jobs are submitted, and the classes whose bodies have not been scanned
-/// yet.
+/// A set of classes whose jobs are submitted. It also lists those of its classes whose bodies have
+/// not been scanned for further submits yet.
 #[derive(Drop)]
 pub(crate) struct SubmittedClasses {
     /// For each class, whether it is in the set.
@@ -48,7 +48,8 @@ impl SubmittedClasses {
         self.is_found
     }
 
-    /// Adds the class to the set, if the set does not have it yet.
+    /// Adds the class to the set and to the pending classes, if the set does not have the class
+    /// yet.
     fn add(&mut self, class: usize) -> Result<(), AllocError>
         requires { class < length self.old.is_found.items }
         ensures grows { OnOk result (Grows self.old self.new) }
@@ -78,8 +79,8 @@ impl SubmittedClasses {
         Ok(())
     }
 
-    /// Scans the body of one pending class, and adds the classes that it submits. Does nothing if
-    /// no class is pending.
+    /// Removes one class from the pending classes, and adds the classes that its body submits to
+    /// the set. Does nothing if no class is pending.
     fn follow(&mut self, plan: &Plan) -> Result<(), AllocError>
         requires { length self.old.is_found.items ≡ length plan.now.classes }
         ensures reaching { OnOk result
@@ -101,7 +102,7 @@ impl SubmittedClasses {
         Ok(())
     }
 
-    /// Adds the classes that jobs of the classes in the set submit, directly or through other jobs.
+    /// Adds the classes that the classes of the set submit, directly or through other classes.
     pub(crate) fn add_all(&mut self, plan: &Plan) -> Result<(), AllocError>
         requires { length self.old.is_found.items ≡ length plan.now.classes }
         ensures submitted { OnOk result ((bodies : List (List Action)) → IsReaching plan.now bodies self.old → ((body : List Action) → In body bodies → Covers self.old body)

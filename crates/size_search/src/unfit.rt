@@ -11,22 +11,22 @@ use soundness::Note;
 /// The reason why no choice of cores and queues makes the certificate accept the plan.
 #[derive(Clone, Copy, Debug, PartialEq, Eq)]
 pub enum Unfit {
-    /// The certificate does not have the shape of the plan, or one of its numbers is above
+    /// The certificate does not have the shape of the plan, or it has a number above
     /// [`MAX_WEIGHT`](job_bodies::MAX_WEIGHT).
     Shape,
-    /// The first condition that fails and that does not depend on cores and queues.
+    /// The first failing condition that does not depend on cores and queues.
     Condition(Note),
-    /// The core of the pool with this number would be above the pool's maximum or, if maximums can
-    /// be raised, above 1,000,000.
+    /// The pool with this number would need a core above its maximum. If maximums can be raised,
+    /// the core would have to be above 1,000,000.
     Core(usize),
-    /// The queue of the pool with this number would have to be above 1,000,000, or it is too small
-    /// and stays unchanged because the pool may reject jobs. An unbounded queue is never the
+    /// The queue of the pool with this number would have to be above 1,000,000. Or the queue is too
+    /// small, and is not raised because the pool may reject jobs. An unbounded queue is never the
     /// reason.
     Queue(usize),
 }
 
 /// Returns the reason why a pool with raised sizes is invalid, or `None` if it is valid. If the
-/// maximum is above 1,000,000, it was raised for the core, so the core is the reason.
+/// maximum is above 1,000,000, the reason is the core, because the maximum was raised for the core.
 fn unfit_pool(number: usize, pool: &Pool) -> Option<Unfit>
     ensures { result ≡ spec.unfit_pool number pool.now }
 {

@@ -6,20 +6,20 @@ use least_vectors::{Kind, Levels, ResizedPlan, VectorSummary};
 use std::alloc::{AllocError, Global};
 use weights::submitted_class;
 
-/// The maximum number of vectors that one search computes. It bounds the time of the search. All
-/// known plans need less than a quarter of it.
+/// The maximum number of vectors that one search computes. This limit bounds the time of the
+/// search. All known plans need less than a quarter of this number.
 const MAX_VECTORS: usize = 32_768;
 
-/// The kind of a vector and, for a blocked vector, its counted gets and whether the workers of
-/// other pools can have weight. Together with the other fields of [`CacheKey`], this determines a
-/// pool's lightest vector.
+/// The kind of a vector. A blocked vector also has its counted gets, and whether the workers of
+/// other pools can have weight. Together with the other fields of [`CacheKey`], these values
+/// determine the lightest vector of a pool.
 #[derive(PartialEq, Drop)]
 enum VectorKey {
     Standing,
     Lifetime,
     Blocked {
-        /// For each class, whether a get of a job of that class is counted if a job of this pool
-        /// performs it.
+        /// For each class, whether jobs of this pool get jobs of that class and these gets are
+        /// counted.
         counted: Vec<bool>,
         /// Whether the workers of other pools can have weight.
         lending: bool,
@@ -32,11 +32,12 @@ struct CacheKey {
     vector: VectorKey,
     /// The maximum of each pool.
     maxes: Vec<u64>,
-    /// The total at which the search for the vector stops giving weight to workers.
+    /// The total that is small enough: the search for the vector stops when the total is at most
+    /// this number.
     enough: u64,
 }
 
-/// A cache key with the vector that was found for it.
+/// A cache key, and the summary of the vector that was found for this key.
 #[derive(Drop)]
 struct CacheEntry {
     key: CacheKey,
@@ -44,25 +45,27 @@ struct CacheEntry {
 }
 
 impl CacheEntry {
-    /// Returns whether the vector of this entry is also the result for the key.
+    /// Returns whether a new search for the key would give the vector of this entry.
     fn matches_key(&self, key: &CacheKey) -> bool {
         self.key.enough == key.enough
             && self.key.vector == key.vector
             && self.is_valid_for(&key.maxes)
     }
 
-    /// Returns whether the cached vector is also the result for these maximums. A pool whose
-    /// workers got weight must have the same maximum as in the entry. Any other pool may have a
-    /// larger maximum. Weight of its workers would then add at least as much to the total, so a new
-    /// search would give them no weight either.
+    /// Returns whether a new search with these maximums would give the vector of this entry. This
+    /// is so if each pool whose workers got weight has the same maximum as before, and no other
+    /// pool has a smaller maximum.
+    ///
+    /// If a pool has a larger maximum than in the entry, weight of its workers adds at least as
+    /// much to the total. So a new search would give these workers no weight either.
     fn is_valid_for(&self, maxes: &[u64]) -> bool {
         self.key.maxes.iter().zip(maxes).enumerate().all(|(pool, (before, now))| before == now
             || (before < now && !self.is_lender(pool)))
     }
 
     /// Returns whether the workers of the pool got weight in the search for the cached vector.
-    /// Returns `false` if the search found no vector, so that the search is not repeated for larger
-    /// maximums.
+    /// Returns `false` if the search found no vector, so that larger maximums do not cause a new
+    /// search.
     fn is_lender(&self, pool: usize) -> bool {
         match &self.answer {
             Some(summary) => summary.lenders.contains(&pool),
@@ -100,7 +103,7 @@ impl CacheHit {
     }
 }
 
-/// A plan, and a cache of the vectors that were computed for it with different maximums.
+/// A cache of the vectors that were computed for a plan with different maximums.
 #[derive(Drop)]
 pub(crate) struct VectorCache<'a> {
     pub(crate) plan: &'a Plan,
@@ -132,11 +135,13 @@ impl<'a> VectorCache<'a> {
         })
     }
 
-    /// Returns the cache hit of the pool's lightest vector of this kind for these maximums, and
-    /// computes the vector if the cache does not have it. The search for a vector stops when its
-    /// total is at most `enough`. The hit is empty if the search finds no vector, or if there is no
-    /// such pool. Returns [`Obstacle::Unknown`] as the error if a vector must be computed and
-    /// [`MAX_VECTORS`] have been computed already.
+    /// Returns, as a cache hit, the lightest vector of this kind for the pool with these maximums.
+    /// Computes the vector if the cache does not have it. A search for a vector stops when the
+    /// total is at most `enough`. The hit has no vector if the search finds none, or if there is no
+    /// such pool.
+    ///
+    /// Returns [`Obstacle::Unknown`] as the error if a vector must be computed after
+    /// [`MAX_VECTORS`] vectors have been computed.
     pub(crate) fn lightest(
         &mut self,
         alloc: Global,
@@ -177,7 +182,7 @@ impl<'a> VectorCache<'a> {
         }
     }
 
-    /// Returns the weight of the workers of each pool in the vector of the cache hit, or `None` if
+    /// Returns, for each pool, the weight of a worker in the vector of the hit. Returns `None` if
     /// the hit has no vector.
     pub(crate) fn workers_at(&self, hit: CacheHit) -> Option<&[u64]> {
         let entry = self.pools.get(hit.pool)?.entries.get(hit.index?)?;
@@ -215,8 +220,8 @@ impl PoolCache {
         })
     }
 
-    /// Returns, for each class, whether a get of a job of that class is counted if a job of this
-    /// pool performs it. `rank` is the rank of this pool, and `reach` has the reach of each class.
+    /// Returns, for each class, whether jobs of this pool get jobs of that class and these gets are
+    /// counted. `rank` is the rank of this pool, and `reach` has the reach of each class.
     fn counted(&self, alloc: Global, reach: &[u64], rank: u64) -> Result<Vec<bool>, AllocError> {
         self.gets
             .iter()
@@ -226,7 +231,7 @@ impl PoolCache {
     }
 
     /// Returns the index of the entry whose vector is the result for this key, or `None` if there
-    /// is none.
+    /// is no such entry.
     fn index_of(&self, key: &CacheKey) -> Option<usize> {
         self.entries.iter().position(|entry| entry.matches_key(key))
     }

@@ -14,8 +14,8 @@ use cert_text::Cert;
 use job_bodies::{Plan, Pool};
 use std::alloc::{AllocError, Global};
 
-/// Returns the pool with this number, with its maximum raised to the core that the certificate
-/// needs, if the core is larger.
+/// Returns the pool with this number. If the certificate needs a core above the pool's maximum, the
+/// maximum is raised to this core.
 fn widened_pool(alloc: Global, plan: &Plan, cert: &Cert, number: usize) -> Result<Pool, AllocError>
     requires fits { IsTrue (cert_fits plan.now cert.now) }
     requires number { number < length plan.now.pools }
@@ -41,13 +41,15 @@ fn widened_pools(alloc: Global, plan: &Plan, cert: &Cert) -> Result<Vec<Pool>, A
     Ok(pools)
 }
 
-/// Returns the plan with each maximum raised to the core that the certificate needs. Each raise is
-/// necessary: all sizes with which the certificate accepts the plan, and whose maximums are no
-/// smaller than the plan's, have at least these maximums. If the raises increase totals, the
-/// certificate can need still larger cores.
+/// Returns the plan with each maximum raised to the core that the certificate needs, if this core
+/// is larger. If the raises increase totals, the certificate can need still larger cores.
+///
+/// Each raise is necessary. Consider any sizes with which the certificate accepts the plan, and
+/// whose maximums are no smaller than the plan's. Each of their maximums is at least the maximum of
+/// the returned plan.
 ///
 /// If the certificate does not fit the plan, or needs a core above 1,000,000, there are no such
-/// sizes, and the reason is returned.
+/// sizes. The inner result is then the reason.
 ///
 /// # Errors
 ///
