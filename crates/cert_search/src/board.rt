@@ -32,8 +32,8 @@ pub(crate) enum BoardEvent {
     Return(usize),
 }
 
-/// Returns the state of a pool at the start of a round: done if the pool has a rank, and otherwise
-/// free.
+/// Returns the state of a pool at the start of a round: done if the pool has a rank from an earlier
+/// round, and otherwise free.
 fn initial_status(has_rank: bool) -> PoolStatus
     ensures { result ≡ spec.initial_status has_rank }
 {
@@ -94,7 +94,8 @@ impl PoolStatuses {
         self.statuses.iter().all(|status| is_done(*status))
     }
 
-    /// Claims the pool if it is free, and returns whether it was free.
+    /// Claims the pool if it is free, and returns `true`. If the pool is not free, changes nothing
+    /// and returns `false`.
     fn claim(&mut self, pool: usize) -> bool
         ensures taken { IsTrue result
             → spec.claimed self.old pool (slice_get self.old pool) ≡ Some self.new }
@@ -111,7 +112,8 @@ impl PoolStatuses {
         }
     }
 
-    /// Makes the pool done if it was claimed, and returns whether it was claimed.
+    /// Makes the pool done if it is claimed, and returns `true`. If the pool is not claimed,
+    /// changes nothing and returns `false`.
     fn give_back(&mut self, pool: usize) -> bool
         ensures given { IsTrue result
             → spec.returned self.old pool (slice_get self.old pool) ≡ Some self.new }
@@ -129,7 +131,8 @@ impl PoolStatuses {
     }
 }
 
-/// The board of a round. Each pool without a rank can be claimed only once.
+/// The board of a round, on which workers claim the pools without a rank. Each of these pools can
+/// be claimed only once.
 #[derive(Drop)]
 pub(crate) struct Board {
     /// For each pool, whether it has a rank from an earlier round.
@@ -190,8 +193,8 @@ pub(crate) fn claim(board: &mut Held<Board>) -> Result<Option<usize>, AllocError
     }
 }
 
-/// Gives a pool back to the board, and returns whether the pool was claimed. A claimed pool is done
-/// afterwards. If the pool was not claimed, the board is unchanged.
+/// Gives a claimed pool back to the board, which makes the pool done, and returns `true`. If the
+/// pool is not claimed, changes nothing and returns `false`.
 ///
 /// # Errors
 ///

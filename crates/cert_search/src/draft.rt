@@ -20,7 +20,7 @@ struct PoolDraft {
 }
 
 impl PoolDraft {
-    /// Returns whether the bound is known, or the pool needs none.
+    /// Returns whether the bound is known or the pool needs no bound.
     fn is_bounded(&self) -> bool {
         self.bound.is_some() || !self.needs_bound
     }
@@ -60,7 +60,7 @@ impl Draft {
             .collect(alloc)
     }
 
-    /// Returns the rank of each pool, and `rank` for a pool that has none yet.
+    /// Returns the rank of each pool. For a pool that has no rank yet, the result contains `rank`.
     pub(crate) fn ranks_or(&self, alloc: Global, rank: u64) -> Result<Vec<u64>, AllocError> {
         self.pools
             .iter()
@@ -68,9 +68,11 @@ impl Draft {
             .collect(alloc)
     }
 
-    /// Records the results of a round, and gives `rank` to each pool whose blocked vector was
-    /// found. Returns `false` if no pool got the rank, or if one of these pools needs a bound and
-    /// no round found one.
+    /// Records the results of a round, and gives `rank` to each pool whose blocked vector the round
+    /// found. Returns `false`, which means that no certificate can result, in these cases:
+    ///
+    /// - No pool got the rank.
+    /// - A pool of `found` needs a bound, and no round has found a bound for it.
     pub(crate) fn note(&mut self, found: Vec<PoolVectors>, rank: u64) -> bool {
         let mut moved = false;
         let mut bounded = true;
@@ -95,8 +97,8 @@ impl Draft {
         moved && bounded
     }
 
-    /// Returns the certificate, or `None` if a pool lacks its blocked vector, or a bound that it
-    /// needs.
+    /// Returns the certificate. Returns `None` if a pool has no blocked vector, or if a pool needs
+    /// a bound and has none.
     pub(crate) fn into_cert(
         self,
         alloc: Global,

@@ -14,9 +14,11 @@ use job_bodies::Plan;
 use size_search::{cause_of, steady};
 use std::alloc::{AllocError, Global};
 
-/// Returns the plan's steady certificate, or `None` if it does not accept the plan with its
-/// declared sizes or has a weight above `MAX_WEIGHT`. Also returns `None` if the plan has a
-/// *cause*, a reason why no sizes are enough, because no certificate accepts such a plan.
+/// Returns the plan's steady certificate if it accepts the plan. Returns `None` in these cases:
+///
+/// - The steady certificate has a weight above `MAX_WEIGHT`.
+/// - The steady certificate does not accept the plan with its declared sizes.
+/// - The plan has a *cause*, which is a reason why no certificate accepts the plan with any sizes.
 pub(crate) fn steady_if_accepted(alloc: Global, plan: &Plan) -> Result<Option<Cert>, AllocError>
     ensures accepted { IfOk result
         (λ found. IfSome found (λ cert. IsTrue (accepted plan.now cert))) }
@@ -29,8 +31,9 @@ pub(crate) fn steady_if_accepted(alloc: Global, plan: &Plan) -> Result<Option<Ce
     }
 }
 
-/// Returns the plan's steady certificate, or `None` if it does not accept the plan or has a weight
-/// above `MAX_WEIGHT`. No class of the plan may submit itself, directly or through other classes.
+/// Returns the plan's steady certificate if it accepts the plan. Returns `None` if the certificate
+/// does not accept the plan, or has a weight above `MAX_WEIGHT`. No class of the plan may submit
+/// itself, directly or through other classes.
 fn without_circle(alloc: Global, plan: &Plan) -> Result<Option<Cert>, AllocError>
     requires free { NoCircle plan.now }
     requires well_formed { IsWellFormed plan.now }

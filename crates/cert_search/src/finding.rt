@@ -23,10 +23,15 @@ use std::thread::Threads;
 pub enum SearchFault {
     /// Memory ran out, or a thread could not be started.
     Memory,
-    /// The workers of a round were inconsistent: a worker claimed a pool that the plan does not
-    /// have or gave back a pool that was not claimed, a pool was never given back, or a pool had a
-    /// wrong number of results. A pool without a rank must have one result, and any other pool must
-    /// have none. No proof covers what threads do under a lock, so this is checked at run time.
+    /// The workers of a round were inconsistent, in one of these ways:
+    ///
+    /// - A worker claimed a pool that the plan does not have.
+    /// - A worker gave back a pool that was not claimed.
+    /// - A pool was never given back.
+    /// - A pool without a rank had no result, or more than one.
+    /// - A pool with a rank had a result.
+    ///
+    /// No proof covers what threads do under a lock, so these faults are checked at run time.
     Mixed,
     /// The gate (see [`PoolGate`](cert_check::PoolGate)) returned `false` for a pool.
     Gate,
@@ -40,24 +45,28 @@ impl From<AllocError> for SearchFault {
     }
 }
 
-/// Searches for a certificate that accepts the plan. First searches in rounds, each with at most
-/// `workers` workers, a number from 1 to 64. If the rounds find no such certificate, tries the
-/// plan's steady certificate, which depends only on the bodies. Returns `None` if that does not
-/// accept the plan with its declared sizes either. The plan can still be safe.
+/// Searches for a certificate that accepts the plan. Returns `None` if the search finds none. The
+/// plan can still be safe.
 ///
-/// If the plan's steady certificate accepts the plan, the result is never `None`. Tests check that
-/// the result does not depend on the number of workers. This is not proved.
+/// The search works in rounds, each with at most `workers` workers, a number from 1 to 64. In each
+/// round, the workers search for the vectors of the pools without a rank. A pool whose blocked
+/// vector is found gets the round's number as its rank. After the round, a get is not counted if
+/// its job only depends on pools with a rank. These are the pool of the job, and the pools of all
+/// jobs for which it waits, directly or through others.
 ///
-/// A pool needs no bound if it may reject jobs or its queue is unbounded. The certificate has a
-/// bound of such a pool if the rounds find one. A pool that may reject jobs never rejects one if it
-/// has a bound. For a pool with an unbounded queue, the rounds search for a standing vector of any
-/// total.
+/// If the jobs of a pool have the same counted gets as in the previous round, the search for the
+/// pool's blocked vector is skipped. The previous round found no vector for these gets.
 ///
-/// In each round, the workers search for the vectors of the pools without a rank. A pool whose
-/// blocked vector is found gets the round's number as its rank. Afterwards, a get is not counted if
-/// its job, and all jobs for which that job waits directly or through others, are in pools that
-/// have a rank. A round does not search for the blocked vector of a pool whose jobs have the same
-/// counted gets as in the previous round, because the previous round found none.
+/// If the rounds find no certificate that accepts the plan, the search tries the plan's steady
+/// certificate, whose numbers do not depend on the sizes. If the steady certificate accepts the
+/// plan with its declared sizes, the result is never `None`.
+///
+/// A pool needs no bound if it may reject jobs or its queue is unbounded. If the rounds find a
+/// bound of such a pool, their certificate contains it. A pool that may reject jobs never rejects a
+/// job if the certificate contains a bound of the pool. For a pool with an unbounded queue, the
+/// rounds search for a standing vector of any total.
+///
+/// Tests check that the result does not depend on the number of workers. This is not proved.
 ///
 /// # Errors
 ///

@@ -7,12 +7,13 @@ ghost use Rattle.cert_search.specs.Results as spec;
 use crate::SearchFault;
 use crate::round::PoolVectors;
 
-/// Returns the results if there is exactly one for each pool without a rank, and no other.
+/// Returns the results if each pool without a rank has exactly one result, and there are no other
+/// results.
 ///
 /// # Errors
 ///
-/// Returns [`SearchFault::Mixed`] if a pool without a rank has no result or several, or if there is
-/// another result.
+/// Returns [`SearchFault::Mixed`] if a pool without a rank has no result or several results, or if
+/// there is any other result.
 pub(crate) fn check_complete(
     has_rank: &[bool],
     found: Vec<PoolVectors>,
@@ -35,7 +36,8 @@ fn are_complete(has_rank: &[bool], found: &[PoolVectors]) -> bool
     have_right_counts(has_rank, found) && all_exist(has_rank.len(), found)
 }
 
-/// Returns whether each pool has the right number of results: none if it has a rank, otherwise one.
+/// Returns whether each pool has the right number of results: none if the pool has a rank, and
+/// otherwise one.
 fn have_right_counts(has_rank: &[bool], found: &[PoolVectors]) -> bool
     ensures { result ≡ spec.have_right_counts has_rank.now found.now }
 {
@@ -50,7 +52,8 @@ fn count_of(found: &[PoolVectors], pool: usize) -> usize
     found.iter().filter(|found| found.pool == pool).count()
 }
 
-/// Returns the number of results that a pool must have: none if it has a rank, otherwise one.
+/// Returns the number of results that a pool must have: none if the pool has a rank, and otherwise
+/// one.
 fn expected_count(has_rank: bool) -> usize
     ensures { result ≡ spec.expected_count has_rank }
 {

@@ -22,9 +22,9 @@ use weights::{Bound, Vector, submitted_class};
 pub(crate) struct Round<'a> {
     pub(crate) plan: &'a Plan,
     pub(crate) levels: &'a Levels,
-    /// The reach of each class, if the pools without a rank have the rank of this round. The reach
-    /// of a class is the maximum of its pool's rank and of the reaches of the classes whose jobs it
-    /// gets.
+    /// The reach of each class, computed as if each pool without a rank had the rank of this round.
+    /// The reach of a class is the greatest of the rank of its pool and the reaches of the classes
+    /// whose jobs it gets.
     pub(crate) reach: &'a [u64],
     /// The value of `reach` in the previous round. It is empty in the first round.
     pub(crate) reach_before: &'a [u64],
@@ -36,17 +36,19 @@ pub(crate) struct Round<'a> {
 #[derive(Drop)]
 pub(crate) struct PoolVectors {
     pub(crate) pool: usize,
-    /// The bound of the pool's queue, or `None` if the search found none. Only the first round
-    /// searches for a bound. A pool that may reject jobs or has an unbounded queue does not need
-    /// one.
+    /// The bound of the pool's queue, or `None` if the round found none. Only the first round
+    /// searches for bounds. A pool that may reject jobs or has an unbounded queue needs no bound.
     pub(crate) bound: Option<Bound>,
     pub(crate) blocked: Option<Vector>,
 }
 
 impl Round<'_> {
-    /// Searches for the vectors of a pool. Does not search for a blocked vector if the jobs of the
-    /// pool have the same counted gets as in the previous round, because the previous round found
-    /// none. Returns [`SearchFault::Mixed`] as the error if the plan does not have the pool, and
+    /// Searches for the vectors of a pool: for the bound in the first round only, and for the
+    /// blocked vector in each round. Skips the search for the blocked vector if the pool's jobs
+    /// have the same counted gets as in the previous round. The previous round found no vector for
+    /// these gets.
+    ///
+    /// Returns [`SearchFault::Mixed`] as the error if the plan does not have the pool, and
     /// [`SearchFault::Memory`] if memory runs out.
     fn search_pool(&self, alloc: Global, pool: usize) -> Result<PoolVectors, SearchFault>
         ensures named { IfOk result (λ found. found.pool ≡ pool) }
@@ -105,9 +107,10 @@ impl Round<'_> {
         true
     }
 
-    /// Claims free pools and searches for their vectors, until no pool is free or `stop` is set.
-    /// Calls the gate before each search. Does not hold the lock of the board during a call of the
-    /// gate or a search. Returns [`SearchFault::Gate`] as the error if the gate returns `false`.
+    /// Claims a free pool, searches for its vectors and gives it back, and repeats this until no
+    /// pool is free or `stop` is set. Calls the gate before each search. Does not hold the lock of
+    /// the board during a call of the gate or a search. Returns [`SearchFault::Gate`] as the error
+    /// if the gate returns `false`.
     fn search_free_pools<R: Wait, G: PoolGate>(
         &self,
         rt: &R,

@@ -16,14 +16,14 @@ use std::sync::atomic::{AtomicBool, Ordering};
 use std::thread;
 use std::thread::{JoinHandle, Threads};
 
-/// Searches for the vectors of each pool without a rank, with `workers` workers, one of which is
-/// the calling thread. Returns the results of all workers, in no particular order.
+/// Searches for the vectors of each pool without a rank, with `workers` workers. One of these
+/// workers runs on the calling thread. Returns the results of all workers, in no particular order.
 ///
 /// # Errors
 ///
-/// Returns [`SearchFault::Memory`] if memory runs out or a thread cannot be started,
-/// [`SearchFault::Gate`] if the gate returns `false` for a pool, and [`SearchFault::Mixed`] if the
-/// results are inconsistent. All threads have then ended.
+/// Returns [`SearchFault::Memory`] if memory runs out or a thread cannot be started, and
+/// [`SearchFault::Gate`] if the gate returns `false` for a pool. Returns [`SearchFault::Mixed`] if
+/// the results are inconsistent. All other threads have ended before the error is returned.
 pub(crate) fn search_pools<R: Threads + Wait + Sync, G: PoolGate>(
     rt: &R,
     alloc: Global,
@@ -73,9 +73,9 @@ pub(crate) fn search_pools<R: Threads + Wait + Sync, G: PoolGate>(
     }
 }
 
-/// Joins the other workers and returns all results together. If workers failed, returns the fault
-/// of the first of them: the calling thread comes first, and then the others in the order in which
-/// they were started.
+/// Waits for the other workers to end, and returns the results of all workers together. `own` has
+/// the results of the calling thread. If the calling thread failed, returns its fault. Otherwise,
+/// if other workers failed, returns the fault of the failed worker that was started first.
 fn join_all<R: Threads>(
     rt: &R,
     own: Result<Vec<PoolVectors>, SearchFault>,
@@ -88,7 +88,7 @@ fn join_all<R: Threads>(
     all
 }
 
-/// Returns the results of both workers together. If a worker failed, returns its fault. If both
+/// Returns the results of two workers together. If one worker failed, returns its fault. If both
 /// failed, returns the fault of `first`.
 fn both(
     first: Result<Vec<PoolVectors>, SearchFault>,
