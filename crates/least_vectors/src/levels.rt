@@ -10,18 +10,18 @@ use std::alloc::{AllocError, Global};
 /// The value in `Levels::of_classes` of a class whose level is not known yet.
 const NO_LEVEL: u64 = u64::MAX;
 
-/// The levels of the classes of a plan, and the classes that clients submit, directly or through
-/// other jobs.
+/// The levels of the classes of a plan, and which of the classes are submitted by clients, directly
+/// or through other jobs.
 #[derive(Drop)]
 pub struct Levels {
     /// The level of each class: 1 plus the greatest level of the classes that it submits, or 0 if
-    /// it submits none.
+    /// it submits no class.
     pub of_classes: Vec<u64>,
     /// The classes in ascending order of levels: each class comes after all classes that it
     /// submits.
     pub order: Vec<usize>,
     /// For each class, whether clients submit it, directly or through other jobs. A class that is
-    /// not submitted never has a job, so it does not count towards any total.
+    /// not submitted never has a job, so its weights do not count towards any total.
     pub submitted: Vec<bool>,
 }
 
@@ -59,9 +59,11 @@ impl Levels {
     }
 
     /// Gives `level` to each class that has no level yet and submits only classes of lower levels,
-    /// and appends these classes to the order. For each class, `known` has the length of a prefix
-    /// of the body that is known to submit only classes of lower levels. The call does not check
-    /// these prefixes again, and extends them.
+    /// and appends these classes to the order.
+    ///
+    /// `known` has, for each class, the number of actions at the start of its body that are known
+    /// to submit only classes of lower levels. The call does not check these actions again, and
+    /// increases the numbers.
     fn add_level(&mut self, plan: &Plan, level: u64, known: &mut [usize]) -> Result<(), AllocError>
         ensures { vec_len self.new.of_classes ≡ vec_len self.old.of_classes }
     {
@@ -78,7 +80,8 @@ impl Levels {
     }
 
     /// Returns the length of the longest prefix of the class's body that submits only classes below
-    /// `level`. The result is at least `known`.
+    /// `level`. The first `known` actions are known to be in this prefix, and are not checked
+    /// again.
     fn known_actions(&self, class: &Class, level: u64, known: usize) -> usize {
         let mut known = known;
         for action in class.body.iter().skip(known) {
@@ -90,7 +93,7 @@ impl Levels {
         known
     }
 
-    /// Returns whether the action is not a submit, or submits a class below `level`.
+    /// Returns whether the action submits a class below `level`, or submits no class.
     fn is_below(&self, action: Action, level: u64) -> bool {
         match action {
             Action::Submit(class) => number_at(&self.of_classes, class) < level,

@@ -17,11 +17,11 @@ use job_bodies::Plan;
 use std::alloc::{AllocError, Global};
 use weights::Vector;
 
-/// The maximum number of loans for one vector. It bounds the time of a search.
+/// The maximum number of loans for one vector. This limit bounds the time of a search.
 const MAX_LOANS: usize = 256;
 
-/// A loan: the pool, the new weight of each of its workers, and the index of the resulting sketch
-/// in the cache.
+/// A loan, which gives each worker of one pool a new weight: the pool, this weight, and the index
+/// of the resulting sketch in the cache.
 #[derive(Clone, Copy)]
 pub(crate) struct Loan {
     pub(crate) pool: usize,
@@ -29,31 +29,33 @@ pub(crate) struct Loan {
     pub(crate) place: usize,
 }
 
-/// The weight of a worker of each pool after all loans, and the sketch for these weights.
+/// The result of all loans: the weight of a worker of each pool, and the sketch for these weights.
 #[derive(Drop)]
 pub(crate) struct Loans {
     pub(crate) workers: Vec<u64>,
-    /// The pools whose workers got weight by a loan. A later loan may have reset the workers of
-    /// some of them to 0.
+    /// The pools whose workers got weight by a loan. A later loan may have set the weight of some
+    /// of these workers to 0 again.
     pub(crate) lenders: Vec<usize>,
     pub(crate) sketch: Sketch,
 }
 
-/// Makes loans until the total is at most the limit of the target, no further loan helps, or
-/// [`MAX_LOANS`] loans were made. Returns the resulting worker weights and their sketch. The total
-/// may still be above the limit.
+/// Makes loans to reduce the total of the vector, and returns the resulting worker weights and
+/// their sketch. A *loan* gives each worker of one pool a weight, so that the queued jobs of this
+/// pool can weigh less. The loans end when one of these conditions holds:
 ///
-/// Each loan gives each worker of one pool the largest weight that a job of the pool has in its
-/// body, so that the queued jobs of the pool weigh less. The chosen pool is the one for which the
-/// total becomes smallest.
+/// - The total is at most the limit of the target.
+/// - No further loan helps. The total is then still above the limit.
+/// - [`MAX_LOANS`] loans were made. The total can then still be above the limit.
+///
+/// A loan gives each worker of its pool the largest weight that a job of this pool has in its body.
+/// This weight comes from the sketch in which the workers of the pool weigh 0. The pool is the one
+/// for which the total becomes smallest. A cache has the sketches of the worker weights whose
+/// totals were compared.
 ///
 /// Classes that are never submitted are ignored, because a loan for their jobs does not change the
-/// total. But there is no vector if such a class has a weight above `MAX_WEIGHT`. In this case the
-/// next loan chooses the pool whose workers can leave the fewest such classes, and gives these
+/// total. But there is no vector if such a class has a weight above `MAX_WEIGHT`. In this case, the
+/// next loan chooses the pool whose workers can leave the fewest such classes. It gives these
 /// workers the least weight that does so.
-///
-/// A cache has the sketches of the worker weights whose totals were compared. The largest weight of
-/// a lender's jobs comes from the sketch in which the lender's workers weigh 0.
 pub(crate) fn minimize_total(
     alloc: Global,
     plan: &Plan,
@@ -108,8 +110,8 @@ pub(crate) fn least_vector(
 }
 
 /// Returns the vector of the target's pool and kind with the smallest total that the search finds,
-/// or `None` if it finds none. The limit of the target must be 0, so that the search does not stop
-/// before that total. The total of the vector can be above the limit.
+/// or `None` if the search finds no vector. The limit of the target must be 0, so that the search
+/// does not stop early. The total of the returned vector can be above this limit.
 pub(crate) fn lightest_vector(
     alloc: Global,
     plan: &Plan,
@@ -129,8 +131,9 @@ pub(crate) fn lightest_vector(
     vector_of(alloc, plan, target, workers, &sketch)
 }
 
-/// Returns the next loan, or `None` if no loan helps. `place` is the index of the sketch for
-/// `workers`. `workers` is modified during the call, and is restored unless memory runs out.
+/// Returns the next loan, or `None` if no loan helps. `workers` has the current weights of workers,
+/// and `place` is the index of the sketch for them. The call modifies `workers`, and restores it
+/// before it returns, unless memory runs out.
 fn next_loan(
     sketch_cache: &mut SketchCache,
     workers: &mut [u64],
@@ -150,11 +153,11 @@ fn next_loan(
 }
 
 /// Returns the loan that gives the smallest total, or `None` if no loan makes the total smaller.
-/// `place` is the index of the sketch for `workers`. `workers` is modified during the call, and is
-/// restored unless memory runs out.
+/// `workers` has the current weights of workers, and `place` is the index of the sketch for them.
+/// The call modifies `workers`, and restores it before it returns, unless memory runs out.
 ///
-/// Only pools that may lend are tried. A loan is not tried if the total weight of all workers alone
-/// would then be at least the smallest total found so far.
+/// Only pools that may lend are tried. A loan is skipped if, after this loan, the workers alone
+/// would weigh at least the smallest total found so far.
 fn best_loan(
     sketch_cache: &mut SketchCache,
     workers: &mut [u64],
@@ -197,11 +200,13 @@ fn best_loan(
     Ok(best)
 }
 
-/// Returns the largest weight that a job of the pool has in its body if the workers of the pool
-/// weigh 0, and the job itself weighs as little as possible when it is done. Classes that are never
-/// submitted are ignored. `place` is the index of the sketch for `workers`; this sketch is used if
-/// the workers of the pool already weigh 0. `workers` is modified during the call, and is restored
-/// unless memory runs out.
+/// Returns the largest weight that a job of the pool has at any position of its body if the workers
+/// of the pool weigh 0. The weight is computed as if this job weighed as little as possible when it
+/// is done. Classes that are never submitted are ignored.
+///
+/// `workers` has the current weights of workers, and `place` is the index of the sketch for them.
+/// This sketch is used if the workers of the pool already weigh 0. The call modifies `workers`, and
+/// restores it before it returns, unless memory runs out.
 fn peak(
     sketch_cache: &mut SketchCache,
     workers: &mut [u64],

@@ -9,8 +9,8 @@ use job_bodies::{Action, Class, Plan};
 use std::alloc::{AllocError, Global};
 use weights::submitted_class;
 
-/// Returns the reach of each class for these ranks of the pools: the maximum of the rank of its
-/// pool and of the reaches of the classes whose jobs it gets.
+/// Returns the reach of each class, given the ranks of the pools. The reach of a class is the
+/// greatest of the rank of its pool and the reaches of the classes whose jobs it gets.
 ///
 /// # Errors
 ///

@@ -11,14 +11,16 @@ use crate::sketch_cache::SketchCache;
 use job_bodies::MAX_SIZE;
 use std::alloc::AllocError;
 
-/// The number of bisection steps that find one weight from 0 to [`MAX_SIZE`].
+/// The number of steps in which bisection finds one weight from 0 to [`MAX_SIZE`].
 const HALVINGS: usize = 20;
 
-/// Returns the loan that leaves the fewest overweight classes. A class is *overweight* if it is
-/// never submitted and has a weight above `MAX_WEIGHT`. If several loans leave the same number,
-/// returns the one for which all workers together weigh least. Returns `None` if no loan makes the
-/// number of overweight classes smaller. `place` is the index of the sketch for `workers`.
-/// `workers` is modified during the call, and is restored unless memory runs out.
+/// Returns the loan that leaves the fewest overweight classes, or `None` if no loan makes their
+/// number smaller. A class is *overweight* if it is never submitted and has a weight above
+/// `MAX_WEIGHT`. If several loans leave the same number of overweight classes, returns the one
+/// after which all workers together weigh least.
+///
+/// `workers` has the current weights of workers, and `place` is the index of the sketch for them.
+/// The call modifies `workers`, and restores it before it returns, unless memory runs out.
 pub(crate) fn relieving_loan(
     sketch_cache: &mut SketchCache,
     workers: &mut [u64],
@@ -66,9 +68,11 @@ pub(crate) fn relieving_loan(
 }
 
 /// Returns the least weight of a worker of the pool for which at most `overweight_unsubmitted`
-/// classes are overweight: never submitted, and with a weight above `MAX_WEIGHT`. Returns
-/// `MAX_SIZE` if no smaller weight is enough. Uses bisection, since heavier workers never leave
-/// more classes overweight. Changes the weight of the pool's workers in `workers`.
+/// classes are overweight. Returns `MAX_SIZE` if no smaller weight is enough. A class is
+/// *overweight* if it is never submitted and has a weight above `MAX_WEIGHT`.
+///
+/// Uses bisection, since heavier workers never leave more classes overweight. The call changes the
+/// weight of the pool's workers in `workers`.
 fn least_weight(
     sketch_cache: &SketchCache,
     workers: &mut [u64],

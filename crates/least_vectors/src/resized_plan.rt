@@ -15,18 +15,18 @@ use job_bodies::Plan;
 use std::alloc::{AllocError, Global};
 use weights::Vector;
 
-/// The summary of a vector: the weights of workers and the total, without the weights of jobs and
-/// clients.
+/// The summary of a vector: the weights of workers and the total of the vector, without the weights
+/// of jobs and clients.
 #[derive(Drop)]
 pub struct VectorSummary {
     /// For each pool, the weight of one of its workers.
     pub workers: Vec<u64>,
     /// The pools whose workers had weight at some point in the search. A search with other maximums
-    /// gives the same result if the maximums of these pools are the same and no other pool has a
-    /// smaller maximum.
+    /// gives the same result if these pools have the same maximums, and no other pool has a smaller
+    /// maximum.
     pub lenders: Vec<usize>,
-    /// The total: the weight of all clients at the start of their bodies, and of all workers if
-    /// each pool has its maximum of them.
+    /// The total of the vector: the weight of all clients at the start of their bodies, plus the
+    /// weight of all workers if each pool has its maximum of workers.
     pub total: u64,
 }
 
@@ -38,11 +38,12 @@ pub enum Kind<'a> {
     Standing,
     /// A lifetime vector. No workers have weight.
     Lifetime,
-    /// A blocked vector of a pool with the rank `rank`. The workers of this pool never have weight:
-    /// all of them together would weigh at least core, but the total must be below core.
+    /// A blocked vector of a pool with the rank `rank`. The workers of this pool never have weight.
+    /// With weight, all of them together would weigh at least as much as the core size, but the
+    /// total must be below the core size.
     Blocked {
-        /// The reach of each class: the maximum of the rank of its pool and of the reaches of the
-        /// classes whose jobs it gets.
+        /// The reach of each class. It is the greatest of the rank of the class's pool and the
+        /// reaches of the classes whose jobs the class gets.
         reach: &'a [u64],
         rank: u64,
         /// Whether the workers of other pools may have weight.
@@ -50,7 +51,7 @@ pub enum Kind<'a> {
     },
 }
 
-/// A plan whose maximums are replaced by others.
+/// A plan with other maximums in place of its own.
 #[derive(Clone, Copy)]
 pub struct ResizedPlan<'a> {
     pub plan: &'a Plan,
@@ -60,10 +61,12 @@ pub struct ResizedPlan<'a> {
 }
 
 impl ResizedPlan<'_> {
-    /// Searches for worker weights with which the total of the pool's vector is at most `enough`.
-    /// If it finds none, uses the worker weights with the smallest total that it found. Returns the
-    /// summary of the vector with these worker weights, or `None` if one of its numbers would be
-    /// above `MAX_WEIGHT` or a repeating client would need ever more weight.
+    /// Returns the summary of a vector of the pool with a total of at most `enough`. If the search
+    /// finds no such vector, returns the summary of the vector with the smallest total that it
+    /// found.
+    ///
+    /// Returns `None` if a number of that vector would be above `MAX_WEIGHT`, or if a repeating
+    /// client would need more weight in each repetition.
     ///
     /// # Errors
     ///
@@ -94,9 +97,10 @@ impl ResizedPlan<'_> {
         }))
     }
 
-    /// Returns the pool's vector with these worker weights, one for each pool. Returns `None` if a
-    /// number of the vector is above `MAX_WEIGHT`, or if the number of worker weights is wrong. The
-    /// conditions of a returned vector need not hold, so the caller must check them.
+    /// Returns the vector of this kind for the pool, with these worker weights, one for each pool.
+    /// Returns `None` if a number of the vector is above `MAX_WEIGHT`, or if the number of worker
+    /// weights is wrong. The conditions of the returned vector need not hold, so the caller must
+    /// check them.
     ///
     /// # Errors
     ///

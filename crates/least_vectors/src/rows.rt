@@ -12,8 +12,9 @@ use job_bodies::{Class, Client, Plan};
 use std::alloc::{AllocError, Global};
 use weights::Vector;
 
-/// Builds the complete vector of a sketch with these worker weights. Returns `None` if one of its
-/// numbers is above `MAX_WEIGHT`, or if there is not one worker weight for each pool.
+/// Returns the complete vector of a sketch, with the worker weights `workers`. Returns `None` if
+/// the vector has a number above `MAX_WEIGHT`, or if `workers` does not have one weight for each
+/// pool.
 pub(crate) fn vector_of(
     alloc: Global,
     plan: &Plan,
@@ -46,7 +47,7 @@ pub(crate) fn vector_of(
 }
 
 /// Returns the weights of a job of class `number`: when it is queued, at each position of its body,
-/// and when it is done. They are computed from the end of the body to its start.
+/// and when it is done. The weights are computed from the end of the body to its start.
 fn class_row(
     alloc: Global,
     target: &Target,
@@ -74,9 +75,9 @@ fn class_row(
     Ok(row)
 }
 
-/// Returns the weights of a client of this kind at each position of its body. They are computed
-/// from the end of the body to its start. The client weighs `start` at the end if it repeats, and
-/// otherwise 0.
+/// Returns the weights of a client of this kind at each position of its body. The weights are
+/// computed from the end of the body to its start. At the end, a client that repeats weighs
+/// `start`, and any other client weighs 0.
 fn client_row(
     alloc: Global,
     target: &Target,

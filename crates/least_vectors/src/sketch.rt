@@ -9,9 +9,9 @@ use job_bodies::{Action, Class, Client, MAX_WEIGHT, Plan};
 use std::alloc::{AllocError, Global};
 use weights::submitted_class;
 
-/// The total of a sketch if there is no vector with its worker weights, because another weight is
-/// above `MAX_WEIGHT` or a client that repeats would need ever more weight. A total that overflows
-/// also has this value.
+/// The total of a sketch for whose worker weights there is no vector. Then another weight would be
+/// above `MAX_WEIGHT`, or a repeating client would need more weight in each repetition. A total
+/// that overflows also has this value.
 pub(crate) const TOO_HEAVY: u64 = u64::MAX;
 
 /// The parts of a vector that determine its total, without the weights at the positions of bodies.
@@ -23,20 +23,20 @@ pub(crate) struct Sketch {
     pub(crate) done: Vec<u64>,
     /// The weight of a client of each kind at the start of its body.
     pub(crate) starts: Vec<u64>,
-    /// For each pool, the largest weight that one of its jobs has at any position of its body, if
-    /// the job itself weighs as little as possible when it is done. Classes that are never
-    /// submitted are ignored.
+    /// For each pool, the largest weight that a job of the pool has at any position of its body.
+    /// The weight is computed as if this job weighed as little as possible when it is done. Classes
+    /// that are never submitted are ignored.
     pub(crate) peaks: Vec<u64>,
     /// The total weight of all workers, if each pool has its maximum of them.
     pub(crate) on_loan: u64,
     /// The number of classes that are never submitted and have a weight above `MAX_WEIGHT`.
     pub(crate) overweight_unsubmitted: usize,
-    /// The total of the vector, or [`TOO_HEAVY`].
+    /// The total of the vector, or [`TOO_HEAVY`] if there is no vector.
     pub(crate) total: u64,
 }
 
 impl Sketch {
-    /// Computes the sketch of the target with these worker weights. The classes are processed in
+    /// Computes the sketch of the target with these worker weights. Processes the classes in
     /// ascending order of levels.
     pub(crate) fn of(
         alloc: Global,
@@ -66,12 +66,15 @@ impl Sketch {
         Ok(sketch)
     }
 
-    /// Computes the weights of a queued and of a done job of the class, and raises the peak of its
-    /// pool if the class is submitted. If a weight is above `MAX_WEIGHT`, sets the total to
-    /// [`TOO_HEAVY`], and counts the class as overweight if it is never submitted.
+    /// Computes the weights that a job of the class has when it is queued and when it is done. If
+    /// the class is submitted, raises the peak of its pool to the largest weight that the job has
+    /// in its body.
+    ///
+    /// If a weight is above `MAX_WEIGHT`, sets the total to [`TOO_HEAVY`] and, if the class is
+    /// never submitted, counts the class as overweight.
     ///
     /// A done job gets the greatest weight that its body allows, because a get then returns more
-    /// weight to its actor. A done job never weighs more than a queued job of its class.
+    /// weight to its actor. But a done job never weighs more than a queued job of its class.
     fn weigh_class(
         &mut self,
         target: &Target,
@@ -106,12 +109,13 @@ impl Sketch {
         }
     }
 
-    /// Computes the weight of a client of this kind at the start of its body, and adds the weights
-    /// of all clients of the kind to the total. Sets the total to [`TOO_HEAVY`] if a weight is
-    /// above `MAX_WEIGHT`, or if a client that repeats would need ever more weight.
+    /// Computes the weight of a client of this kind at the start of its body. Adds this weight to
+    /// the total once for each client of the kind.
     ///
-    /// A client that repeats must weigh as much at the end as at the start. If raising the weight
-    /// at the end to the weight at the start also raises the latter, there is no vector.
+    /// Sets the total to [`TOO_HEAVY`] if a weight is above `MAX_WEIGHT`, or if a repeating client
+    /// would need more weight in each repetition. A repeating client must weigh at least as much at
+    /// the end as at the start. There is no vector if raising the weight at the end to the weight
+    /// at the start raises the weight at the start too.
     fn weigh_client(&mut self, target: &Target, client: &Client) -> Result<(), AllocError> {
         let mut weight = Weight::at_end(0);
         let mut peak = 0;

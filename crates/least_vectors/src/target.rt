@@ -10,18 +10,18 @@ use weights::submitted_class;
 /// least 1.
 #[derive(Clone, Copy)]
 pub(crate) enum WeightRequirement<'a> {
-    /// While the job is queued, as in a standing vector.
+    /// While the job is queued. A standing vector has this requirement.
     WhileQueued,
-    /// At each get of a job of a class whose reach is at least `rank` (the rank of the pool), as in
-    /// a blocked vector.
+    /// At each get that waits for a job of a class whose reach is at least `rank`, which is the
+    /// rank of the pool. A blocked vector has this requirement.
     AtGets {
-        /// The reach of each class: the maximum of the rank of its pool and of the reaches of the
-        /// classes whose jobs it gets.
+        /// The reach of each class. It is the greatest of the rank of the class's pool and the
+        /// reaches of the classes whose jobs the class gets.
         reach: &'a [u64],
         rank: u64,
     },
-    /// At every point, and also when the job is done, as in a lifetime vector. A get then returns
-    /// no weight to its actor, and workers weigh 0.
+    /// At every point, and also when the job is done. A lifetime vector has this requirement. A get
+    /// returns no weight to its actor in such a vector, and workers weigh 0.
     Everywhere,
 }
 
@@ -48,7 +48,7 @@ pub(crate) struct Target<'a> {
     pub(crate) limit: u64,
     /// The pools whose workers may have weight.
     pub(crate) lenders: Lenders,
-    /// The maximum of each pool, or `None` if the plan's maximums are used.
+    /// The maximum of each pool, or `None` to use the maximums of the plan.
     pub(crate) maxes: Option<&'a [u64]>,
 }
 
@@ -88,7 +88,7 @@ impl<'a> Target<'a> {
     }
 
     /// Returns the target unchanged if its limit is positive. If the limit is 0, returns the target
-    /// without lenders, because a worker with weight would make the total positive.
+    /// without lenders, because the weight of any worker would make the total positive.
     pub(crate) fn without_useless_loans(self) -> Target<'a> {
         if self.limit > 0 {
             return self;
@@ -108,8 +108,8 @@ impl<'a> Target<'a> {
         }
     }
 
-    /// Returns the maximum of `pool`, whose index is `number`: the one in `maxes` or, if `maxes` is
-    /// `None`, the one that `pool` declares.
+    /// Returns the maximum of `pool`, whose index is `number`. This is the maximum in `maxes` or,
+    /// if `maxes` is `None`, the maximum that the pool declares.
     pub(crate) fn max_of(&self, number: usize, pool: &Pool) -> u64 {
         match self.maxes {
             Some(maxes) => number_at(maxes, number),
@@ -117,7 +117,8 @@ impl<'a> Target<'a> {
         }
     }
 
-    /// Returns the total weight of all workers, given the weight of a worker of each pool.
+    /// Returns the total weight of all workers if each pool has its maximum of workers. `workers`
+    /// has the weight of a worker of each pool.
     pub(crate) fn workers_weigh(&self, plan: &Plan, workers: &[u64]) -> u64 {
         let mut total = 0u64;
         for (number, pool) in plan.pools().iter().enumerate() {
@@ -127,7 +128,7 @@ impl<'a> Target<'a> {
         total
     }
 
-    /// Returns whether a get returns the weight of the done job to its actor.
+    /// Returns whether a get returns the weight of the done job to the actor that performs the get.
     pub(crate) fn gives_back(&self) -> bool {
         !matches!(self.requirement, WeightRequirement::Everywhere)
     }

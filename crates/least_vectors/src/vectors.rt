@@ -17,13 +17,15 @@ use job_bodies::Plan;
 use std::alloc::{AllocError, Global};
 use weights::{Bound, Vector};
 
-/// Returns the bound of the pool's queue: a standing vector or, if the search finds none, a
-/// lifetime vector. Returns `None` if the search finds neither with a total that fits the pool's
-/// sizes. Whether the pool may reject jobs has no effect on the search. The plan must have a pool
-/// with the index `pool`.
+/// Returns the bound of the pool's queue, or `None` if the search finds no bound. The plan must
+/// have a pool with the index `pool`. Whether the pool may reject jobs has no effect on the search.
 ///
-/// If the queue of the pool is unbounded, returns the standing vector with the smallest total that
-/// the search finds, however large this total is, or `None` if the search finds none.
+/// If the queue is bounded, the bound is a standing vector whose total is at most the capacity of
+/// the queue. If the search finds no such vector, the bound is a lifetime vector. Its total is at
+/// most the number of jobs that the pool accepts before it can refuse one.
+///
+/// If the queue is unbounded, the bound is the standing vector with the smallest total that the
+/// search finds, however large this total is.
 ///
 /// # Errors
 ///
@@ -54,8 +56,8 @@ pub fn pool_bound(
     }
 }
 
-/// Returns the standing vector of the pool with the smallest total that the search finds, or `None`
-/// if it finds none.
+/// Returns the standing vector with the smallest total that the search finds for the pool, or
+/// `None` if the search finds no standing vector.
 fn lightest_standing(
     alloc: Global,
     plan: &Plan,
@@ -71,8 +73,9 @@ fn lightest_standing(
     }
 }
 
-/// Returns the pool's blocked vector for this rank of the pool and these reaches of the classes, or
-/// `None` if the search finds none. The plan must have a pool with the index `pool`.
+/// Returns a blocked vector of the pool for this rank of the pool and these reaches of the classes.
+/// The total of the vector is below the pool's core. Returns `None` if the search finds no such
+/// vector. The plan must have a pool with the index `pool`.
 ///
 /// # Errors
 ///

@@ -5,8 +5,8 @@ ghost use Rattle.std.specs.Prelude.{◌≡◌, ◌≤◌};
 /// The least weight of an actor at a position of its body.
 #[derive(Clone, Copy, PartialEq, Eq)]
 pub(crate) struct Weight {
-    /// The least weight at this position. It depends on the weight at the end of the body, which
-    /// was passed to [`Weight::at_end`].
+    /// The least weight at this position. It depends on the weight that the actor has at the end of
+    /// the body, which was passed to [`Weight::at_end`].
     pub(crate) number: u64,
     /// The greatest increase of the weight at the end of the body that does not increase the weight
     /// at this position.
@@ -32,8 +32,8 @@ impl Weight {
         }
     }
 
-    /// Returns the weight before a submit of a job that weighs `job`, given this weight after the
-    /// submit.
+    /// Returns the weight before a submit, given this weight after the submit. `job` is the weight
+    /// of the queued job.
     pub(crate) fn plus(self, job: u64) -> Weight
         ensures { self.number ≤ result.number }
     {
@@ -43,8 +43,8 @@ impl Weight {
         }
     }
 
-    /// Returns the weight before a get that gives the actor the weight `back`, given this weight
-    /// after the get. The result is 0 if `back` is larger than this weight.
+    /// Returns the weight before a get, given this weight after the get. `back` is the weight that
+    /// the get gives to the actor. The result is 0 if `back` is larger than this weight.
     pub(crate) fn less(self, back: u64) -> Weight
         ensures { result.number ≤ self.number }
     {
