@@ -20,8 +20,8 @@ use job_bodies::{Action, Class, Plan};
 /// A failing row of a blocked vector: its `left` is greater than its `right`.
 pub type BlockedFault = Row;
 
-/// Passes row B1 of the action at `position` of class `number` to the visitor. Does nothing if the
-/// action is not a counted get.
+/// Passes condition B1 (see [`Rule`]) for the action at `position` of class `number` to the
+/// visitor. Does nothing if the action is not a counted get.
 fn visit_counted_row<C: Counted, V: RowVisitor>(
     counted: &C,
     vector: &Vector,
@@ -46,7 +46,7 @@ fn visit_counted_row<C: Counted, V: RowVisitor>(
     }
 }
 
-/// Passes row B1 of each counted get of class `number` to the visitor.
+/// Passes condition B1 for each counted get of class `number` to the visitor.
 fn visit_counted_rows<C: Counted, V: RowVisitor>(
     plan: &Plan,
     counted: &C,
@@ -67,8 +67,8 @@ fn visit_counted_rows<C: Counted, V: RowVisitor>(
     }
 }
 
-/// Passes row B1 of each counted get of class `number` to the visitor. Does nothing if the class
-/// does not belong to the pool.
+/// Passes condition B1 for each counted get of class `number` to the visitor. Does nothing if the
+/// class does not belong to the pool.
 fn visit_counted_rows_of<C: Counted, V: RowVisitor>(
     plan: &Plan,
     pool: usize,
@@ -90,7 +90,7 @@ fn visit_counted_rows_of<C: Counted, V: RowVisitor>(
     }
 }
 
-/// Passes row B1 of each counted get of each class of the pool to the visitor.
+/// Passes condition B1 for each counted get of each class of the pool to the visitor.
 fn visit_all_counted_rows<C: Counted, V: RowVisitor>(
     plan: &Plan,
     pool: usize,
@@ -110,8 +110,11 @@ fn visit_all_counted_rows<C: Counted, V: RowVisitor>(
     }
 }
 
-/// Passes all conditions of the pool's blocked vector to the visitor: first the rows of
-/// [`Vector::visit_rows`], then B1 of each counted get of each class of the pool, then B2.
+/// Passes all conditions of the pool's blocked vector to the visitor, in this order (see [`Rule`]):
+///
+/// 1. The conditions that [`Vector::visit_rows`] passes.
+/// 2. B1 for each counted get of each class of the pool.
+/// 3. B2.
 pub fn visit_blocked_rows<C: Counted, V: RowVisitor>(
     plan: &Plan,
     pool: usize,

@@ -53,8 +53,8 @@ pub fn submitted_class(actions: &[Action], submit: usize) -> usize
     }
 }
 
-/// Returns the weight that an actor receives when it gets a job of the class: the weight of the
-/// done job, or 0 if `get_return` is `NoWeight`.
+/// Returns the weight that an actor receives when it gets a job of the class. This is the weight of
+/// the done job, or 0 if `get_return` is `NoWeight`.
 fn returned_weight(get_return: GetReturn, plan: &Plan, vector: &Vector, class: usize) -> u64
     requires fits { IsTrue (spec.vector_fits plan.now vector.now) }
     requires class { class < length plan.now.classes }
@@ -69,7 +69,8 @@ fn returned_weight(get_return: GetReturn, plan: &Plan, vector: &Vector, class: u
     }
 }
 
-/// Returns the row of the action at `position` of the body.
+/// Returns the condition for the action at `position` of the body: V2 for `work`, V3 for a submit,
+/// and V5 or L5 for a get.
 fn action_row(
     get_return: GetReturn,
     plan: &Plan,
@@ -101,7 +102,7 @@ fn action_row(
     Row::new(rule, place, left, right)
 }
 
-/// Passes the row of each action of the body to the visitor, in order.
+/// Passes the condition for each action of the body to the visitor, in order.
 pub(crate) fn visit_body_rows<V: RowVisitor>(
     get_return: GetReturn,
     plan: &Plan,

@@ -11,14 +11,16 @@ use crate::lifetime::lifetime_limit;
 use crate::{RowVisitor, StandingFault, Vector};
 use job_bodies::Plan;
 
-/// A vector which shows that a pool never refuses a job.
+/// A vector that bounds a pool's queue. In a certificate that accepts the plan, it shows that the
+/// pool never refuses a job.
 #[derive(Debug, Drop)]
 pub enum Bound {
-    /// A standing vector. It shows that the number of queued jobs never exceeds the capacity of the
-    /// queue.
+    /// A standing vector. If the queue is bounded, the conditions of this vector limit the number
+    /// of queued jobs to the capacity of the queue.
     Standing(Vector),
-    /// A lifetime vector. It shows that the number of jobs that are ever submitted to the pool is
-    /// at most the number that the pool accepts before it can refuse one.
+    /// A lifetime vector. If the queue is bounded, the conditions of this vector limit the number
+    /// of jobs that are ever submitted to the pool. The limit is the number of jobs that the pool
+    /// accepts before it can refuse a job.
     Lifetime(Vector),
 }
 
@@ -39,9 +41,9 @@ impl Bound {
         matches!(self, Bound::Lifetime(_))
     }
 
-    /// Returns the limit of the vector's total. For a standing vector, this is the capacity of the
-    /// queue. For a lifetime vector, it is the number of jobs that the pool accepts before it can
-    /// refuse one.
+    /// Returns the limit of the vector's total. For a standing vector, the limit is the capacity of
+    /// the queue. For a lifetime vector, it is the number of jobs that the pool accepts before it
+    /// can refuse a job. If the queue is unbounded, the limit has no effect.
     pub fn limit(&self, plan: &Plan, pool: usize) -> u64
         requires { pool < length plan.now.pools }
         ensures { result ≡ spec.bound_limit plan.now pool self.now }

@@ -27,9 +27,9 @@ fn is_counted_in(plan: &Plan, ranks: &Ranks, number: usize, class: &Class, posit
 }
 
 impl Ranks {
-    /// Returns whether the action at `position` of the class's body is a counted get. A get is
-    /// counted exactly when the reach of the class whose job it gets is at least the rank of the
-    /// pool of `class`.
+    /// Returns whether the action at `position` of the class's body is a counted get. A get of a
+    /// job is counted exactly when the reach of that job's class is at least the rank of the pool
+    /// of `class`.
     pub fn is_counted(&self, plan: &Plan, class: usize, position: usize) -> bool
         requires fits { IsTrue (spec.ranks_fit plan.now self.now) }
         requires class { class < length plan.now.classes }
@@ -40,7 +40,8 @@ impl Ranks {
     }
 }
 
-/// A plan with ranks that have its shape. The ranks decide which gets of the plan are counted.
+/// A plan, and ranks that have the shape of this plan. The ranks decide which gets of the plan are
+/// counted.
 #[derive(Clone, Copy)]
 pub struct RanksOf<'a> {
     pub plan: &'a Plan,
@@ -49,7 +50,7 @@ pub struct RanksOf<'a> {
 }
 
 impl<'a> RanksOf<'a> {
-    /// Creates the pair of a plan and ranks that have its shape.
+    /// Creates the pair of a plan and its ranks, which must have the shape of the plan.
     pub fn new(plan: &'a Plan, ranks: &'a Ranks) -> RanksOf<'a>
         requires { IsTrue (spec.ranks_fit plan.now ranks.now) }
         ensures plan { result.plan.now ≡ plan.now }

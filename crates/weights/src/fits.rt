@@ -30,16 +30,24 @@ fn are_small_rows(rows: &[Vec<u64>]) -> bool
 
 impl Vector {
     /// Returns whether the vector has the shape of the plan, and each number is at most
-    /// [`MAX_WEIGHT`]. A vector of this shape has a number for each pool, for each point of each
-    /// class and for each position of each client kind.
+    /// [`MAX_WEIGHT`]. A vector has the shape of the plan if it has these numbers:
+    ///
+    /// - A number for each pool.
+    /// - For each class, a number for a queued job, for each position of the body, and for a done
+    ///   job.
+    /// - For each client kind, a number for each position of the body.
     pub fn fits(&self, plan: &Plan) -> bool
         ensures { result ≡ spec.vector_fits plan.now self.now }
     {
         self.has_shape(plan) && self.has_small_numbers()
     }
 
-    /// Returns whether the vector has a number for each pool, for each point of each class and for
-    /// each position of each client kind.
+    /// Returns whether the vector has the shape of the plan, which means that it has these numbers:
+    ///
+    /// - A number for each pool.
+    /// - For each class, a number for a queued job, for each position of the body, and for a done
+    ///   job.
+    /// - For each client kind, a number for each position of the body.
     fn has_shape(&self, plan: &Plan) -> bool
         ensures { result ≡ spec.has_shape plan.now self.now }
     {
@@ -50,8 +58,8 @@ impl Vector {
             && self.has_client_shapes(plan)
     }
 
-    /// Returns whether the vector has, for each class, a number for a queued job, for each position
-    /// of its body, and for a done job.
+    /// Returns whether the vector has the right number of weights for each class: one for a queued
+    /// job, one for each position of the body, and one for a done job.
     fn has_class_shapes(&self, plan: &Plan) -> bool
         requires { length self.now.classes ≡ length plan.now.classes }
         ensures { result

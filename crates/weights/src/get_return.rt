@@ -5,7 +5,7 @@ ghost use Rattle.weights.specs.GetReturn.{get_rule};
 
 use crate::Rule;
 
-/// The part of a done job's weight that a get gives its actor.
+/// The part of a done job's weight that a get gives to the actor that performs the get.
 #[derive(Clone, Copy, PartialEq, Eq)]
 pub enum GetReturn {
     /// The whole weight of the done job, as in standing and blocked vectors.

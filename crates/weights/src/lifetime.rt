@@ -15,8 +15,8 @@ ghost use Rattle.weights.specs.Visits.{Visits};
 use crate::{FirstFault, GetReturn, Place, Row, RowVisitor, Rule, StandingFault, Vector};
 use job_bodies::{Class, Plan, Pool};
 
-/// Returns the number of jobs that a pool accepts before it can refuse one. This is the capacity of
-/// its queue plus its maximum, minus its prestarted threads.
+/// Returns the number of jobs that a pool accepts before it can refuse a job. This is the capacity
+/// of the queue plus the maximum, minus the number of prestarted threads.
 pub(crate) fn lifetime_limit(pool: &Pool) -> u64
     requires { IsTrue (has_valid_sizes pool.now) }
     ensures { result ≡ lifetime.lifetime_limit pool.now }
@@ -24,7 +24,7 @@ pub(crate) fn lifetime_limit(pool: &Pool) -> u64
     pool.queue + pool.max - pool.first_workers()
 }
 
-/// Passes row L1 of each pool to the visitor.
+/// Passes condition L1 for each pool to the visitor.
 fn visit_worker_rows<V: RowVisitor>(plan: &Plan, vector: &Vector, visitor: &mut V)
     requires { IsTrue (spec.vector_fits plan.now vector.now) }
     ensures { let all = map (λ entry. row L1 (place.Worker entry.0) (spec.workers_weight vector.now entry.0) 0) (enumerate_from 0 plan.now.pools) in
@@ -40,7 +40,7 @@ fn visit_worker_rows<V: RowVisitor>(plan: &Plan, vector: &Vector, visitor: &mut 
     }
 }
 
-/// Passes one row L2 for each of `weights` to the visitor. `weights` are the weights of a job of
+/// Passes condition L2 for each of `weights` to the visitor. `weights` are the weights of a job of
 /// the class: when it is queued, at each position of its body, and when it is done.
 fn visit_l2_rows<V: RowVisitor>(class: usize, weights: &[u64], visitor: &mut V)
     ensures { Visits V.HasSeen visitor.old visitor.new
@@ -51,8 +51,8 @@ fn visit_l2_rows<V: RowVisitor>(class: usize, weights: &[u64], visitor: &mut V)
     }
 }
 
-/// Passes row L2 of each weight of class `number` to the visitor. Does nothing if the class does
-/// not belong to the pool.
+/// Passes condition L2 for each weight of class `number` to the visitor. Does nothing if the class
+/// does not belong to the pool.
 fn visit_l2_rows_of<V: RowVisitor>(
     plan: &Plan,
     pool: usize,
@@ -72,7 +72,7 @@ fn visit_l2_rows_of<V: RowVisitor>(
     }
 }
 
-/// Passes row L2 of each weight of each class of the pool to the visitor.
+/// Passes condition L2 for each weight of each class of the pool to the visitor.
 fn visit_all_l2_rows<V: RowVisitor>(plan: &Plan, pool: usize, vector: &Vector, visitor: &mut V)
     requires { IsTrue (spec.vector_fits plan.now vector.now) }
     ensures { let all = flat_map (λ entry. map (λ weight. row L2 (place.Class entry.0) 1 weight) (spec.class_weights vector.now entry.0)) (classes_of plan.now pool) in
@@ -84,10 +84,13 @@ fn visit_all_l2_rows<V: RowVisitor>(plan: &Plan, pool: usize, vector: &Vector, v
 }
 
 impl Vector {
-    /// Passes all conditions of the pool's lifetime vector to the visitor: first L1 of each pool,
-    /// and then the rows of [`Vector::visit_rows`] with L5 in place of V5. Unless the queue of the
-    /// pool is unbounded, these are followed by L2 of each weight of each class of the pool, and
-    /// L3.
+    /// Passes all conditions of the pool's lifetime vector to the visitor, in this order (see
+    /// [`Rule`]):
+    ///
+    /// 1. L1 for each pool.
+    /// 2. The conditions that [`Vector::visit_rows`] passes, with L5 in place of V5.
+    /// 3. If the queue of the pool is bounded, L2 for each weight of each class of the pool, and
+    ///    then L3.
     pub fn visit_lifetime_rows<V: RowVisitor>(&self, plan: &Plan, pool: usize, visitor: &mut V)
         requires fits { IsTrue (spec.vector_fits plan.now self.now) }
         requires pool { pool < length plan.now.pools }
@@ -99,8 +102,8 @@ impl Vector {
         self.visit_room_rows(plan, pool, visitor);
     }
 
-    /// Passes L2 of each weight of each class of the pool and then L3 to the visitor. Does nothing
-    /// if the queue of the pool is unbounded.
+    /// Passes L2 for each weight of each class of the pool, and then L3, to the visitor. Does
+    /// nothing if the queue of the pool is unbounded.
     fn visit_room_rows<V: RowVisitor>(&self, plan: &Plan, pool: usize, visitor: &mut V)
         requires fits { IsTrue (spec.vector_fits plan.now self.now) }
         requires pool { pool < length plan.now.pools }

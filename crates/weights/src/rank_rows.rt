@@ -18,8 +18,8 @@ use job_bodies::{Action, Class, Plan};
 /// A failing row of ranks: its `left` is greater than its `right`.
 pub type RankFault = Row;
 
-/// Returns row K2 of the get at `position` of class `number`. The row requires that the reach of
-/// the class is at least the reach of the class of the get's job.
+/// Returns condition K2 for the get at `position` of class `number`. It requires that the reach of
+/// this class is at least the reach of the class whose job the get waits for.
 fn get_row(
     plan: &Plan,
     ranks: &Ranks,
@@ -43,8 +43,8 @@ fn get_row(
     )
 }
 
-/// Returns row K3 of the submit at `position` of class `number`. The row requires that the level of
-/// the class is above the level of the submitted class.
+/// Returns condition K3 for the submit at `position` of class `number`. It requires that the level
+/// of this class is above the level of the submitted class.
 fn submit_row(plan: &Plan, ranks: &Ranks, number: usize, position: usize, submitted: usize) -> Row
     requires fits { IsTrue (spec.ranks_fit plan.now ranks.now) }
     requires class { number < length plan.now.classes }
@@ -61,8 +61,8 @@ fn submit_row(plan: &Plan, ranks: &Ranks, number: usize, position: usize, submit
     )
 }
 
-/// Passes the row of the action at `position` of class `number` to the visitor: K2 of a get, or K3
-/// of a submit. Other actions have no row.
+/// Passes the condition for the action at `position` of class `number` to the visitor: K2 for a
+/// get, or K3 for a submit. Does nothing for other actions, which have no condition.
 fn visit_action_row<V: RowVisitor>(
     plan: &Plan,
     ranks: &Ranks,
@@ -90,7 +90,7 @@ fn visit_action_row<V: RowVisitor>(
     }
 }
 
-/// Returns row K1 of class `number`. The row requires that the reach of the class is at least the
+/// Returns condition K1 for class `number`. It requires that the reach of the class is at least the
 /// rank of the class's pool.
 fn own_row(plan: &Plan, ranks: &Ranks, number: usize, class: &Class) -> Row
     requires fits { IsTrue (spec.ranks_fit plan.now ranks.now) }
@@ -108,7 +108,7 @@ fn own_row(plan: &Plan, ranks: &Ranks, number: usize, class: &Class) -> Row
     )
 }
 
-/// Passes the row of each get and submit of class `number` to the visitor.
+/// Passes the condition for each get and each submit of class `number` to the visitor.
 fn visit_action_rows<V: RowVisitor>(
     plan: &Plan,
     ranks: &Ranks,
@@ -127,8 +127,8 @@ fn visit_action_rows<V: RowVisitor>(
     }
 }
 
-/// Passes the rows of class `number` to the visitor: K1, and then, in the order of the body, K2 of
-/// each get and K3 of each submit.
+/// Passes the conditions for class `number` to the visitor: first K1, and then, in the order of the
+/// body, K2 for each get and K3 for each submit.
 fn visit_class_rows<V: RowVisitor>(
     plan: &Plan,
     ranks: &Ranks,
@@ -147,8 +147,8 @@ fn visit_class_rows<V: RowVisitor>(
 }
 
 impl Ranks {
-    /// Passes all conditions of the ranks to the visitor: for each class, K1, and then, in the
-    /// order of the body, K2 of each get and K3 of each submit.
+    /// Passes all conditions of the ranks to the visitor. For each class, these are K1, and then,
+    /// in the order of the body, K2 for each get and K3 for each submit.
     pub fn visit_rank_rows<V: RowVisitor>(&self, plan: &Plan, visitor: &mut V)
         requires { IsTrue (spec.ranks_fit plan.now self.now) }
         ensures { Visits V.HasSeen visitor.old visitor.new (spec.rank_rows plan.now self.now) }

@@ -8,16 +8,17 @@ use job_bodies::Plan;
 use std::marker::Model;
 
 /// The ranks of pools, and the reaches and levels of classes, in plan order. The ranks and reaches
-/// decide which gets are counted, and the levels show that no class submits itself. Each number is
-/// from 0 to [`MAX_WEIGHT`](job_bodies::MAX_WEIGHT).
+/// decide which gets are counted. The levels show that no class submits itself. A certificate
+/// requires that each number is at most [`MAX_WEIGHT`](job_bodies::MAX_WEIGHT).
 #[derive(Debug, Drop)]
 pub struct Ranks {
     /// The rank of each pool.
     pub pools: Vec<u64>,
-    /// The reach of each class. It is at least the rank of the class's pool, and at least the reach
-    /// of each class whose jobs the class gets.
+    /// The reach of each class. A certificate requires that this number is at least the rank of the
+    /// class's pool. It must also be at least the reach of each class whose jobs the class gets.
     pub reach: Vec<u64>,
-    /// The level of each class, which is above the level of each class that it submits.
+    /// The level of each class. A certificate requires that the level is above the level of each
+    /// class that the class submits.
     pub levels: Vec<u64>,
 }
 
@@ -52,8 +53,8 @@ impl Ranks {
         self.levels[class]
     }
 
-    /// Returns whether there is a rank for each pool, and a reach and a level for each class, and
-    /// whether each number is at most [`MAX_WEIGHT`](job_bodies::MAX_WEIGHT).
+    /// Returns whether the ranks fit the plan: there is a rank for each pool, there are a reach and
+    /// a level for each class, and each number is at most [`MAX_WEIGHT`](job_bodies::MAX_WEIGHT).
     pub fn fits(&self, plan: &Plan) -> bool
         ensures { result ≡ spec.ranks_fit plan.now self.now }
     {

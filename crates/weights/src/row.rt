@@ -3,8 +3,9 @@
 ghost use Rattle.std.specs.Prelude.{◌≡◌};
 ghost use Rattle.weights.specs.Row.{fails, row};
 
-/// A rule of a certificate. Most rules apply at several places of the plan. [`Ranks`](crate::Ranks)
-/// explains reaches and levels, and [`Counted`](crate::Counted) explains counted gets.
+/// A rule of a certificate. Most rules give conditions at several places of the plan.
+/// [`Ranks`](crate::Ranks) explains reaches and levels, and [`Counted`](crate::Counted) explains
+/// counted gets.
 #[derive(Clone, Copy, Debug, PartialEq, Eq)]
 pub enum Rule {
     /// The reach of a class is at least the rank of its pool.
@@ -21,27 +22,31 @@ pub enum Rule {
     /// The weight of a job at its first position is at most the weight of the queued job plus the
     /// weight of a worker of its pool.
     V4,
-    /// A get increases the weight of its actor by at most the weight of the done job.
+    /// A get increases the weight of the actor that performs it by at most the weight of the done
+    /// job.
     V5,
     /// The weight of a job at its end is at least the weight of the done job plus the weight of a
     /// worker of its pool.
     V6,
     /// The weight of a client that repeats is at least as large at its end as at its start.
     V7,
-    /// In the standing vector of a pool, a queued job of the pool weighs at least 1.
+    /// In the standing vector of a pool with a bounded queue, a queued job of the pool weighs at
+    /// least 1.
     S1,
-    /// The total of the standing vector of a pool is at most the capacity of the pool's queue.
+    /// If the queue of a pool is bounded, the total of the pool's standing vector is at most the
+    /// capacity of the queue.
     S2,
     /// In a lifetime vector, each worker weighs 0.
     L1,
-    /// In the lifetime vector of a pool, a job of the pool weighs at least 1 at every point: when
-    /// it is queued, at each position of its body, and when it is done.
+    /// In the lifetime vector of a pool with a bounded queue, a job of the pool weighs at least 1
+    /// at every point. The points are: when it is queued, each position of its body, and when it is
+    /// done.
     L2,
-    /// The total of the lifetime vector of a pool is at most the capacity of the pool's queue plus
-    /// its maximum, minus its prestarted threads.
+    /// If the queue of a pool is bounded, the total of the pool's lifetime vector has this limit:
+    /// the capacity of the queue plus the maximum, minus the number of prestarted threads.
     L3,
-    /// In a lifetime vector, a get does not increase the weight of its actor. This rule replaces
-    /// V5.
+    /// In a lifetime vector, a get does not increase the weight of the actor that performs it. In
+    /// such a vector, this rule replaces V5.
     L5,
     /// In the blocked vector of a pool, a job of the pool weighs at least 1 at each counted get.
     B1,
@@ -49,8 +54,8 @@ pub enum Rule {
     B2,
 }
 
-/// The place of a rule: a class or a client kind, one action of its body, the workers of a pool, or
-/// the whole plan. Pools, classes, client kinds and actions are counted from 0.
+/// The place at which a rule applies: a class, a client kind, one action of a body, the workers of
+/// a pool, or the whole plan. Pools, classes, client kinds and actions are counted from 0.
 #[derive(Clone, Copy, Debug, PartialEq, Eq)]
 pub enum Place {
     Class(usize),
@@ -64,7 +69,7 @@ pub enum Place {
     Total,
 }
 
-/// A rule at its place: the inequality `left <= right`.
+/// A rule at one place: the condition that `left` is at most `right`.
 #[derive(Clone, Copy, Debug, PartialEq, Eq)]
 pub struct Row {
     pub rule: Rule,
@@ -86,7 +91,7 @@ impl Row {
         }
     }
 
-    /// Returns whether the inequality does not hold: `left` is greater than `right`.
+    /// Returns whether the condition does not hold: `left` is greater than `right`.
     pub fn fails(self) -> bool
         ensures { result ≡ fails self }
     {

@@ -16,8 +16,8 @@ use crate::body::{Body, BodyOwner, visit_body_rows};
 use crate::{GetReturn, Place, Row, RowVisitor, Rule, Vector};
 use job_bodies::{Class, Client, Plan};
 
-/// Returns row V4 of class `number`. The row requires that the weight of a job at its first
-/// position is at most the weight of the queued job plus the weight of a worker of its pool.
+/// Returns condition V4 for class `number`. It requires that a job at its first position weighs at
+/// most as much as the queued job plus a worker of its pool.
 fn take_row(plan: &Plan, vector: &Vector, number: usize, class: &Class) -> Row
     requires fits { IsTrue (spec.vector_fits plan.now vector.now) }
     requires well_formed { IsWellFormed plan.now }
@@ -36,8 +36,8 @@ fn take_row(plan: &Plan, vector: &Vector, number: usize, class: &Class) -> Row
     )
 }
 
-/// Returns row V6 of class `number`. The row requires that the weight of a job at its end is at
-/// least the weight of the done job plus the weight of a worker of its pool.
+/// Returns condition V6 for class `number`. It requires that a job at its end weighs at least as
+/// much as the done job plus a worker of its pool.
 fn end_row(plan: &Plan, vector: &Vector, number: usize, class: &Class) -> Row
     requires fits { IsTrue (spec.vector_fits plan.now vector.now) }
     requires well_formed { IsWellFormed plan.now }
@@ -56,7 +56,8 @@ fn end_row(plan: &Plan, vector: &Vector, number: usize, class: &Class) -> Row
     )
 }
 
-/// Passes the rows of class `number` to the visitor: V4, then the rows of its actions, then V6.
+/// Passes the conditions for class `number` to the visitor: V4, then the conditions for its
+/// actions, and then V6.
 fn visit_class_rows<V: RowVisitor>(
     get_return: GetReturn,
     plan: &Plan,
@@ -81,8 +82,8 @@ fn visit_class_rows<V: RowVisitor>(
     visitor.visit(end_row(plan, vector, number, class));
 }
 
-/// Returns row V7 of client kind `number`. The row requires that the weight of a client at its end
-/// is at least its weight at its start.
+/// Returns condition V7 for client kind `number`. It requires that a client weighs at least as much
+/// at its end as at its start.
 fn loop_row(plan: &Plan, vector: &Vector, number: usize, client: &Client) -> Row
     requires fits { IsTrue (spec.vector_fits plan.now vector.now) }
     requires well_formed { IsWellFormed plan.now }
@@ -99,8 +100,8 @@ fn loop_row(plan: &Plan, vector: &Vector, number: usize, client: &Client) -> Row
     )
 }
 
-/// Passes the rows of client kind `number` to the visitor: the rows of its actions, and then V7 if
-/// the kind repeats.
+/// Passes the conditions for client kind `number` to the visitor: those for its actions, and then
+/// V7 if the kind repeats.
 fn visit_client_rows<V: RowVisitor>(
     get_return: GetReturn,
     plan: &Plan,
@@ -159,8 +160,8 @@ fn visit_clients<V: RowVisitor>(
 }
 
 impl Vector {
-    /// Passes the rows V2 to V7 to the visitor: those of each class, and then those of each client
-    /// kind. L5 replaces V5 if `get_return` is `NoWeight`.
+    /// Passes the conditions V2 to V7 to the visitor: first those for each class, and then those
+    /// for each client kind. If `get_return` is `NoWeight`, L5 replaces V5.
     pub fn visit_rows<V: RowVisitor>(&self, plan: &Plan, get_return: GetReturn, visitor: &mut V)
         requires fits { IsTrue (spec.vector_fits plan.now self.now) }
         ensures { Visits V.HasSeen visitor.old visitor.new (rows get_return plan.now self.now) }

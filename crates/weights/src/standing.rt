@@ -16,8 +16,8 @@ ghost use Rattle.weights.specs.Visits.{Visits};
 use crate::{FirstFault, GetReturn, Place, Row, RowFault, RowVisitor, Rule, StandingFault, Vector};
 use job_bodies::{Class, Plan};
 
-/// Passes row S1 of class `number` to the visitor. Does nothing if the class does not belong to the
-/// pool.
+/// Passes condition S1 for class `number` to the visitor. Does nothing if the class does not belong
+/// to the pool.
 fn visit_queued_row<V: RowVisitor>(
     plan: &Plan,
     pool: usize,
@@ -42,7 +42,7 @@ fn visit_queued_row<V: RowVisitor>(
     }
 }
 
-/// Passes row S1 of each class of the pool to the visitor.
+/// Passes condition S1 for each class of the pool to the visitor.
 fn visit_queued_rows<V: RowVisitor>(plan: &Plan, pool: usize, vector: &Vector, visitor: &mut V)
     requires { IsTrue (spec.vector_fits plan.now vector.now) }
     ensures { let all = map (λ entry. row S1 (place.Class entry.0) 1 (spec.queued_weight vector.now entry.0)) (classes_of plan.now pool) in
@@ -54,9 +54,11 @@ fn visit_queued_rows<V: RowVisitor>(plan: &Plan, pool: usize, vector: &Vector, v
 }
 
 impl Vector {
-    /// Passes all conditions of the pool's standing vector to the visitor: first the rows of
-    /// [`Vector::visit_rows`], and then, unless the queue of the pool is unbounded, S1 of each
-    /// class of the pool and S2.
+    /// Passes all conditions of the pool's standing vector to the visitor, in this order (see
+    /// [`Rule`]):
+    ///
+    /// 1. The conditions that [`Vector::visit_rows`] passes.
+    /// 2. If the queue of the pool is bounded, S1 for each class of the pool, and then S2.
     pub fn visit_standing_rows<V: RowVisitor>(&self, plan: &Plan, pool: usize, visitor: &mut V)
         requires fits { IsTrue (spec.vector_fits plan.now self.now) }
         requires pool { pool < length plan.now.pools }
@@ -66,8 +68,8 @@ impl Vector {
         self.visit_capacity_rows(plan, pool, visitor);
     }
 
-    /// Passes S1 of each class of the pool and then S2 to the visitor. Does nothing if the queue of
-    /// the pool is unbounded.
+    /// Passes S1 for each class of the pool, and then S2, to the visitor. Does nothing if the queue
+    /// of the pool is unbounded.
     fn visit_capacity_rows<V: RowVisitor>(&self, plan: &Plan, pool: usize, visitor: &mut V)
         requires fits { IsTrue (spec.vector_fits plan.now self.now) }
         requires pool { pool < length plan.now.pools }
@@ -81,7 +83,7 @@ impl Vector {
         visitor.visit(Row::new(Rule::S2, Place::Total, self.total(plan), sizes.queue));
     }
 
-    /// Returns the first condition from V2 to V7 that fails, in the order of
+    /// Returns the first of the conditions V2 to V7 that fails, in the order of
     /// [`Vector::visit_rows`], or `None` if all hold. Allocates no memory.
     pub fn first_fault(&self, plan: &Plan) -> Option<RowFault>
         requires { IsTrue (spec.vector_fits plan.now self.now) }

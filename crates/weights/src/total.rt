@@ -24,7 +24,7 @@ fn clients_total(plan: &Plan, vector: &Vector) -> u64
     total
 }
 
-/// Returns the total weight of all workers, if each pool has its maximum of them.
+/// Returns the total weight of all workers if each pool has its maximum of workers.
 fn workers_total(plan: &Plan, vector: &Vector) -> u64
     requires { IsTrue (spec.vector_fits plan.now vector.now) }
     ensures value { result
@@ -41,7 +41,7 @@ fn workers_total(plan: &Plan, vector: &Vector) -> u64
 
 impl Vector {
     /// Returns the total of the vector: the weight of all clients at their start, plus the weight
-    /// of all workers if each pool has its maximum of them. The sum never overflows.
+    /// of all workers if each pool has its maximum of workers. The sum never overflows.
     pub fn total(&self, plan: &Plan) -> u64
         requires { IsTrue (spec.vector_fits plan.now self.now) }
         ensures { result ≡ spec.total plan.now self.now }

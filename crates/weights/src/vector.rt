@@ -5,8 +5,9 @@ ghost use Rattle.weights.specs.Vector as spec;
 
 use std::marker::Model;
 
-/// The weights of all points of a plan, in plan order. A certificate has two vectors for each pool.
-/// Each weight is from 0 to [`MAX_WEIGHT`](job_bodies::MAX_WEIGHT).
+/// The weights of all points of a plan, in plan order. A certificate has a blocked vector for each
+/// pool, and can also have a vector that bounds the pool's queue. A certificate requires that each
+/// weight is at most [`MAX_WEIGHT`](job_bodies::MAX_WEIGHT).
 #[derive(Debug, Drop)]
 pub struct Vector {
     /// The weight of one worker of each pool.

@@ -7,8 +7,9 @@ ghost use Rattle.weights.specs.Visits.{Visits};
 
 use crate::{Row, RowFault};
 
-/// A visitor of a list of rows. One walk over the conditions of a certificate serves a visitor that
-/// finds the first failing row, and another that lists all rows.
+/// A visitor of rows, which are the conditions of a certificate. The same walk over the conditions
+/// can serve different visitors: one finds the first failing row, and another collects the failing
+/// rows.
 pub trait RowVisitor {
     // The visitor has seen exactly these rows, in this order.
     ghost HasSeen: { Self → List FirstFailing → Type 0 };
