@@ -27,8 +27,8 @@ use std::alloc::Global;
 use weights::{Bound, Ranks};
 
 /// Parses the bound of the pool with this index. `text` begins after the pool's blocked vector,
-/// with the comma before the bound if there is one. Returns the bound and the rest of the text.
-/// Returns an error if there is no bound, but the pool needs one.
+/// with the comma before the bound if there is a bound. Returns the bound, or `None` if there is no
+/// bound, and the rest of the text. It is an error if there is no bound, but the pool needs one.
 fn parse_bound<'a>(
     alloc: Global,
     plan: &Plan,
@@ -52,8 +52,8 @@ fn parse_bound<'a>(
     Ok((None, text))
 }
 
-/// Parses the part for the pool with this index, at the start of the text. Returns the part and the
-/// rest of the text.
+/// Parses the part of the certificate for the pool with this index, at the start of the text.
+/// Returns the part and the rest of the text.
 fn parse_pool<'a>(
     alloc: Global,
     plan: &Plan,
@@ -117,8 +117,8 @@ fn parse_ranks<'a>(
     Ok((ranks, rest))
 }
 
-/// Strips what follows the ranks of `cert` in its text: the key `version`, the version and the
-/// closing brace. Returns the rest of the text.
+/// Strips the end of the text of `cert`: the key `version`, the version and the closing brace.
+/// Returns the rest of the text.
 fn strip_version<'a>(cert: &Cert, text: &'a [u8]) -> Result<&'a [u8], CanonicalError>
     ensures { IfOk result (λ rest. text.now ≡ version_text cert.now ++ rest.now) }
 {
@@ -129,7 +129,8 @@ fn strip_version<'a>(cert: &Cert, text: &'a [u8]) -> Result<&'a [u8], CanonicalE
     }
 }
 
-/// Parses the certificate at the start of a text, and returns it with the rest of the text.
+/// Parses the certificate at the start of a text, and returns the certificate and the rest of the
+/// text.
 fn parse_cert<'a>(
     alloc: Global,
     plan: &Plan,
@@ -159,9 +160,9 @@ fn is_blank(text: &[u8]) -> bool
     text.iter().all(|byte| is_space(*byte))
 }
 
-/// Parses the text of a certificate that fits the plan. White space may follow the certificate. It
-/// is an error if the text is too long, is not in canonical form, or has a certificate that does
-/// not fit.
+/// Parses the text of a certificate that fits the plan. White space may follow the certificate.
+/// Returns an error if the text is too long or not in canonical form, or if its certificate does
+/// not fit the plan.
 pub fn parse_canonical_cert(alloc: Global, text: &[u8], plan: &Plan) -> Result<Cert, CanonicalError>
     ensures { IfOk result (IsCanonical plan.now text.now) }
 {

@@ -11,8 +11,8 @@ use job_bodies::MAX_WEIGHT;
 use std::alloc::Global;
 use support::ReadError;
 
-/// The fault of a text that is not in canonical form, the form that
-/// [`write_cert`](crate::write_cert) writes. It does not store the reason.
+/// The fault of a text that is not in canonical form, which is the form that
+/// [`write_cert`](crate::write_cert) writes. The fault does not store the reason.
 #[derive(Clone, Copy, PartialEq, Eq)]
 pub struct NotCanonical;
 
@@ -24,7 +24,7 @@ pub fn non_canonical_error() -> CanonicalError {
     ReadError::Fault(NotCanonical)
 }
 
-/// Strips the prefix and returns the rest of the text. It is an error if the text does not have the
+/// Returns the rest of the text after the prefix, or an error if the text does not begin with the
 /// prefix.
 pub fn strip_bytes<'a>(text: &'a [u8], prefix: &[u8]) -> Result<&'a [u8], CanonicalError>
     ensures { IfOk result (λ rest. text.now ≡ prefix.now ++ rest.now) }
@@ -35,8 +35,7 @@ pub fn strip_bytes<'a>(text: &'a [u8], prefix: &[u8]) -> Result<&'a [u8], Canoni
     }
 }
 
-/// Strips the first byte and returns the rest of the text. It is an error if the first byte is not
-/// `byte`.
+/// Returns the rest of the text after its first byte, or an error if the first byte is not `byte`.
 #[inline(always)]
 pub fn strip_byte(text: &[u8], byte: u8) -> Result<&[u8], CanonicalError>
     ensures { IfOk result (λ rest. text.now ≡ byte ∷ rest.now) }
@@ -47,8 +46,9 @@ pub fn strip_byte(text: &[u8], byte: u8) -> Result<&[u8], CanonicalError>
     }
 }
 
-/// Strips the comma before the list element at index `place`, and returns the rest of the text. The
-/// first element has no comma before it.
+/// Returns the rest of the text after the comma that precedes the list element at index `place`. If
+/// `place` is 0, returns the whole text, because no comma precedes the first element. Otherwise
+/// returns an error if there is no comma.
 #[inline(always)]
 pub fn strip_comma(text: &[u8], place: usize) -> Result<&[u8], CanonicalError>
     ensures { IfOk result (λ rest. text.now ≡ comma_if (nat_lt 0 place) ++ rest.now) }
@@ -60,8 +60,8 @@ pub fn strip_comma(text: &[u8], place: usize) -> Result<&[u8], CanonicalError>
     }
 }
 
-/// Creates an empty list with room for `count` elements. It is an error if the text has fewer than
-/// `count` bytes, so a short text never causes a large allocation.
+/// Creates an empty list with room for `count` elements. Returns an error if the text has fewer
+/// than `count` bytes, so that a short text never causes a large allocation.
 pub fn list_with_capacity<T>(
     alloc: Global,
     count: usize,
@@ -88,9 +88,9 @@ fn parse_digit(text: &[u8]) -> Option<(u64, &[u8])>
     }
 }
 
-/// Parses the number at the start of a text, and returns it with the rest of the text. A number
-/// that begins with `0` ends after this digit. It is an error if the text does not begin with a
-/// digit, or if the number is above [`MAX_WEIGHT`].
+/// Parses the number at the start of a text, and returns the number and the rest of the text. A
+/// number that begins with `0` ends after this digit. Returns an error if the text does not begin
+/// with a digit, or if the number is above [`MAX_WEIGHT`].
 #[inline(always)]
 fn parse_number(text: &[u8]) -> Result<(u64, &[u8]), CanonicalError>
     ensures text { IfOk result (λ read. text.now ≡ decimal read.0 ++ read.1.now) }
@@ -114,8 +114,8 @@ fn parse_number(text: &[u8]) -> Result<(u64, &[u8]), CanonicalError>
     Ok((value, rest))
 }
 
-/// Parses the list of `count` numbers at the start of a text, and returns it with the rest of the
-/// text.
+/// Parses the list of `count` numbers at the start of a text, and returns the numbers and the rest
+/// of the text.
 pub fn parse_numbers(
     alloc: Global,
     count: usize,

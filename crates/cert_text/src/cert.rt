@@ -13,12 +13,12 @@ use weights::{Bound, Ranks, Vector};
 /// The part of a certificate for one pool.
 #[derive(Debug, Drop)]
 pub struct PoolCert {
-    /// The vector that bounds the pool's queue. If the certificate fits the plan, this is `None`
-    /// only for a pool that needs no bound: it may reject jobs, or its queue is unbounded.
+    /// The vector that bounds the pool's queue, or `None`. In a certificate that fits the plan, it
+    /// is `None` only if the pool may reject jobs or has an unbounded queue.
     pub bound: Option<Bound>,
-    /// The blocked vector. If the certificate accepts the plan, this vector shows that the number
-    /// of the pool's jobs that wait at counted gets is always below its core size. A counted get
-    /// can block a thread that other jobs need.
+    /// The blocked vector. If the certificate accepts the plan, this vector bounds the number of
+    /// the pool's jobs that wait at counted gets. The number is then always below the pool's core
+    /// size. A *counted* get is one that can block a thread that other jobs need.
     pub blocked: Vector,
 }
 
@@ -29,9 +29,12 @@ impl Model for PoolCert {
 }
 
 impl PoolCert {
-    /// Returns whether the part fits the pool with this index: each of its vectors has the shape of
-    /// the plan and no number above [`MAX_WEIGHT`](job_bodies::MAX_WEIGHT), and it has a bound
-    /// unless the pool may reject jobs or its queue is unbounded.
+    /// Returns whether the part fits the pool with this index, which means that both of these
+    /// conditions hold:
+    ///
+    /// - Each of its vectors has the shape of the plan and no number above
+    ///   [`MAX_WEIGHT`](job_bodies::MAX_WEIGHT).
+    /// - It has a bound, or the pool may reject jobs or has an unbounded queue.
     fn fits(&self, plan: &Plan, pool: usize) -> bool
         ensures { result ≡ spec.pool_cert_fits plan.now pool self.now }
     {
@@ -48,8 +51,8 @@ fn bound_fits(bound: &Option<Bound>, plan: &Plan, pool: usize) -> bool
     }
 }
 
-/// Returns whether the pool with this index may reject jobs or has an unbounded queue, and so needs
-/// no bound. Returns `false` if the plan has no pool with this index.
+/// Returns whether the pool with this index needs no bound, because it may reject jobs or has an
+/// unbounded queue. Returns `false` if the plan has no such pool.
 pub fn needs_no_bound(plan: &Plan, pool: usize) -> bool
     ensures { result ≡ needs_no_bound (pool_at plan.now pool) }
 {
@@ -81,10 +84,15 @@ impl Cert {
         &self.pools[pool]
     }
 
-    /// Returns whether the certificate fits the plan: it has a part for each pool, each of its
-    /// lists has the plan's shape, and each number is at most
-    /// [`MAX_WEIGHT`](job_bodies::MAX_WEIGHT). A pool that must not reject jobs and whose queue is
-    /// bounded must have a bound. Allocates no memory.
+    /// Returns whether the certificate fits the plan, which means that all of these conditions
+    /// hold:
+    ///
+    /// - It has a part for each pool.
+    /// - Each of its lists has the shape of the plan.
+    /// - Each number is at most [`MAX_WEIGHT`](job_bodies::MAX_WEIGHT).
+    /// - Each pool that must not reject jobs and has a bounded queue has a bound.
+    ///
+    /// Allocates no memory.
     pub fn fits(&self, plan: &Plan) -> bool
         ensures { result ≡ spec.cert_fits plan.now self.now }
     {

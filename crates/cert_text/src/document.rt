@@ -11,8 +11,8 @@ use std::alloc::Global;
 use support::ReadError;
 use support::number::{CERT_TOO_LONG, NOT_JSON};
 
-/// Parses the bytes as JSON. It is a fault if there are more bytes than a certificate may have, or
-/// if they are not UTF-8 or not JSON.
+/// Parses the bytes as JSON. Returns a fault if there are more bytes than a certificate may have,
+/// or if the bytes are not UTF-8 or not JSON.
 #[tactic(auto, unfolding(crate::specs::CertOf::document_of))]
 pub fn document_of(alloc: Global, bytes: &[u8]) -> Result<Value, CertError>
     ensures { Gives view result (spec.document_of bytes.now) }

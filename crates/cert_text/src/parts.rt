@@ -13,7 +13,7 @@ use std::alloc::AllocError;
 use support::push_number;
 use weights::{Bound, Ranks, Vector};
 
-/// Appends a comma if `later` is true, which means that the next list element is not the first.
+/// Appends a comma if `later` is `true`. It is `true` if the next list element is not the first.
 #[inline(always)]
 fn push_comma(text: &mut String, later: bool) -> Result<(), AllocError>
     ensures { Pushes result text.old text.new (comma_if later) }
@@ -60,8 +60,8 @@ fn push_vector(text: &mut String, vector: &Vector) -> Result<(), AllocError>
     text.push('}')
 }
 
-/// Appends the key and the vector of a pool's bound, after a comma that separates them from the
-/// blocked vector.
+/// Appends a comma, which separates the bound from the blocked vector, and then the key and the
+/// vector of the bound.
 fn push_bound(text: &mut String, bound: &Bound) -> Result<(), AllocError>
     ensures { Pushes result text.old text.new (bound_text (Some bound.now)) }
 {

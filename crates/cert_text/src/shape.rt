@@ -33,8 +33,7 @@ fn lifetime_of(alloc: Global, plan: &Plan, value: &Value) -> Result<Option<Bound
     Ok(Some(Bound::Lifetime(vector)))
 }
 
-/// Returns `None` as the bound of the pool with this index. It is a fault if the pool needs a
-/// bound.
+/// Returns `None` if the pool with this index needs no bound, and a fault otherwise.
 #[tactic(auto, unfolding(crate::specs::Shape::no_bound_of))]
 fn no_bound_of(plan: &Plan, pool: usize) -> Result<Option<Bound>, CertError>
     ensures { Gives (λ bound. bound) result (spec.no_bound_of plan.now pool) }
@@ -45,9 +44,13 @@ fn no_bound_of(plan: &Plan, pool: usize) -> Result<Option<Bound>, CertError>
     Ok(None)
 }
 
-/// Reads the bound of the pool with this index from the value at the key `lifetime` or, if there is
-/// none, from the value at the key `standing`. If there is neither, the pool has no bound, and it
-/// is a fault if it needs one.
+/// Reads the bound of the pool with this index. `lifetime` and `standing` are the values at these
+/// two keys of the pool's object, or `None` if the key is missing.
+///
+/// - If there is a value `lifetime`, the bound is a lifetime vector.
+/// - Otherwise, if there is a value `standing`, the bound is a standing vector.
+/// - If there is neither, the bound is `None` if the pool needs no bound. Otherwise returns a
+///   fault.
 fn either_of(
     alloc: Global,
     plan: &Plan,
@@ -66,8 +69,9 @@ fn either_of(
     }
 }
 
-/// Reads the bound of the pool with this index from the pool's object. In version 1 each pool must
-/// have a standing vector.
+/// Reads the bound of the pool with this index from `value`, the pool's object. In version 1, each
+/// pool must have a standing vector. In version 2, the bound can also be a lifetime vector, and a
+/// pool that needs no bound can have none.
 fn bound_of(
     alloc: Global,
     version: Version,
@@ -90,7 +94,7 @@ fn bound_of(
     }
 }
 
-/// Returns the number of keys that a pool's object has if this is its bound: 2, or 1 without a
+/// Returns the number of keys that a pool's object has with this bound: 2, or 1 if there is no
 /// bound.
 fn keys_with(bound: &Option<Bound>) -> usize
     ensures { result ≡ spec.keys_with bound.now }
@@ -167,9 +171,13 @@ fn ranks_of(alloc: Global, plan: &Plan, value: &Value) -> Result<Ranks, CertErro
     })
 }
 
-/// Reads a certificate for the plan from a JSON value. It is a fault if a key is missing or
-/// unknown, if a list does not have the plan's shape, or if a number is not an unsigned 64-bit
-/// integer. Does not check that the numbers are at most [`MAX_WEIGHT`](job_bodies::MAX_WEIGHT).
+/// Reads a certificate for the plan from a JSON value. Returns a fault in these cases:
+///
+/// - A key is missing or unknown.
+/// - A list does not have the plan's shape.
+/// - A number is not an unsigned 64-bit integer.
+///
+/// Does not check that the numbers are at most [`MAX_WEIGHT`](job_bodies::MAX_WEIGHT).
 #[tactic(auto, unfolding(crate::specs::Shape::shape_of))]
 pub fn shape_of(
     alloc: Global,

@@ -10,7 +10,7 @@ ghost use Rattle.cert_text.specs.Values as spec;
 use crate::fault::{CertError, wrong_shape};
 use serde_json::Value;
 
-/// Returns the value as an unsigned 64-bit integer. Any other value is a fault.
+/// Returns the value if it is an unsigned 64-bit integer, and a fault otherwise.
 pub fn number_of(value: &Value) -> Result<u64, CertError>
     ensures { Gives (λ number. number) result (spec.number_of (view value.now)) }
 {
@@ -30,7 +30,7 @@ fn list_in(value: &Value) -> Option<&[Value]>
     }
 }
 
-/// Returns the elements of the value. It is a fault if the value is not a list of `count` elements.
+/// Returns the elements of the value if it is a list of `count` elements, and a fault otherwise.
 #[tactic(auto, unfolding(crate::specs::Values::elements_of))]
 pub fn elements_of(value: &Value, count: usize) -> Result<&[Value], CertError>
     ensures { Gives (λ values. map view values.now) result
@@ -69,7 +69,7 @@ pub fn check_keys(value: &Value, count: usize) -> Result<(), CertError>
     Ok(())
 }
 
-/// Returns the value at this key of an object. It is a fault if there is no such value.
+/// Returns the value at this key of an object, or a fault if there is no such value.
 pub fn value_at<'a>(value: &'a Value, key: &str) -> Result<&'a Value, CertError>
     ensures { Gives (λ found. view found.now) result (spec.value_at key.now (view value.now)) }
 {

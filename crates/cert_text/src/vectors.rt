@@ -15,7 +15,8 @@ use serde_json::Value;
 use std::alloc::Global;
 use weights::Vector;
 
-/// Reads each of the values as an unsigned 64-bit integer. Any other value is a fault.
+/// Returns the values as numbers if each of them is an unsigned 64-bit integer, and a fault
+/// otherwise.
 fn numbers_in(alloc: Global, values: &[Value]) -> Result<Vec<u64>, CertError>
     ensures { Gives (λ numbers. numbers.items) result
         (read_each (λ _. value_spec.number_of) 0 (map view values.now)) }
@@ -28,7 +29,8 @@ fn numbers_in(alloc: Global, values: &[Value]) -> Result<Vec<u64>, CertError>
     Ok(numbers)
 }
 
-/// Reads the value as a list of `count` unsigned 64-bit integers. Any other value is a fault.
+/// Returns the numbers of the value if it is a list of `count` unsigned 64-bit integers, and a
+/// fault otherwise.
 #[tactic(auto, unfolding(crate::specs::Vectors::numbers_of))]
 pub fn numbers_of(alloc: Global, value: &Value, count: usize) -> Result<Vec<u64>, CertError>
     ensures { Gives (λ numbers. numbers.items) result (spec.numbers_of count (view value.now)) }
@@ -84,7 +86,8 @@ fn client_rows_in(alloc: Global, plan: &Plan, values: &[Value]) -> Result<Vec<Ve
     Ok(rows)
 }
 
-/// Reads the value as a list that has a row of numbers for each class. Any other value is a fault.
+/// Returns the rows of the value if it is a list that has a row of numbers for each class, and a
+/// fault otherwise.
 #[tactic(auto, unfolding(crate::specs::Vectors::class_rows))]
 fn class_rows(alloc: Global, plan: &Plan, value: &Value) -> Result<Vec<Vec<u64>>, CertError>
     ensures { Gives (λ rows. map (λ row. row.items) rows.items) result
@@ -94,8 +97,8 @@ fn class_rows(alloc: Global, plan: &Plan, value: &Value) -> Result<Vec<Vec<u64>>
     class_rows_in(alloc, plan, values)
 }
 
-/// Reads the value as a list that has a row of numbers for each client kind. Any other value is a
-/// fault.
+/// Returns the rows of the value if it is a list that has a row of numbers for each client kind,
+/// and a fault otherwise.
 #[tactic(auto, unfolding(crate::specs::Vectors::client_rows))]
 fn client_rows(alloc: Global, plan: &Plan, value: &Value) -> Result<Vec<Vec<u64>>, CertError>
     ensures { Gives (λ rows. map (λ row. row.items) rows.items) result
@@ -105,7 +108,7 @@ fn client_rows(alloc: Global, plan: &Plan, value: &Value) -> Result<Vec<Vec<u64>
     client_rows_in(alloc, plan, values)
 }
 
-/// Reads the value as a vector with the shape of the plan. Any other value is a fault. Does not
+/// Returns the value as a vector if it has the shape of the plan, and a fault otherwise. Does not
 /// check that the numbers are at most [`MAX_WEIGHT`](job_bodies::MAX_WEIGHT).
 #[tactic(auto, unfolding(crate::specs::Vectors::vector_of))]
 pub fn vector_of(alloc: Global, plan: &Plan, value: &Value) -> Result<Vector, CertError>

@@ -19,9 +19,9 @@ use weights::Bound;
 pub enum Version {
     /// Each pool has a standing vector, which bounds the number of its queued jobs.
     One,
-    /// Each pool has a standing or a lifetime vector, or neither if it may reject jobs or its queue
-    /// is unbounded. A lifetime vector bounds the number of all jobs that are ever submitted to the
-    /// pool.
+    /// Each pool has a standing or a lifetime vector. A pool that may reject jobs or has an
+    /// unbounded queue can also have neither. A lifetime vector bounds the number of all jobs that
+    /// are ever submitted to the pool.
     Two,
 }
 
@@ -35,8 +35,8 @@ fn version_numbered(number: u64) -> Result<Version, CertError>
     }
 }
 
-/// Reads the version of the JSON value of a certificate. It is a fault if the value has no unsigned
-/// integer at the key `version`, or if that integer is neither 1 nor 2.
+/// Reads the version of the JSON value of a certificate. Returns a fault if the value has no
+/// unsigned integer at the key `version`, or if that integer is neither 1 nor 2.
 #[tactic(auto, unfolding(crate::specs::Version::version_of))]
 pub fn version_of(value: &Value) -> Result<Version, CertError>
     ensures { Gives (λ version. version) result (spec.version_of (view value.now)) }

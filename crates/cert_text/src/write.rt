@@ -18,10 +18,11 @@ use support::push_number;
 /// Writes a certificate as compact JSON. The keys of each object are in ascending order, and the
 /// text has no newline. The version is 1 if each pool has a standing vector, and otherwise 2.
 ///
-/// If the certificate fits a plan, [`read_cert`](crate::read_cert) parses the text as this
-/// certificate, with or without a newline after it. This holds if the text, with the newline, has
-/// at most [`MAX_CERT_BYTES`](job_bodies::MAX_CERT_BYTES) bytes. The text never contains a `%`, so
-/// it cannot be taken for a separator line `%%`.
+/// Assume that the certificate fits a plan, and that the text has at most
+/// [`MAX_CERT_BYTES`](job_bodies::MAX_CERT_BYTES) bytes. Then [`read_cert`](crate::read_cert)
+/// parses the text as this certificate. If a newline is appended, the same holds for the text with
+/// the newline. The text never contains a `%`, so no part of it can be taken for a separator line
+/// `%%`.
 ///
 /// # Errors
 ///
@@ -55,8 +56,8 @@ fn push_cert(text: &mut String, cert: &Cert) -> Result<(), AllocError>
     push_version(text, cert)
 }
 
-/// Appends what follows the ranks in the text: the key `version`, the lowest version that can
-/// represent the certificate, and the closing brace.
+/// Appends the end of the text, which follows the ranks: the key `version`, the lowest version that
+/// can represent the certificate, and the closing brace.
 fn push_version(text: &mut String, cert: &Cert) -> Result<(), AllocError>
     ensures { Pushes result text.old text.new (version_text cert.now) }
 {
