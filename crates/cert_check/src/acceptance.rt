@@ -19,8 +19,8 @@ use cert_text::Cert;
 use job_bodies::Plan;
 use weights::{Bound, RanksOf, Vector, blocked_fault};
 
-/// Returns whether the certificate has the shape of the plan, and all its conditions hold.
-/// Allocates no memory.
+/// Returns whether the certificate accepts the plan, which means that it fits the plan and all its
+/// conditions hold. Allocates no memory.
 pub fn accepts(plan: &Plan, cert: &Cert) -> bool
     ensures exact { result ≡ accepted plan.now cert.now }
     ensures promises { IsTrue result → Promises plan.now cert.now }
@@ -45,8 +45,8 @@ pub(crate) fn conditions_hold(plan: &Plan, cert: &Cert) -> bool
     true
 }
 
-/// Returns whether all conditions of the pool's blocked vector hold and, if the pool has a bound,
-/// those of its bound. The certificate must fit the plan.
+/// Returns whether all conditions for the pool hold: those of its blocked vector and, if the pool
+/// has a bound, those of the bound. The certificate must fit the plan.
 pub(crate) fn pool_holds(plan: &Plan, cert: &Cert, pool: usize) -> bool
     requires fits { IsTrue (cert_fits plan.now cert.now) }
     requires pool { pool < length plan.now.pools }
@@ -58,7 +58,7 @@ pub(crate) fn pool_holds(plan: &Plan, cert: &Cert, pool: usize) -> bool
         && blocked_fault(plan, pool, &counted, &of_pool.blocked).is_none()
 }
 
-/// Returns whether all conditions of the pool's bound hold, or there is no bound.
+/// Returns whether all conditions of the pool's bound hold. Returns `true` if there is no bound.
 fn bound_holds(plan: &Plan, pool: usize, bound: &Option<Bound>) -> bool
     requires fits { IsTrue (bound_fits plan.now pool bound.now) }
     requires pool { pool < length plan.now.pools }
@@ -70,11 +70,15 @@ fn bound_holds(plan: &Plan, pool: usize, bound: &Option<Bound>) -> bool
     }
 }
 
-/// Returns whether the certificate has the shape of the plan, no pool of the plan may reject jobs,
-/// and the certificate has for each pool a standing vector whose conditions all hold. The
-/// conditions of the blocked vectors and of the ranks are not checked. If a pool may reject jobs,
-/// the standing vectors alone are not enough, because a rejected job could increase the weight of a
-/// state.
+/// Returns whether the standing vectors of the certificate alone show that no submit is ever
+/// refused. The result is `true` if all of these conditions hold:
+///
+/// - The certificate fits the plan.
+/// - No pool of the plan may reject jobs. A rejected job could increase the weight of a state, so
+///   the standing vectors alone would not be enough.
+/// - The certificate has a standing vector for each pool, and all conditions of these vectors hold.
+///
+/// The conditions of the blocked vectors and of the ranks are not checked.
 ///
 /// If the result is `true`, no submit is ever refused, even if each submit takes the separate steps
 /// of Java's `execute`. Allocates no memory.

@@ -4,17 +4,17 @@ ghost use Rattle.cert_check.specs.Verdict as spec;
 
 use std::marker::Model;
 
-/// The total of a pool's bound (its standing or lifetime vector) with its limit.
+/// The total of a pool's bound, which is a standing or a lifetime vector, with the limit of this
+/// total.
 #[derive(Clone, Copy, Debug, PartialEq, Eq)]
 pub struct BoundTotal {
-    /// Whether the bound is a lifetime vector. If its conditions hold, it bounds the number of all
-    /// jobs that are ever submitted to the pool.
+    /// Whether the bound is a lifetime vector. If it is not, it is a standing vector.
     pub lifetime: bool,
     /// The total of the bound.
     pub total: u64,
-    /// The limit of `total`: the capacity of the queue for a standing vector, and for a lifetime
-    /// vector the number of jobs that the pool accepts before it can refuse one. It is `None` if
-    /// the queue is unbounded.
+    /// The limit of `total`, or `None` if the queue is unbounded. For a standing vector, the limit
+    /// is the capacity of the queue. For a lifetime vector, it is the number of jobs that the pool
+    /// accepts before it can refuse a job.
     pub limit: Option<u64>,
 }
 
@@ -23,8 +23,8 @@ pub struct BoundTotal {
 pub struct PoolLine {
     /// The total of the pool's bound, or `None` if the pool has no bound.
     pub bound: Option<BoundTotal>,
-    /// The total of the blocked vector. If the certificate accepts the plan, it bounds the number
-    /// of the pool's jobs that wait at [counted](weights::Counted) gets.
+    /// The total of the blocked vector. If the certificate accepts the plan, this total bounds the
+    /// number of the pool's jobs that wait at [counted](weights::Counted) gets.
     pub blocked: u64,
     /// The limit of `blocked`: one less than the core size.
     pub limit: u64,

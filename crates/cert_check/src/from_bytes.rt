@@ -32,14 +32,19 @@ impl From<AllocError> for CheckFault {
     }
 }
 
-/// Reads a plan and a certificate for it, and returns whether the certificate accepts the plan,
-/// with the totals and limits of each pool.
+/// Reads a plan and a certificate for it, and returns the verdict: whether the certificate accepts
+/// the plan, and the totals and limits of each pool.
 ///
-/// If the verdict is `yes`, the following holds in each state that a list of events can reach. No
-/// submit was refused, and no pool has more threads than its maximum. No bounded queue has more
-/// jobs than its capacity, or than its pool has idle workers if the capacity is 0. No unfinished
-/// jobs wait only for each other. If a job is unfinished, a job can take a step or a worker can
-/// take a job. If the clients stop, all jobs finish after a bounded number of such events.
+/// If the verdict is `yes`, the following holds in each state that a list of events can reach:
+///
+/// - No submit was refused. A pool that may reject jobs can have rejected jobs, but a rejection is
+///   not a refusal.
+/// - No pool has more threads than its maximum.
+/// - No bounded queue has more jobs than its capacity or, if the capacity is 0, than its pool has
+///   idle workers.
+/// - No unfinished jobs wait only for each other.
+/// - If a job is unfinished, a job can take a step or a worker can take a job.
+/// - If the clients stop, all jobs finish after a bounded number of such steps and takes.
 ///
 /// # Errors
 ///

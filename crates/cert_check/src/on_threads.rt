@@ -25,19 +25,20 @@ use std::thread::Threads;
 pub(crate) struct PoolCheck {
     pub(crate) pool: usize,
     pub(crate) line: PoolLine,
-    /// Whether all conditions of the pool's bound and of its blocked vector hold.
+    /// Whether all conditions of the pool's blocked vector hold and, if the pool has a bound, also
+    /// those of the bound.
     pub(crate) holds: bool,
 }
 
 /// Checks a plan and a certificate on up to `workers` threads, with the same result as
-/// [`check`](crate::check). Each thread checks some of the pools. `workers` is from 1 to
-/// [`MAX_WORKERS`](job_bodies::MAX_WORKERS). Each thread calls the gate before it checks a pool,
-/// without holding a lock. If no thread can be started, the calling thread checks the pools.
+/// [`check`](crate::check). `workers` is from 1 to [`MAX_WORKERS`](job_bodies::MAX_WORKERS). Each
+/// thread checks some of the pools, and calls the gate before each of them, without holding a lock.
+/// If no thread can be started, the calling thread checks the pools.
 ///
 /// # Errors
 ///
-/// Returns the errors of [`check`](crate::check), and [`CheckFault::Gate`] if the gate returned
-/// `false` for a pool. The gate is called only after both texts were read.
+/// Returns the errors of [`check`](crate::check). Also returns [`CheckFault::Gate`] if the gate
+/// returned `false` for a pool. The gate is called only after both texts were read.
 pub fn check_on<R: Threads + Sync, G: PoolGate>(
     rt: &R,
     alloc: Global,
@@ -86,8 +87,8 @@ fn verdict_on<R: Threads + Sync, G: PoolGate>(
     }
 }
 
-/// Checks each pool on one of the threads, and returns the results of all pools. The result of a
-/// pool is `None` if the gate returned `false` for it.
+/// Checks the pools on several threads, and returns the results of all pools. The result of a pool
+/// is `None` if the gate returned `false` for this pool.
 fn check_pools<R: Threads + Sync, G: PoolGate>(
     rt: &R,
     alloc: Global,
@@ -105,7 +106,7 @@ fn check_pools<R: Threads + Sync, G: PoolGate>(
     Ok(found)
 }
 
-/// Checks each pool, and writes its result to the element of the list at the pool's index.
+/// Checks each pool, and writes the result to the element of `places` at the pool's index.
 fn check_pools_into<R: Threads + Sync, G: PoolGate>(
     rt: &R,
     workers: usize,
@@ -159,8 +160,8 @@ fn check_pool<G: PoolGate>(plan: &Plan, cert: &Cert, gate: &G, pool: usize) -> O
     })
 }
 
-/// Builds the verdict from the results of the pools, in plan order. Checks the conditions of the
-/// ranks itself. Returns `None` if a pool has no result.
+/// Builds the verdict from the results of the pools, which are in plan order. Also checks the
+/// conditions of the ranks. Returns `None` if a pool has no result.
 fn verdict_of(
     alloc: Global,
     plan: &Plan,

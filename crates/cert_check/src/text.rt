@@ -10,9 +10,13 @@ use job_bodies::Plan;
 use std::alloc::AllocError;
 
 /// Appends the text of a verdict on the plan: `yes` or `no`, and then a line for each pool, such as
-/// `pool pages: standing 2 of 2, blocked 0 of 0`. If the pool has no bound, the line has
-/// `may reject` in place of `standing 2 of 2`, or `unbounded` if the queue is unbounded. If the
-/// pool has a bound and an unbounded queue, the line has `standing 2 of unbounded`.
+/// `pool pages: standing 2 of 2, blocked 0 of 0`. In two cases, the line has another text in place
+/// of `standing 2 of 2`:
+///
+/// - If the pool has no bound, the text is `unbounded` if the queue is unbounded, and otherwise
+///   `may reject`.
+/// - If the pool has a bound and an unbounded queue, the text is, for example, `standing 2 of
+///   unbounded`.
 ///
 /// # Errors
 ///
@@ -74,8 +78,8 @@ fn push_bound(
     }
 }
 
-/// Appends the part of the line of a pool without a bound that says why it needs none: `unbounded`
-/// if its queue is unbounded, and otherwise `may reject`.
+/// Appends the text that says why a pool without a bound needs no bound: `unbounded` if its queue
+/// is unbounded, and otherwise `may reject`.
 fn push_no_bound(text: &mut String, unbounded: bool) -> Result<(), AllocError>
     ensures { Pushes result text.old text.new (spec.bound_text unbounded None) }
 {
@@ -95,7 +99,7 @@ fn push_total(text: &mut String, bound: &BoundTotal) -> Result<(), AllocError>
     push_limit(text, bound.limit)
 }
 
-/// Appends the limit of a total, or `unbounded` if there is none.
+/// Appends the limit of a total, or `unbounded` if there is no limit.
 fn push_limit(text: &mut String, limit: Option<u64>) -> Result<(), AllocError>
     ensures { Pushes result text.old text.new (spec.limit_text limit) }
 {
