@@ -124,8 +124,8 @@ pub(crate) fn push_pool_notes(
 }
 
 /// Returns the failing conditions of a certificate that fits the plan, each with its left and right
-/// side. The conditions of the ranks come first. For each pool, the conditions of its bound follow,
-/// and then the conditions of its blocked vector.
+/// side. The conditions of the ranks come first. Then come, for each pool, the conditions of its
+/// bound and those of its blocked vector.
 ///
 /// # Errors
 ///

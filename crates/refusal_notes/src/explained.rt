@@ -14,9 +14,9 @@ use cert_text::Cert;
 use job_bodies::Plan;
 use std::alloc::{AllocError, Global};
 
-/// Appends a line for each failing condition, and then a line with the number of these conditions,
-/// such as `failing 1`. Returns that number. The certificate must fit the plan. Stores the failing
-/// conditions of only one pool at a time, to save memory.
+/// Appends a line for each failing condition, and then a line with the number of failing
+/// conditions, such as `failing 1`. Returns this number. The certificate must fit the plan. To save
+/// memory, stores the failing conditions of only one pool at a time.
 ///
 /// # Errors
 ///
@@ -37,8 +37,8 @@ pub fn push_explanation(
     Ok(count)
 }
 
-/// Appends a line for each failing condition, first of the ranks and then of each pool. Returns the
-/// number of lines.
+/// Appends a line for each failing condition: first those of the ranks, and then those of each
+/// pool. Returns the number of lines.
 fn push_all_lines(
     alloc: Global,
     text: &mut String,
@@ -63,15 +63,15 @@ fn push_all_lines(
     Ok(count)
 }
 
-/// Returns the sum, or `AllocError` if it overflows.
+/// Returns the sum of both numbers, or `AllocError` if the sum overflows.
 fn sum(count: usize, more: usize) -> Result<usize, AllocError>
     ensures { IfOk result (λ sum. sum ≡ count + more) }
 {
     count.checked_add(more).ok_or(AllocError)
 }
 
-/// Appends a line for each note. All lines of a section begin with the same head. Consecutive notes
-/// of one section share one formatted head.
+/// Appends a line for each note. A line begins with a *head*, which names the section of its note.
+/// The head is formatted only once for consecutive notes of the same section.
 fn push_lines(
     alloc: Global,
     text: &mut String,
@@ -92,8 +92,8 @@ fn push_lines(
     Ok(())
 }
 
-/// Appends the line of the note: `head`, and then the condition. All lines of the note's section
-/// begin with `head`.
+/// Appends the line of the note: `head`, the condition and a newline. `head` must be the text with
+/// which all lines of the note's section begin.
 fn push_line_with_head(
     text: &mut String,
     head: &str,

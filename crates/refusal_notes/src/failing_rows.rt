@@ -10,8 +10,8 @@ use crate::{Note, Section};
 use std::alloc::{AllocError, Global};
 use weights::{Row, RowVisitor};
 
-/// A visitor that collects the failing rows. The `visit` method cannot return an error, so the
-/// visitor stores the error.
+/// A visitor that collects the failing rows. Its `visit` method cannot return an error, so the
+/// visitor stores an error that occurs.
 #[derive(Drop)]
 pub struct FailingRows {
     /// The failing rows, in order.
@@ -33,7 +33,7 @@ impl FailingRows {
     }
 
     /// Appends the failing rows to the notes, as notes of this section. Returns `AllocError` if
-    /// memory runs out here, or ran out while the visitor collected the rows.
+    /// memory runs out now, or if it ran out while the visitor collected the rows.
     pub fn push_notes(self, notes: &mut Vec<Note>, section: Section) -> Result<(), AllocError>
         ensures { (seen : List Seen)
             → Keeps self seen

@@ -55,8 +55,8 @@ fn push_section(text: &mut String, plan: &Plan, section: Section) -> Result<(), 
     }
 }
 
-/// Appends the text of the section of a pool's vector, such as `pool p standing`. `vector` is a
-/// space and the name of the vector.
+/// Appends the text for the section of a pool's vector, such as `pool p standing`. `vector` is the
+/// end of this text: a space and the name of the vector.
 fn push_vector(text: &mut String, plan: &Plan, pool: usize, vector: &str) -> Result<(), AllocError>
     ensures { Pushes result text.old text.new
         (codes "pool " ++ (pool_at plan.now pool).name ++ vector.now) }
@@ -114,7 +114,7 @@ fn push_head(text: &mut String, plan: &Plan, section: Section) -> Result<(), All
     text.push_str(", ")
 }
 
-/// Returns the head of the lines of a section, such as `pool p blocked, `.
+/// Returns the head of the lines of a section, which names the section, such as `pool p blocked, `.
 pub(crate) fn head_of(alloc: Global, plan: &Plan, section: Section) -> Result<String, AllocError>
     ensures { IfOk result (λ head. string_bytes head ≡ spec.head plan.now section) }
 {
@@ -123,7 +123,7 @@ pub(crate) fn head_of(alloc: Global, plan: &Plan, section: Section) -> Result<St
     Ok(head)
 }
 
-/// Appends the part of the note's line after the head, such as `total: B2 1 above 0`.
+/// Appends the part of the note's line that follows the head, such as `total: B2 1 above 0`.
 pub(crate) fn push_condition(text: &mut String, plan: &Plan, note: &Note) -> Result<(), AllocError>
     ensures { Pushes result text.old text.new (spec.condition plan.now note.now) }
 {
@@ -140,8 +140,9 @@ fn push_note(text: &mut String, plan: &Plan, note: &Note) -> Result<(), AllocErr
     push_condition(text, plan, note)
 }
 
-/// Appends the line of the note, such as `pool p blocked, total: B2 1 above 0`, and a newline. A
-/// pool, class or client kind that the plan does not have is printed as an empty name.
+/// Appends the line of the note, such as `pool p blocked, total: B2 1 above 0`, and a newline. If
+/// the plan does not have the pool, class or client kind of the note, its name is empty in the
+/// line.
 ///
 /// # Errors
 ///
