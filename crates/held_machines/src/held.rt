@@ -10,14 +10,15 @@ use crate::Machine;
 use std::alloc::{AllocError, Global};
 use std::marker::Model;
 
-/// A receipt for one event of a history: the event, and its number in the history, counted from 0.
+/// A receipt for one event of a history. It has the event, and the number of the event in the
+/// history, counted from 0.
 #[derive(Clone, Copy, Debug, PartialEq, Eq)]
 pub struct Receipt<E> {
     pub number: u64,
     pub event: E,
 }
 
-/// A machine with its state and its history. The history is the list of the events that the machine
+/// A machine with its state and its history, which is the list of the events that the machine
 /// performed.
 ///
 /// The events of the history always lead from the initial state to the current state.

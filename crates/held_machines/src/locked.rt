@@ -3,8 +3,9 @@
 use crate::{Held, Machine};
 use std::sync::{Condvar, Mutex, MutexGuard, Wait};
 
-/// A machine with its history, shared by threads. One thread at a time holds its lock. The thread
-/// that holds it can release it and wait until another thread reports a change of the machine.
+/// A machine with its history, shared by threads under one lock. Only one thread at a time holds
+/// the lock. The thread that holds the lock can release it and wait until another thread reports a
+/// change of the machine.
 #[derive(Drop)]
 pub struct Locked<M: Machine + Drop> {
     held: Mutex<Held<M>>,
@@ -26,7 +27,7 @@ impl<M: Machine + Drop> Locked<M> {
     }
 
     /// Releases the lock, waits until another thread calls [`Locked::notify_all`], and acquires the
-    /// lock again. The wait may also end without such a call.
+    /// lock again. The wait can also end without such a call.
     pub fn wait<'a, R: Wait>(
         &'a self,
         rt: &R,

@@ -5,12 +5,12 @@ ghost use Rattle.held_machines.specs.StoredState.{IsReached, Steps};
 
 use std::alloc::{AllocError, Global};
 
-/// A machine that performs one event at a time. A value of the machine's own type never changes:
-/// its current state is a separate value of type [`State`](Machine::State).
+/// A machine that performs one event at a time. The value that implements this trait never changes.
+/// The current state of the machine is a separate value of type [`State`](Machine::State).
 ///
 /// In the specification, the states are mathematical values. `first` is the initial state, and
-/// `next` is the state after an event, if the event is possible. `stored_state` maps each of these
-/// states to the value of type `State` that a running program stores.
+/// `next` is the state after an event, if the event is possible. `stored_state` maps each
+/// mathematical state to the value of type `State` that a running program stores.
 pub trait Machine {
     /// The type of the states that a running program stores.
     type State: Drop;
@@ -37,7 +37,7 @@ pub trait Machine {
     fn start(&self, alloc: Global) -> Result<Self::State, AllocError>
         ensures { IfOk result (λ state. state ≡ stored_state self.now (first self.now)) };
 
-    /// Performs the event if it is possible, and returns whether it was.
+    /// Performs the event if it is possible, and returns whether the event was possible.
     ///
     /// # Errors
     ///
