@@ -7,8 +7,13 @@ ghost use Rattle.support.specs.Each.{IsReadOfEach};
 use crate::ReadError;
 use std::alloc::Global;
 
-/// Calls `read` with the index of each element and the element, in order, and returns the results.
-/// Stops at the first call that fails, and returns its error. Also fails if memory runs out.
+/// Calls `read` with the index and a reference to each element, in order, and returns the list of
+/// the results.
+///
+/// # Errors
+///
+/// Stops at the first call that fails, and returns the error of that call. Also returns an error if
+/// memory runs out.
 pub fn read_each<'a, X, Y: Drop, F, R>(
     alloc: Global,
     elements: &'a [X],

@@ -12,12 +12,13 @@ use crate::places::{allocate, can_store, is_in_slot, place_of, push_numbers, sto
 use std::alloc::{AllocError, Global};
 use std::marker::Model;
 
-/// A map from numbers to values. It is fast if few numbers have values at once and most of these
-/// numbers are close to each other: most look-ups then index a table and hash nothing.
+/// A map from numbers to values. It is fast if few numbers have values at the same time and most of
+/// these numbers are close to each other. Most look-ups then index a table and compute no hash.
 ///
-/// The slot of a number is the number modulo the length of the table of slots. If that slot is
-/// occupied when the number is inserted, the value is stored in the overflow map. A look-up checks
-/// the slot first.
+/// The table has slots, each for the entry of one number. The index of a number's slot is the
+/// number modulo the length of the table. If the slot is occupied by another number at an
+/// insertion, the value is stored in a second map, the overflow map. A look-up checks the slot
+/// first.
 #[derive(Drop)]
 pub struct IdMap<V> {
     // The table of slots. Empty until the first insertion.
@@ -95,7 +96,7 @@ impl<V> IdMap<V> {
         self.overflow.get_mut(number)
     }
 
-    /// Stores `value` for key `number`, replacing an earlier value.
+    /// Stores `value` for key `number`. Replaces the earlier value of this key, if there is one.
     ///
     /// # Errors
     ///

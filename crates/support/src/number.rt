@@ -13,7 +13,8 @@ pub const UNKNOWN_KEY: u8 = 3;
 pub const MISSING_KEY: u8 = 4;
 /// A value has the wrong type for its key.
 pub const WRONG_TYPE: u8 = 5;
-/// A name is not a lowercase letter followed by at most 31 lowercase letters, digits and `_`.
+/// A name does not consist of a lowercase letter, followed by at most 31 lowercase letters, digits
+/// and `_`.
 pub const BAD_NAME: u8 = 6;
 /// Two entries of a list have the same name.
 pub const DOUBLE_NAME: u8 = 7;
@@ -23,13 +24,14 @@ pub const BAD_NUMBER: u8 = 8;
 pub const NO_SUCH_POOL: u8 = 9;
 /// A submit names a class that does not exist.
 pub const NO_SUCH_CLASS: u8 = 10;
-/// The text of an action is not `work N`, `submit CLASS`, `submit CLASS as SLOT` or `get SLOT`.
+/// The text of an action has none of the forms `work N`, `submit CLASS`, `submit CLASS as SLOT` and
+/// `get SLOT`.
 pub const BAD_ACTION: u8 = 11;
 /// A submit fills a slot that is already filled.
 pub const SLOT_OPEN: u8 = 12;
-/// A get names an empty slot. In a plan that is built from lists, a get names a position instead.
-/// The fault is then that the body has no earlier submit at that position, or that an earlier get
-/// names the same position.
+/// A get names an empty slot. In a plan that is built from lists, a get names the position of a
+/// submit instead of a slot. The fault is then that the body has no earlier submit at this
+/// position, or that an earlier get names the same position.
 pub const SLOT_EMPTY: u8 = 13;
 
 // ---- out of memory
@@ -55,15 +57,15 @@ pub const CERT_TOO_LONG: u8 = 34;
 
 /// A run exceeds one of its limits.
 pub const RUN_TOO_LARGE: u8 = 40;
-/// The receipts of a client or a pool contain an event of another client or pool, or an event that
-/// the history does not contain. The history lists the events of a run in order. A receipt is a
-/// thread's record of an event that the thread performed.
+/// A client or a pool has a receipt for an event of another client or pool, or for an event outside
+/// the history. The history lists the events of a run in order. A receipt is a thread's record of
+/// an event that the thread performed.
 pub const STRANGE: u8 = 41;
 /// The results of several threads contradict each other. Either the history and the receipts of a
 /// run are not those of a complete run, or the parts of a search do not fit together.
 pub const MIXED: u8 = 42;
 /// A gate failed. In a run, a gate is the code that does the declared work. In a search or a check,
-/// it is the hook that is called before each pool.
+/// a gate is the hook that is called before each pool.
 pub const GATE: u8 = 43;
 
 // ---- faults of an input

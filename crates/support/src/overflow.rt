@@ -12,10 +12,11 @@ use std::alloc::{AllocError, Global};
 use std::collections::HashMap;
 use std::marker::Model;
 
-/// A map from numbers to values, for entries whose slot was occupied when they were inserted.
+/// A map from numbers to values, for the entries of an [`IdMap`](crate::IdMap) whose slot was
+/// occupied when they were inserted.
 ///
 /// Look-ups in this map are rare, so its methods are not inlined. A caller first checks whether the
-/// map is empty, since a look-up in an empty map would still hash the number.
+/// map is empty, because a look-up in an empty map would still hash the number.
 #[derive(Drop)]
 pub(crate) struct OverflowMap<V> {
     map: HashMap<usize, V>,
@@ -69,7 +70,7 @@ impl<V> OverflowMap<V> {
         self.map.get_mut(&number)
     }
 
-    /// Stores `value` for key `number`, replacing an earlier value.
+    /// Stores `value` for key `number`. Replaces the earlier value of this key, if there is one.
     ///
     /// # Errors
     ///

@@ -82,8 +82,8 @@ fn allocate_slots<V: Drop>(slots: &mut Vec<Option<Entry<V>>>, len: usize) -> Res
     Ok(())
 }
 
-/// Appends the number of each entry in the slots. The list must not contain any of these numbers
-/// yet.
+/// Appends the numbers of all entries in the slots to the list. The list must not contain any of
+/// these numbers yet.
 ///
 /// # Errors
 ///
