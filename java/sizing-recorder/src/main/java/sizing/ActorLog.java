@@ -164,7 +164,7 @@ final class ActorLog {
         if (!actor.isShared()) {
             lines.submit(actor, job);
         } else if (!submitFromShared(actor, sources, job)) {
-            actor = Actor.round(Names.of(submitter.source) + AFTER_END);
+            actor = Actor.round(Names.of(submitter.source, AFTER_END));
             actor.isAfterEnd = true;
             actor.share();
             lines.begin(actor);

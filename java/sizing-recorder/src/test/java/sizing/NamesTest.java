@@ -35,6 +35,16 @@ class NamesTest {
     }
 
     @Test
+    void namesAreCutSoThatASuffixFits() throws Exception {
+        assertEquals("chain_after_end", Names.of("chain", "_after_end"));
+        assertEquals("a".repeat(18) + "_after_end", Names.of("a".repeat(18), "_after_end"));
+        assertEquals("a".repeat(18) + "_after_end", Names.of("a".repeat(28), "_after_end"));
+        assertEquals("a".repeat(17) + "_after_end", Names.of("a".repeat(17) + "_b", "_after_end"));
+        assertEquals("a".repeat(18) + "_after_end", Names.of(Names.of("a".repeat(28), "_after_end")));
+        assertEquals("unnamed_after_end", Names.of(new Names.OfThread("17"), "_after_end"));
+    }
+
+    @Test
     void threadNamesLoseTheirDigits() throws Exception {
         assertEquals("http_nio_exec", Names.of(new Names.OfThread("http-nio-8080-exec-7")));
         assertEquals("pool_thread", Names.of(new Names.OfThread("pool-1-thread-12")));

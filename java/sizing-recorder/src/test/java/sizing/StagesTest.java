@@ -253,10 +253,19 @@ class StagesTest {
 
     @Test
     void aChainThatIsLeftHasNoGetAndGoesOnInARoundOfItsOwn() throws Exception {
+        assertChainThatIsLeft("chain", "chain_after_end");
+    }
+
+    @Test
+    void aLongKindIsCutBeforeItsSuffix() throws Exception {
+        assertChainThatIsLeft("a".repeat(28), "a".repeat(18) + "_after_end");
+    }
+
+    private void assertChainThatIsLeft(String kind, String kindAfterEnd) throws Exception {
         CountDownLatch left = new CountDownLatch(1);
         CountDownLatch submitted = new CountDownLatch(1);
         CompletableFuture<Void> chain;
-        try (Recorder.Round round = recording.recorder.round("chain")) {
+        try (Recorder.Round round = recording.recorder.round(kind)) {
             chain = CompletableFuture.runAsync(() -> await(left), load).thenRunAsync(() -> await(submitted), render);
         }
         left.countDown();
@@ -265,8 +274,9 @@ class StagesTest {
         assertTrue(io.awaitTermination(60, TimeUnit.SECONDS));
         submitted.countDown();
         chain.join();
-        assertLines(recording.acts().stream().filter(line -> line.startsWith("round ")).toList(), "round 0 begin chain",
-                "round 0 submit 0 load io", "round 0 end", "round 1 begin chain_after_end", "round 1 submit 1 render cpu", "round 1 end");
+        assertLines(recording.acts().stream().filter(line -> line.startsWith("round ")).toList(),
+                "round 0 begin " + kind, "round 0 submit 0 load io", "round 0 end",
+                "round 1 begin " + kindAfterEnd, "round 1 submit 1 render cpu", "round 1 end");
     }
 
     @Test
