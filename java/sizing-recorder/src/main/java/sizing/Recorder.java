@@ -38,16 +38,19 @@ import java.util.function.UnaryOperator;
  *
  * <p>A stage is submitted by the round, job or permit that built the chain, after the get of the stage before it. If the submitter
  * waits for a stage ({@code join}, {@code get}, {@code allOf(..).join()}, {@code anyOf(..).join()}) when the stage ends, the get is
- * recorded then, or with {@code allOf} when the stages before it are done. Otherwise it is recorded before the next stage of the chain, or at the end of the submitter if the stage is done by then: a get of it would not
- * wait. So a recording does not show that a future is never joined, if its job happens to be done by the end of the round. A stage
- * that is submitted after the end of its round is recorded as a round of kind {@code KIND_after_end}, which no plan has.
+ * recorded then, or with {@code allOf} when the stages before it are done. Otherwise it is recorded before the next
+ * stage of the chain, or at the end of the submitter if the stage is done by then: a get of it would not wait. So a
+ * recording does not show that a future is never joined, if its job happens to be done by the end of the round. A stage
+ * that is submitted after the end of its round is recorded as a round of kind {@code KIND_after_end}, which a written
+ * plan should not have.
  *
- * <p><b>Cost.</b> Each line is one entry in a lock-free queue: one allocation and one compare-and-set on the thread that acts. A
- * daemon thread of the recorder formats and writes the lines. A job that is submitted and got takes no lock. A permit takes a lock of
- * its own for each of its jobs, and so does a round or job that has stages or jobs of an {@code ExecutorCompletionService}. A stage
- * also takes the lock of one map, and a {@code release} on a thread without a job of the permit that of its semaphore. The queue of
- * lines has no bound: if the writer is slower than the service for long, memory fills. All threads add to one queue, so the recorder
- * may change the order in which they run. Each order that it causes can also happen without it.
+ * <p><b>Cost.</b> Each line is one entry in a lock-free queue: usually two small allocations and one or two
+ * compare-and-sets on the thread that acts. A daemon thread of the recorder formats and writes the lines. A job that is
+ * submitted and got takes no lock. A permit takes a lock of its own for each of its jobs, and so does a round or job
+ * that has stages or jobs of an {@code ExecutorCompletionService}. A stage also takes the lock of one map, and a
+ * {@code release} on a thread without a job of the permit that of its semaphore. The queue of lines has no bound: if
+ * the writer is slower than the service for long, memory fills. All threads add to one queue, so the recorder may
+ * change the order in which they run. Each order that it causes can also happen without it.
  *
  * <p>The lines of one actor are in its own order (docs/RECORDING.md, "Order").
  *
