@@ -10,7 +10,7 @@ import org.junit.jupiter.api.extension.ExtendWith;
 
 /**
  * Marks a class whose tests run the service of a plan. Before the tests the plan must be safe ({@code sizing ask --strict}). After
- * them, what a {@link Sizing} recorded must conform to the plan ({@code sizing conform}).
+ * them, if a test took a pool from {@link Sizing}, the recording must conform to the plan ({@code sizing conform}).
  *
  * <pre>{@code
  * @SizingPlan("shop.toml")
