@@ -14,22 +14,23 @@ use std::alloc::{AllocError, Global};
 use std::collections::{BinaryHeap, HashSet};
 use std::hash::{BuildHasherDefault, FoldHasher};
 
-/// The maximum number of vectors for which the search measures the lost weight.
+/// The maximum number of vectors that the search uses as measures. The measure of a vector is the
+/// weight, under the vector, that was lost on the way to a state.
 const MAX_VECTORS: usize = 2;
 
-/// A state that the search reached. It is open until the search visits its successors, and then
-/// closed.
+/// A state that the search reached. The state is open until the search visits its successors. Then
+/// it is closed.
 #[derive(Clone, Copy)]
 struct Node {
     /// The number of the preceding state, from which `branch` leads to this state. For the initial
-    /// state, its own number.
+    /// state, this is the number of the initial state itself.
     before: usize,
     branch: Branch,
     is_open: bool,
 }
 
-/// A reached state that was recreated, and the weight that was lost on the way to it under each
-/// vector.
+/// A reached state that was recreated, and for each vector the weight that was lost on the way to
+/// this state.
 #[derive(Drop)]
 struct ReplayedState<'a> {
     walk: Walk<'a>,
@@ -41,16 +42,22 @@ struct ReplayedState<'a> {
 pub(crate) struct BestFirstResult {
     /// A permanent violation, if one was found.
     pub(crate) found: Option<(Script, Violation)>,
-    /// Events after which some jobs wait only for each other, if such a state was visited. A later
-    /// event may end the wait.
+    /// Events after which some jobs wait only for each other, or `None` if the search found none. A
+    /// later event may end their wait.
     pub(crate) stuck_now: Option<Script>,
     /// The number of states that the search could still have visited within its limit.
     pub(crate) left: usize,
 }
 
-/// Searches from the plan's initial state. The weight lost under each of the first [`MAX_VECTORS`]
-/// vectors in `potentials` is a measure. Stops at the first permanent violation, after `states`
-/// visited states, or if no open state is left.
+/// Searches from the plan's initial state for a permanent violation. Continues in turn from the
+/// oldest open state, and from the open state that is most promising by each of these measures:
+///
+/// - the weight lost under each of the first [`MAX_VECTORS`] vectors in `potentials`,
+/// - the number of threads that do not wait at a get, and
+/// - the least number of further jobs that a pool accepts before it refuses one.
+///
+/// A smaller measure is more promising. The search stops at the first permanent violation, after
+/// `states` visited states, or if no open state is left.
 pub(crate) fn best_first(
     alloc: Global,
     plan: &Plan,
@@ -63,8 +70,8 @@ pub(crate) fn best_first(
     Ok(search.into_result(found))
 }
 
-/// The state of a search. Each reached state takes about 100 bytes: its node, its fingerprint and
-/// its entries in the heaps.
+/// The state of a best-first search. Each reached state takes about 100 bytes: its node, its
+/// fingerprint and its entries in the heaps.
 #[derive(Drop)]
 struct BestFirst<'a> {
     alloc: Global,
@@ -73,14 +80,15 @@ struct BestFirst<'a> {
     potentials: &'a [Potential],
     nodes: Vec<Node>,
     seen: HashSet<u64, BuildHasherDefault<FoldHasher>, Global>,
-    /// For each measure, a heap of the open states except the initial state, with the most
-    /// promising one on top. The heap can also contain closed states.
+    /// For each measure, a heap of the open states, with the most promising state on top. The
+    /// initial state is in no heap. The heaps can also contain closed states.
     opens: Vec<BinaryHeap<(u64, usize), Global>>,
-    /// The search for the oldest open state starts at this number. No open state has a smaller one.
+    /// The number of the state at which the search for the oldest open state starts. All states
+    /// with smaller numbers are closed.
     oldest: usize,
     /// The number of states that the search may still visit.
     left: usize,
-    /// Events after which some jobs wait only for each other. A later event may end the wait.
+    /// Events after which some jobs wait only for each other. A later event may end their wait.
     stuck_now: Option<Script>,
 }
 
@@ -124,8 +132,8 @@ impl<'a> BestFirst<'a> {
         }
     }
 
-    /// Expands open states until it finds a permanent violation, and returns that violation.
-    /// Returns `None` if the limit of states is reached or no open state is left.
+    /// Visits the successors of open states until a permanent violation is found, and returns this
+    /// violation. Returns `None` if the limit of states is reached or no open state is left.
     fn find(&mut self) -> Result<Option<(Script, Violation)>, AllocError> {
         for turn in 0..usize::MAX {
             if self.left == 0 {
@@ -152,8 +160,14 @@ impl<'a> BestFirst<'a> {
     }
 
     /// Selects an open state, closes it, and returns its number. Returns `None` if no state is
-    /// open. Turn by turn, each measure selects its most promising state, and then the oldest open
-    /// state is selected. `turn` is the number of the turn.
+    /// open. The turns repeat in this order:
+    ///
+    /// - For each measure, there is a turn that selects the open state that is most promising by
+    ///   this measure.
+    /// - After them, there is a turn that selects the oldest open state. This state is also
+    ///   selected in the turn of a measure without open states.
+    ///
+    /// `turn` is the number of the current turn.
     fn next_open(&mut self, turn: usize) -> Option<usize> {
         let measures = self.opens.len().saturating_add(1);
         let measure = turn.checked_rem(measures)?;
@@ -189,8 +203,8 @@ impl<'a> BestFirst<'a> {
     }
 
     /// Visits the successors of the state with this number, within the limit of states. Returns the
-    /// first permanent violation, if any, with the events that lead to it. Stores the events of the
-    /// first violation that is not permanent in `stuck_now`.
+    /// first permanent violation, if there is one, with the events that lead to it. Stores the
+    /// events of the first violation that is not permanent in `stuck_now`.
     fn expand(&mut self, number: usize) -> Result<Option<(Script, Violation)>, AllocError> {
         let replayed = self.replayed(number)?;
         for branch in &replayed.walk.branches(self.alloc)? {
@@ -209,10 +223,12 @@ impl<'a> BestFirst<'a> {
         Ok(None)
     }
 
-    /// Visits the state to which the branch leads from state `number`, and returns its violation,
-    /// if any. Returns a violation that is not permanent only if none is stored yet. Returns `None`
-    /// if the branch is not possible, or if the state was reached before. Adds any other state
-    /// without a refused submit to the open states.
+    /// Visits the state to which the branch leads from state `number`, and returns the violation in
+    /// this new state, if there is one.
+    ///
+    /// - If the violation is not permanent, returns it only if no such violation is stored yet.
+    /// - If the branch is not possible, or the new state was reached before, returns `None`.
+    /// - Otherwise adds the new state to the open states, unless a submit was refused.
     fn visit(
         &mut self,
         replayed: &ReplayedState<'a>,
@@ -237,8 +253,8 @@ impl<'a> BestFirst<'a> {
         Ok(None)
     }
 
-    /// Adds the state with this number, in which `walk` is, to the heap of each measure. `branch`
-    /// leads to it from the state `replayed`.
+    /// Adds the open state `number` to the heap of each measure. `walk` is in this state, and
+    /// `branch` leads to it from the state `replayed`.
     fn add_open(
         &mut self,
         replayed: &ReplayedState<'a>,
@@ -258,7 +274,8 @@ impl<'a> BestFirst<'a> {
         Ok(())
     }
 
-    /// Returns the branches that lead from the initial state to the state with this number.
+    /// Returns the branches that lead from the initial state to the state with this number, in
+    /// order.
     fn path_to(&self, number: usize) -> Result<Vec<Branch>, AllocError> {
         let mut path = Vec::new(self.alloc);
         let mut number = number;
@@ -276,7 +293,7 @@ impl<'a> BestFirst<'a> {
         Ok(path)
     }
 
-    /// Recreates the state with this number: performs the branches that lead to it.
+    /// Recreates the state with this number by performing the branches that lead to this state.
     fn replayed(&self, number: usize) -> Result<ReplayedState<'a>, AllocError> {
         let mut walk = Walk::start(self.alloc, self.plan, self.choices)?;
         let mut lost = vec![in self.alloc; 0u64; self.potentials.len()]?;

@@ -13,9 +13,12 @@ use written_machine::Parent;
 /// The maximum number of actors that are tried for one choice.
 const MAX_ACTORS: usize = 8;
 
-/// A choice and the actor that makes it. `place` is the index of the choice. `newer` is the number
-/// of ready actors that became ready for this choice after this actor. It has no effect if a new
-/// client starts or a thread takes a job.
+/// A choice and the actor that makes it.
+///
+/// - `place` is the index of the choice.
+/// - `newer` selects one of the actors that are ready for the choice. It is the number of those
+///   that became ready later than the selected actor. It has no effect if a new client starts or a
+///   thread takes a job.
 #[derive(Clone, Copy, PartialEq, Eq)]
 pub(crate) struct Branch {
     pub(crate) place: usize,
@@ -23,8 +26,8 @@ pub(crate) struct Branch {
 }
 
 impl<'a> Walk<'a> {
-    /// Returns a copy of the walk in the same state, with an empty script and with `rejected` and
-    /// `has_blocked` cleared.
+    /// Returns a copy of the walk in the same state. In the copy, the script and `rejected` are
+    /// empty, and `has_blocked` is `false`.
     pub(crate) fn try_clone(&self, alloc: Global) -> Result<Walk<'a>, AllocError> {
         let mut ready = Vec::with_capacity(alloc, self.ready.len())?;
         for actors in &self.ready {
@@ -41,11 +44,15 @@ impl<'a> Walk<'a> {
         })
     }
 
-    /// Returns the branches from this state. A new client of a client kind is tried only if no
-    /// earlier client of the kind is back at its first submit, because both would act alike. For
-    /// the same reason, only one client of a kind is tried for its first submit. For each other
-    /// submit, at most [`MAX_ACTORS`] actors are tried. A submit to an unbounded queue that is at its
-    /// limit is not tried.
+    /// Returns the branches from this state that the search tries. Actors that act alike are tried
+    /// only once:
+    ///
+    /// - The start of a new client is tried only if no earlier client of its kind is back at its
+    ///   first submit.
+    /// - Of the clients of a kind that are back at their first submit, only one is tried.
+    /// - Of the actors at any other submit, at most [`MAX_ACTORS`] are tried.
+    ///
+    /// A submit to an unbounded queue is not tried if the queue is at its limit.
     pub(crate) fn branches(&self, alloc: Global) -> Result<Vec<Branch>, AllocError> {
         let mut branches = Vec::new(alloc);
         for (place, (choice, ready)) in self.choices.all.iter().zip(&self.ready).enumerate() {
@@ -65,7 +72,7 @@ impl<'a> Walk<'a> {
         Ok(branches)
     }
 
-    /// Returns `true` if some client of the client kind is back at its first submit.
+    /// Returns `true` if some client of this client kind is back at its first submit.
     fn has_old(&self, kind: usize) -> bool {
         self.choices.all.iter().zip(&self.ready).any(|(choice, ready)| *choice
             == Choice::First(kind)
@@ -73,7 +80,7 @@ impl<'a> Walk<'a> {
     }
 
     /// Returns the weight that the state loses under the vector `potential` if the branch is taken,
-    /// as [`Losses::of`] computes it. Returns 0 if the branch has no choice.
+    /// as [`Losses::of`] computes it. Returns 0 if there is no choice with the branch's index.
     pub(crate) fn loss(&self, branch: Branch, potential: &Potential) -> u64 {
         let Some(choice) = self.choices.all.get(branch.place).copied() else {
             return 0;
@@ -88,7 +95,7 @@ impl<'a> Walk<'a> {
     }
 
     /// Returns the number of threads that do not wait at a get. A pool with fewer than `core`
-    /// threads is counted with `core` threads.
+    /// threads counts as if it had `core` threads.
     pub(crate) fn moving_threads(&self) -> u64 {
         let mut threads = 0u64;
         for pool in &self.machine.pools {
@@ -105,10 +112,9 @@ impl<'a> Walk<'a> {
         threads.saturating_sub(waiting)
     }
 
-    /// Returns the least room among the pools that may refuse a job, which are those that have a
-    /// bounded queue and must not reject jobs. The room of a pool is the number of further jobs
-    /// that it accepts if no thread takes a job from its queue before that. Returns `u64::MAX` if
-    /// no pool may refuse a job.
+    /// Returns the least room of a pool that may refuse a job. Such a pool has a bounded queue and
+    /// must not reject jobs. The room of a pool is the number of further jobs that it accepts
+    /// before a thread takes a job from its queue. Returns `u64::MAX` if no pool may refuse a job.
     pub(crate) fn least_room(&self) -> u64 {
         let mut least = u64::MAX;
         for pool in &self.machine.pools {

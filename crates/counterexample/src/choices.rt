@@ -6,17 +6,18 @@ use job_bodies::{Action, Plan};
 use std::alloc::{AllocError, Global};
 use written_machine::Parent;
 
-/// The entry in the rows of [`Choices`] for an action that is not a submit and so has no choice.
+/// The index that [`Choices`] stores for an action that is not a submit. No choice has this index.
 const NO_CHOICE: usize = usize::MAX;
 
 /// A choice of what happens next in a walk.
 #[derive(Clone, Copy, PartialEq, Eq)]
 pub(crate) enum Choice {
-    /// A new client of this client kind starts its body and performs the first submit in it.
+    /// A new client of this client kind starts its body and performs the first submit of this body.
     Begin(usize),
-    /// A client of this client kind that moved earlier performs the first submit of its body.
+    /// A client of this client kind performs the first submit of its body. The client moved before,
+    /// and has started its body again.
     First(usize),
-    /// A client of this client kind performs a submit of its body that is not the first one.
+    /// A client of this client kind performs a submit of its body, but not the first one.
     Later(usize),
     /// A job of the class performs its next submit.
     Inner(usize),
@@ -28,8 +29,8 @@ pub(crate) enum Choice {
 #[derive(Drop)]
 pub(crate) struct Choices {
     pub(crate) all: Vec<Choice>,
-    /// For each choice, the limit for its submit. `None` if it submits no job, or if the queue of
-    /// the job's pool is bounded.
+    /// For each choice, the limit for its submit, or `None` if the choice submits no job or submits
+    /// it to a bounded queue.
     limits: Vec<Option<QueueLimit>>,
     of_kinds: Vec<Vec<usize>>,
     of_classes: Vec<Vec<usize>>,
@@ -100,8 +101,9 @@ impl Choices {
         Ok(())
     }
 
-    /// Returns `true` if the choice with this index submits a job to an unbounded queue that has
-    /// as many jobs as its limit.
+    /// Returns `true` if the choice with this index submits a job to an unbounded queue that is
+    /// full for this search. This means that the queue already has as many jobs as the limit for
+    /// this submit.
     pub(crate) fn is_at_limit(&self, machine: &Machine, place: usize) -> bool {
         match self.limits.get(place).copied() {
             Some(Some(limit)) => match machine.pools.get(limit.pool) {
@@ -113,8 +115,8 @@ impl Choices {
     }
 
     /// Returns the index of the choice for an actor at this position of its body. Returns
-    /// [`NO_CHOICE`] if the action there is not a submit, and `None` at the end of the body or if
-    /// the machine does not have the actor.
+    /// [`NO_CHOICE`] if the action at this position is not a submit. Returns `None` at the end of
+    /// the body, or if the machine does not have the actor.
     pub(crate) fn place_of(
         &self,
         machine: &Machine,
@@ -130,7 +132,7 @@ impl Choices {
     }
 }
 
-/// Returns the class of the first submit in this body, or `None` if it has no submit.
+/// Returns the class of the first submit in this body, or `None` if the body has no submit.
 fn first_submit(body: &[Action]) -> Option<usize> {
     for action in body {
         if let Action::Submit(class) = action {

@@ -19,21 +19,27 @@ use job_bodies::Plan;
 use std::alloc::{AllocError, Global};
 use weights::Vector;
 
-/// Checks whether a list of events is a witness, and returns the witness if it is.
+/// Checks whether a list of events is a witness against the plan, and returns the witness if it is.
+/// The arguments are not trusted:
 ///
-/// `members` are the numbers of the jobs that wait only for each other after the events, in
-/// ascending order and without duplicates. `standing` is empty or has one vector for each pool. A
-/// vector proves that its pool never has more than `core` threads if it satisfies all conditions of
-/// a standing vector, and if a rejected job does not increase the weight of a state: in each class
-/// whose pool may reject jobs, a done job weighs at most as much as a queued job. Any other vector
-/// proves nothing.
+/// - `members` should be the numbers of jobs that wait only for each other after the events, in
+///   ascending order and without duplicates.
+/// - `standing` should be empty or have one vector for each pool, which may prove that the pool
+///   never has more than `core` threads.
 ///
-/// The arguments are not trusted. The events are replayed in order. The replay stops at the first
-/// event that is a refused submit or that is not possible. If that event is a refused submit, the
-/// witness ends with it, and later events are removed. If that event is not possible, returns
-/// `None`. If all events are possible and none is a refused submit, returns `None` unless there are
-/// members, in ascending order, that wait only for each other after the last event. A submit that
-/// is rejected, as the plan allows, is an ordinary event.
+/// The events are performed in order. A submit that a pool rejects as the plan allows is an
+/// ordinary event.
+///
+/// - If a submit is refused, the witness ends with this event, and later events are removed.
+/// - If an event is not possible, and no submit was refused before it, returns `None`.
+/// - Otherwise returns a witness with all events, if the members are in ascending order and wait
+///   only for each other after the events. Returns `None` if not.
+///
+/// A vector is used as a proof only if it satisfies two conditions:
+///
+/// - It satisfies all conditions of a standing vector of its pool.
+/// - In each class whose pool may reject jobs, a done job weighs at most as much as a queued job. A
+///   rejected job then does not increase the weight of a state.
 ///
 /// # Errors
 ///
@@ -57,8 +63,8 @@ pub fn confirmed(
     }
 }
 
-/// Returns the witness that consists of the first `length` events. The last of them is a submit
-/// that the pool refuses.
+/// Returns the witness that consists of the first `length` events. The last of these events is a
+/// submit that `pool` refuses.
 fn refused(mut events: Vec<Event>, length: usize, pool: usize) -> Witness
     ensures events { result.events.items ≡ take length events.items }
     ensures ending { result.ending ≡ Refused pool }
@@ -70,9 +76,12 @@ fn refused(mut events: Vec<Event>, length: usize, pool: usize) -> Witness
     }
 }
 
-/// Returns the witness that consists of these events, or `None` if there are no members, if they
-/// are not in ascending order, or if they do not wait only for each other in `world`, the world
-/// after the events.
+/// Returns the witness that consists of these events and ends with the wait of the members. `world`
+/// is the world after the events. Returns `None` if
+///
+/// - there are no members,
+/// - the members are not in ascending order, or
+/// - the members do not wait only for each other in `world`.
 fn stuck(
     plan: &Plan,
     world: &World,
@@ -99,7 +108,7 @@ fn stuck(
 }
 
 /// Returns the [`Reason`] why no later event ends the members' wait for each other. Returns `None`
-/// if `world` and `standing` show neither of the two reasons.
+/// if `world` and `standing` prove no reason.
 fn reason(plan: &Plan, world: &World, members: &[usize], standing: &[Vector]) -> Option<Reason>
     requires { IsReachableView plan.now world.now.view }
     ensures { (s : State)

@@ -3,23 +3,23 @@
 /// The ending of a witness: a refused submit, or jobs that wait only for each other.
 #[derive(Debug, Drop)]
 pub enum Ending {
-    /// The last event is a submit that the pool with this number refuses. The pool must not reject
-    /// jobs.
+    /// The last event is a submit that the pool with this number refuses. This pool is one that
+    /// must not reject jobs.
     Refused(usize),
     /// After the last event, the jobs with these numbers wait only for each other. The second field
-    /// is the reason why no later event ends the wait.
+    /// is the reason why no later event ends their wait.
     StuckForever(Vec<usize>, Reason),
     /// After the last event, the jobs with these numbers wait only for each other. A later event
-    /// may end the wait.
+    /// may end their wait.
     StuckNow(Vec<usize>),
 }
 
-/// The reason why no later event ends the wait of jobs that wait only for each other.
+/// The reason why some jobs that wait only for each other wait forever.
 #[derive(Clone, Copy, Debug, PartialEq, Eq)]
 pub enum Reason {
     /// Each pool that has one of the jobs in its queue has `max` threads.
     PoolsAreFull,
-    /// For each pool that has one of the jobs in its queue, one of two conditions holds: the pool
-    /// has `max` threads, or a standing vector proves that it never has more than `core` threads.
+    /// Each pool that has one of the jobs in its queue has `max` threads, or a standing vector
+    /// proves that the pool never has more than `core` threads.
     PoolsStayAtCore,
 }

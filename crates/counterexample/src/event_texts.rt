@@ -11,8 +11,9 @@ use job_bodies::Plan;
 use std::alloc::AllocError;
 use support::push_number;
 
-/// Appends each event of the witness on a line of its own, in the format that `replay` reads. If
-/// jobs wait only for each other after the events, appends a `stuck` line with their numbers.
+/// Appends each event of the witness on a line of its own, in the format that the command `replay`
+/// reads. If jobs wait only for each other after the events, appends a `stuck` line with the
+/// numbers of these jobs.
 ///
 /// # Errors
 ///

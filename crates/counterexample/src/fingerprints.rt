@@ -12,9 +12,11 @@ use written_machine::Parent;
 
 /// The number by which the hash function multiplies its second input.
 const FACTOR: u64 = 0x9e37_79b9_7f4a_7c15;
-/// The hash input for the phase of a done job. It is greater than every position of a body.
+/// The hash input for the phase of a done job. This number is greater than every position of a
+/// body.
 const DONE: u64 = 1_000_001;
-/// The hash input for the phase of a queued job. It is greater than every position of a body.
+/// The hash input for the phase of a queued job. This number is greater than every position of a
+/// body.
 const QUEUED: u64 = 1_000_002;
 /// The hash input that marks a job that no actor will get.
 const ROOT: u64 = 3;
@@ -56,17 +58,18 @@ fn mixed(first: u64, second: u64) -> u64 {
     mixed ^ (mixed >> 31)
 }
 
-/// The fingerprints of the parts of a state. The fingerprint of an actor includes the fingerprints
-/// of the jobs that the actor will get.
+/// The fingerprints of the parts of a state. A fingerprint is a hash. The fingerprint of a client
+/// or job includes the fingerprints of the jobs that the client or job will get.
 #[derive(Drop)]
 struct Prints<'a> {
     machine: &'a Machine<'a>,
-    /// For each job, the sum of the fingerprints of the jobs that it created and will get.
+    /// For each job, the sum of the fingerprints of those jobs that it created and will get.
     of_jobs: Vec<u64>,
-    /// For each client that has moved, the sum of the fingerprints of the jobs that it created and
-    /// will get.
+    /// For each client that has moved, the sum of the fingerprints of those jobs that the client
+    /// created and will get.
     of_active_clients: Vec<u64>,
-    /// For each job, its place in its pool's queue, counted from 1, or 0 if the job is not queued.
+    /// For each job, its place in the queue of its pool, counted from 1. The place is 0 if the job
+    /// is not queued.
     places: Vec<u64>,
     whole: u64,
 }
@@ -89,9 +92,12 @@ impl Prints<'_> {
         }
     }
 
-    /// Adds the fingerprint of a job to the fingerprint of the actor that will get the job. If no
-    /// actor will get the job and it is not done, adds its fingerprint to the fingerprint of the
-    /// whole state. The jobs that this job will get must have been added before.
+    /// Adds the fingerprint of a job. The jobs that this job will get must have been added before.
+    ///
+    /// - If the parent of the job will get it, adds the fingerprint of the job to that of the
+    ///   parent.
+    /// - Otherwise, if the job is not done, adds the fingerprint of the job to that of the whole
+    ///   state.
     fn add_job(&mut self, number: usize, job: &Job) {
         let of_jobs = self.of_jobs.get(number).copied().unwrap_or(0);
         let phase = match job.phase {
@@ -129,7 +135,7 @@ impl Prints<'_> {
             && self.machine.child(job.parent, job.submit) == Some(number)
     }
 
-    /// Adds the fingerprint of a client to the fingerprint of the whole state, unless the client is
+    /// Adds the fingerprint of a client to that of the whole state. Adds nothing if the client is
     /// at its first submit.
     fn add_client(&mut self, choices: &Choices, number: usize) {
         let actor = Parent::Client(number);

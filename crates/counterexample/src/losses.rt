@@ -9,22 +9,23 @@ use crate::vectors::Potential;
 use job_bodies::{Action, MAX_ACTIONS};
 use written_machine::Parent;
 
-/// The largest loss that [`Losses::of`] returns. [`Losses::of`] also returns it if the loss of a
-/// choice cannot be computed.
+/// The largest loss that [`Losses::of`] returns. It also stands for the loss of a choice if this
+/// loss cannot be computed.
 const MAX_LOST: u64 = 1_000_000;
-/// The maximum number of ancestors that are followed when a job ends. The end of the job can
-/// unblock its parent, the end of the parent can unblock the grandparent, and so on.
+/// The maximum number of ancestors that are followed when a job ends. The end of a job can unblock
+/// its parent, and if the parent then ends, this can unblock the grandparent, and so on.
 const MAX_PARENTS: usize = 16;
 
-/// A state, and the vector that determines the losses of its choices.
+/// A state and a vector, from which the loss of each choice is computed. The loss of a choice is
+/// the weight, under the vector, that the state loses by this choice.
 #[derive(Clone, Copy)]
 pub(crate) struct Losses<'a> {
     machine: &'a Machine<'a>,
     potential: &'a Potential,
 }
 
-/// A body, the weight of an actor at each position of the body, and the weight that remains when
-/// the actor has ended.
+/// A body, with the weight of an actor at each position of this body, and the weight that remains
+/// when the actor has ended.
 #[derive(Clone, Copy)]
 struct WeightedBody<'a> {
     body: &'a [Action],
@@ -37,8 +38,8 @@ impl WeightedBody<'_> {
         self.row.get(position).copied().unwrap_or(0)
     }
 
-    /// Returns the weight that an actor has after all consecutive work actions from this position
-    /// on, and whether it is then at the end of its body.
+    /// Returns the weight of an actor after it performed all consecutive work actions from this
+    /// position on. Also returns whether the actor is then at the end of its body.
     fn settled(&self, position: usize) -> (u64, bool) {
         let mut position = position;
         for _ in 0..MAX_ACTIONS {
@@ -57,9 +58,9 @@ impl<'a> Losses<'a> {
         Losses { machine, potential }
     }
 
-    /// Returns the loss of the choice if `actor` makes it. If a new client starts or a thread takes
-    /// a job, `actor` has no effect. The choice must be possible. The result is at most
-    /// [`MAX_LOST`].
+    /// Returns the loss of the choice if `actor` makes it, which is at most [`MAX_LOST`]. The
+    /// choice must be possible. If a new client starts or a thread takes a job, `actor` has no
+    /// effect.
     pub(crate) fn of(&self, choice: Choice, actor: Option<Parent>) -> u64 {
         let lost = match choice {
             Choice::Begin(kind) => self.of_begin(kind),
@@ -143,9 +144,9 @@ impl<'a> Losses<'a> {
         self.of_submit(&self.weighted_actor(actor)?, position, position)
     }
 
-    /// Returns the loss of the submit at position `at`, by an actor that is now at position `from`
-    /// and performs only work in between. A refused submit loses nothing. A rejected submit creates
-    /// a done job. Returns `None` if there is no submit at `at`.
+    /// Returns the loss of the submit at position `at`. The actor is now at position `from`, and
+    /// performs only work before the submit. The loss of a refused submit is 0. A rejected submit
+    /// creates a done job. Returns `None` if the action at `at` is not a submit.
     fn of_submit(&self, weighted: &WeightedBody, from: usize, at: usize) -> Option<u64> {
         let Action::Submit(class) = *weighted.body.get(at)? else {
             return None;
@@ -171,9 +172,11 @@ impl<'a> Losses<'a> {
         }
     }
 
-    /// Returns the loss of the take of a job of this class, which must be the first job in its
-    /// pool's queue. If the job then ends without a submit or a get, the result includes the losses
-    /// of the actors that its end unblocks. Returns `None` if no thread of the pool can take a job.
+    /// Returns the weight that the state loses when a thread takes a job of this class. This job
+    /// must be the first in its pool's queue. If the job then ends without a submit or a get, its
+    /// end may unblock its parent. The result then includes the loss by the parent's next steps,
+    /// and in the same way those of further ancestors. Returns `None` if no thread of the pool can
+    /// take a job.
     fn of_take(&self, class: usize) -> Option<u64> {
         let pool = self.machine.plan.class_at(class)?.pool;
         let mut job = self.machine.pools.get(pool)?.next_to_take()?;

@@ -14,24 +14,24 @@ pub(crate) enum Phase {
     Done,
 }
 
-/// A job that was created. Its number is its index in [`Machine::jobs`].
+/// A job that was created. The number of the job is its index in [`Machine::jobs`].
 #[derive(Clone, Copy, PartialEq, Eq)]
 pub(crate) struct Job {
     pub(crate) class: usize,
     pub(crate) pool: usize,
     pub(crate) parent: Parent,
     pub(crate) phase: Phase,
-    /// The position in the parent's body of the submit that created this job.
+    /// The position, in the parent's body, of the submit that created this job.
     pub(crate) submit: usize,
     /// The latest job that this job created, or `None` if it has created none.
     newest: Option<usize>,
-    /// The job that the same parent created immediately before this one. `None` if there is none,
-    /// or if the parent started its body again between the two.
+    /// The job that the same parent created immediately before this one. `None` if there is no such
+    /// job, or if the parent started its body again after it created that job.
     before: Option<usize>,
 }
 
-/// A client that has moved. Its number in this machine is its index in [`Machine::active_clients`],
-/// which can differ from its number in the plan.
+/// A client that has moved. The number of the client in this machine is its index in
+/// [`Machine::active_clients`]. Its number in the plan can be different.
 #[derive(Clone, Copy, PartialEq, Eq)]
 pub(crate) struct ActiveClient {
     kind: usize,
@@ -46,20 +46,20 @@ pub(crate) enum StepOutcome {
     Nothing,
     /// The actor worked, got a job or started its body again.
     Moved,
-    /// The job with this number was created. `started` is `true` if a new thread runs it, and
-    /// `false` if it is queued.
+    /// The job with this number was created. If `started` is `true`, a new thread runs the job.
+    /// Otherwise the job is queued.
     Created { job: usize, started: bool },
-    /// The pool rejected the job, as the plan allows. The submit was skipped: the job with this
-    /// number was created as a done job.
+    /// The pool rejected the job, as the plan allows, and the submit was skipped. The field is the
+    /// number of the job, which was created as a done job.
     Rejected(usize),
     /// The pool refused the job.
     Refused,
-    /// The job reached the end of its body and is done. The value is the job's parent.
+    /// The job reached the end of its body and is done. The field is the parent of the job.
     Finished(Parent),
 }
 
 impl StepOutcome {
-    /// Returns the number of the job that the step created, or `None` if it created none.
+    /// Returns the number of the job that the step created, or `None` if the step created no job.
     pub(crate) fn created(self) -> Option<usize> {
         match self {
             StepOutcome::Created { job, .. } | StepOutcome::Rejected(job) => Some(job),
@@ -68,7 +68,8 @@ impl StepOutcome {
     }
 }
 
-/// A state of the lightweight machine: the pools, the jobs, and the clients that have moved.
+/// A state of the lightweight machine on which the search runs: the pools, the jobs, and the
+/// clients that have moved.
 #[derive(Drop)]
 pub(crate) struct Machine<'a> {
     pub(crate) plan: &'a Plan,
@@ -123,8 +124,9 @@ impl<'a> Machine<'a> {
         Ok(Parent::Client(number))
     }
 
-    /// Returns the index of the client's kind if the actor is a client, or of the job's class if it
-    /// is a job. Returns `None` for a client that has not moved and for a job that was not created.
+    /// Returns the index of the actor's client kind if the actor is a client, and of its class if
+    /// it is a job. Returns `None` for a client that has not moved and for a job that was not
+    /// created.
     pub(crate) fn kind_of(&self, actor: Parent) -> Option<usize> {
         match actor {
             Parent::Client(number) => self.active_clients.get(number).map(|client| client.kind),
@@ -132,9 +134,9 @@ impl<'a> Machine<'a> {
         }
     }
 
-    /// Returns the actor's position in its body, and the action there, which is `None` at the end
-    /// of the body. The whole result is `None` if the actor is a queued or done job, which has no
-    /// position, or if the machine does not have the actor.
+    /// Returns the actor's position in its body, and the action at this position. The action is
+    /// `None` at the end of the body. The whole result is `None` if the actor is a queued or done
+    /// job, or if the machine does not have the actor.
     pub(crate) fn point(&self, actor: Parent) -> Option<(usize, Option<Action>)> {
         match actor {
             Parent::Client(number) => {
@@ -153,9 +155,9 @@ impl<'a> Machine<'a> {
         }
     }
 
-    /// Returns the number of the job that the actor created at position `submit` of its body, or
-    /// `None` if there is none. Ignores the jobs that a client created before it started its body
-    /// again.
+    /// Returns the number of the latest job that the actor created by the submit at position
+    /// `submit` of its body. Returns `None` if there is no such job. Ignores the jobs that a client
+    /// created before it last started its body again.
     pub(crate) fn child(&self, actor: Parent, submit: usize) -> Option<usize> {
         let mut next = self.newest(actor);
         for _ in 0..MAX_ACTIONS {
@@ -169,8 +171,8 @@ impl<'a> Machine<'a> {
         None
     }
 
-    /// Returns the job that the actor's current get names, even if that job is done. Returns `None`
-    /// if the actor is not at a get.
+    /// Returns the number of the job that the actor's current get names, even if this job is done.
+    /// Returns `None` if the actor is not at a get.
     pub(crate) fn waits_for(&self, actor: Parent) -> Option<usize> {
         match self.point(actor)? {
             (_, Some(Action::Get(submit))) => self.child(actor, submit),
@@ -178,8 +180,9 @@ impl<'a> Machine<'a> {
         }
     }
 
-    /// Returns `true` if the actor's body has a get of the submit at position `submit`, and the
-    /// actor has not passed that get. Returns `false` for a queued or done job.
+    /// Returns `true` if the actor has not yet passed the get of the job that the submit at
+    /// position `submit` creates. Returns `false` if the actor's body has no such get, or if the
+    /// actor is a queued or done job.
     pub(crate) fn is_to_get(&self, actor: Parent, submit: usize) -> bool {
         let Some((position, _)) = self.point(actor) else {
             return false;
@@ -228,8 +231,8 @@ impl<'a> Machine<'a> {
         }
     }
 
-    /// Makes an idle thread of the pool take the first job of its queue, and returns that job.
-    /// Returns `None` if no thread is idle or the queue is empty.
+    /// Makes an idle thread of the pool take the first job of the queue, and returns the number of
+    /// this job. Returns `None` if no thread is idle or the queue is empty.
     pub(crate) fn take(&mut self, pool: usize) -> Option<usize> {
         let job = self.pools.get_mut(pool)?.take()?;
         self.go_to(Parent::Job(job), 0);

@@ -12,9 +12,11 @@ use interleaving::{Phase, World};
 use job_bodies::{Class, Plan};
 use weights::Vector;
 
-/// Returns `true` if no pool that has one of the jobs `members` in its queue can start a thread. A
-/// pool counts as unable to start one if it has `max` threads, or if its vector in `standing`
-/// proves that it never has more than `core` threads. Allocates no memory.
+/// Returns `true` if no pool that has one of the jobs `members` in its queue can start a thread.
+/// Allocates no memory. A pool cannot start a thread if
+///
+/// - it has `max` threads, or
+/// - its vector in `standing` proves that it never has more than `core` threads.
 pub(crate) fn all_start_no_thread(
     plan: &Plan,
     world: &World,
@@ -71,7 +73,7 @@ fn is_full(world: &World, pool: usize) -> bool
 }
 
 /// Returns `true` if `standing` has a vector for the pool that satisfies all conditions of a
-/// standing vector, and under which a rejected job does not increase the weight of a state.
+/// standing vector. A rejected job must also not increase the weight of a state under this vector.
 fn has_standing(plan: &Plan, pool: usize, standing: &[Vector]) -> bool
     requires { pool < length plan.now.pools }
     ensures { result ≡ spec.has_standing plan.now pool (slice_get standing.now pool) }
@@ -86,8 +88,9 @@ fn has_standing(plan: &Plan, pool: usize, standing: &[Vector]) -> bool
     }
 }
 
-/// Returns `true` if, in each class of a pool that may reject jobs, a done job weighs at most as
-/// much as a queued job. A rejected job then does not increase the weight of a state.
+/// Returns `true` if a rejected job does not increase the weight of a state under the vector. This
+/// is so if, in each class whose pool may reject jobs, a done job weighs at most as much as a
+/// queued job.
 fn rejected_are_light(plan: &Plan, vector: &Vector) -> bool
     requires { IsTrue (vector_fits plan.now vector.now) }
     ensures { result ≡ spec.rejected_are_light plan.now vector.now }
@@ -100,8 +103,9 @@ fn rejected_are_light(plan: &Plan, vector: &Vector) -> bool
     true
 }
 
-/// Returns `true` if the pool of class `number` must not reject jobs, or a done job of the class
-/// weighs at most as much as a queued job.
+/// Returns `true` if a done job of the class weighs at most as much as a queued job under the
+/// vector. Also returns `true` if the pool of the class must not reject jobs. `number` is the
+/// number of the class.
 fn is_light(plan: &Plan, vector: &Vector, number: usize, class: &Class) -> bool
     requires fits { IsTrue (vector_fits plan.now vector.now) }
     requires class { slice_get plan.now.classes number ≡ Some class.now }

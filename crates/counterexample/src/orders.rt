@@ -4,7 +4,7 @@
 use crate::choices::Choice;
 use std::alloc::{AllocError, Global};
 
-/// The number of fixed orders, which use no random numbers.
+/// The number of fixed orders of the choices. These orders use no random numbers.
 pub(crate) const FIXED_ORDERS: usize = 48;
 
 /// The seed of the pseudo-random number generator.
@@ -31,8 +31,8 @@ impl Rng {
     }
 }
 
-/// Returns the key of each choice in the fixed order `number`. The orders repeat: `number` and
-/// `number` plus [`FIXED_ORDERS`] give the same order.
+/// Returns, for each choice, its key in the fixed order with this number. A walk prefers choices
+/// with small keys. There are [`FIXED_ORDERS`] orders, after which the numbers repeat them.
 pub(crate) fn fixed_order(
     alloc: Global,
     choices: &[Choice],
@@ -58,10 +58,12 @@ pub(crate) fn shuffle(keys: &mut [u64], rng: &mut Rng) {
     }
 }
 
-/// The parameters of a fixed order. They determine the order of the three groups of choices: first
-/// submits, other submits, and takes of queued jobs. They also determine whether clients that have
-/// moved come before new ones, later choices before earlier ones, and later client kinds before
-/// earlier ones.
+/// The parameters of a fixed order of the choices. They determine
+///
+/// - the order of three groups: first submits of clients, other submits, and takes of queued jobs,
+/// - whether clients that have moved come before new ones,
+/// - whether later choices come before earlier ones, and
+/// - whether later client kinds come before earlier ones.
 #[derive(Clone, Copy)]
 struct OrderParams {
     groups: usize,
@@ -99,7 +101,7 @@ impl OrderParams {
             .saturating_add(u64::from(late))
     }
 
-    /// Returns the position of this group among the three groups: 0, 1 or 2.
+    /// Returns the position of this group of choices in the order of the three groups: 0, 1 or 2.
     fn rank(&self, group: usize) -> u64 {
         let ranks = match self.groups {
             0 => [0, 1, 2],

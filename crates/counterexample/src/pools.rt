@@ -4,8 +4,8 @@ use job_bodies::Pool;
 use std::alloc::{AllocError, Global};
 use std::collections::VecDeque;
 
-/// The response of a pool to an offered job. A full pool rejects the job if the plan allows the pool
-/// to reject jobs, and otherwise refuses it. A pool whose queue is unbounded is never full.
+/// The response of a pool to an offered job. A full pool rejects the job if the plan says that the
+/// pool may reject jobs, and otherwise refuses it. A pool with an unbounded queue is never full.
 #[derive(Clone, Copy, PartialEq, Eq)]
 pub(crate) enum Admission {
     Started,
@@ -14,14 +14,14 @@ pub(crate) enum Admission {
     Refused,
 }
 
-/// Returns the greatest number of threads that the pool can have: its maximum, or its core if its
-/// queue is unbounded.
+/// Returns the greatest number of threads that the pool can have. This is its core size if its
+/// queue is unbounded, and otherwise its maximum.
 pub(crate) fn most_threads(pool: &Pool) -> u64 {
     if pool.unbounded { pool.core } else { pool.max }
 }
 
-/// A pool's sizes, its threads and its queue of job numbers. If the queue is unbounded, `max` is
-/// the pool's core, and `capacity` has no effect.
+/// The state of a pool in a search: its sizes, its threads and the numbers of the jobs in its
+/// queue. If the queue is unbounded, `max` is the pool's core size, and `capacity` has no effect.
 #[derive(Drop)]
 pub(crate) struct SearchPool {
     core: u64,
@@ -64,8 +64,8 @@ impl SearchPool {
         })
     }
 
-    /// Returns the pool's response to a job that is offered in this state, without changing the
-    /// pool.
+    /// Returns the response that the pool in this state gives to an offered job. Does not change
+    /// the pool.
     pub(crate) fn answer(&self) -> Admission {
         if self.threads < self.core {
             Admission::Started
@@ -105,8 +105,8 @@ impl SearchPool {
         Ok(answer)
     }
 
-    /// Returns the job that an idle thread would take next. Returns `None` if no thread is idle or
-    /// the queue is empty.
+    /// Returns the number of the job that an idle thread would take next. Returns `None` if no
+    /// thread is idle or the queue is empty.
     pub(crate) fn next_to_take(&self) -> Option<usize> {
         if self.idle == 0 {
             return None;
@@ -114,8 +114,8 @@ impl SearchPool {
         self.queue.front().copied()
     }
 
-    /// Makes an idle thread take the first job of the queue, and returns that job. Returns `None`
-    /// if no thread is idle or the queue is empty.
+    /// Makes an idle thread take the first job of the queue, and returns the number of this job.
+    /// Returns `None` if no thread is idle or the queue is empty.
     pub(crate) fn take(&mut self) -> Option<usize> {
         let job = self.next_to_take()?;
         self.idle = self.idle.saturating_sub(1);
@@ -138,32 +138,32 @@ impl SearchPool {
         self.idle
     }
 
-    /// Returns the number of threads, or `core` if the pool has fewer: the pool starts `core`
-    /// threads before it queues a job.
+    /// Returns the number of threads, or `core` if the pool has fewer than `core` threads. The
+    /// reason is that the pool starts `core` threads before it queues a job.
     pub(crate) fn threads_to_come(&self) -> u64 {
         self.threads.max(self.core)
     }
 
-    /// Returns `true` if the pool never refuses a job: the plan allows it to reject jobs, or its
-    /// queue is unbounded.
+    /// Returns `true` if the pool never refuses a job, because the plan says that it may reject
+    /// jobs or because its queue is unbounded.
     pub(crate) fn never_refuses(&self) -> bool {
         self.may_reject || self.unbounded
     }
 
     /// Returns the number of further jobs that the pool accepts if no thread takes a job from the
-    /// queue before that. Returns `u64::MAX` if the queue is unbounded.
+    /// queue in the meantime. Returns `u64::MAX` if the queue is unbounded.
     pub(crate) fn room(&self) -> u64 {
         self.places()
             .saturating_add(self.max.saturating_sub(self.threads))
     }
 
-    /// Returns the numbers of the queued jobs, from the first to the last of the queue.
+    /// Returns the numbers of the queued jobs, from the head of the queue to its end.
     pub(crate) fn queued(&self) -> &VecDeque<usize> {
         &self.queue
     }
 
-    /// Returns `true` if the pool is closed: no thread is idle, so that a queued job waits only for
-    /// running jobs. If `permanent` is `true`, a closed pool must also have `max` threads.
+    /// Returns `true` if no thread is idle, so that each queued job waits for a running job to end.
+    /// If `permanent` is `true`, the pool must also have `max` threads.
     pub(crate) fn is_closed(&self, permanent: bool) -> bool {
         self.idle == 0 && (!permanent || self.threads == self.max)
     }

@@ -9,14 +9,16 @@ use crate::pools::most_threads;
 use job_bodies::{Action, Plan};
 use std::alloc::{AllocError, Global};
 
-/// The limit for the submits of clients, in queued jobs. The submits of jobs have a higher limit.
+/// The limit for the submits of clients, as a number of queued jobs. The limits for the submits of
+/// jobs are not lower.
 const FOR_CLIENTS: u64 = 16;
 
-/// A limit for a submit to a pool whose queue is unbounded.
+/// A limit for a submit to a pool with an unbounded queue.
 #[derive(Clone, Copy, PartialEq, Eq)]
 pub(crate) struct QueueLimit {
     pub(crate) pool: usize,
-    /// A search does not make the submit if the queue has at least this many jobs.
+    /// The limit, as a number of queued jobs. A search does not make the submit if the queue has at
+    /// least this many jobs.
     pub(crate) jobs: u64,
 }
 
@@ -24,7 +26,8 @@ pub(crate) struct QueueLimit {
 #[derive(Drop)]
 pub(crate) struct QueueLimits<'a> {
     plan: &'a Plan,
-    /// For each pool, the limit for the submits of jobs, or `None` if the pool's queue is bounded.
+    /// For each pool, the limit for submits by jobs, as a number of queued jobs. `None` if the
+    /// pool's queue is bounded.
     for_jobs: Vec<Option<u64>>,
 }
 
@@ -43,15 +46,15 @@ impl<'a> QueueLimits<'a> {
         Ok(QueueLimits { plan, for_jobs })
     }
 
-    /// Returns the limit for the submits of this class by clients. Returns `None` if the queue of
-    /// the class's pool is bounded.
+    /// Returns the limit for submits of this class by clients. Returns `None` if the queue of the
+    /// class's pool is bounded.
     pub(crate) fn for_clients(&self, class: usize) -> Option<QueueLimit> {
         let mut limit = self.for_jobs(class)?;
         limit.jobs = FOR_CLIENTS;
         Some(limit)
     }
 
-    /// Returns the limit for the submits of this class by jobs. Returns `None` if the queue of the
+    /// Returns the limit for submits of this class by jobs. Returns `None` if the queue of the
     /// class's pool is bounded.
     pub(crate) fn for_jobs(&self, class: usize) -> Option<QueueLimit> {
         let pool = self.plan.class_at(class)?.pool;
@@ -60,9 +63,10 @@ impl<'a> QueueLimits<'a> {
     }
 }
 
-/// Returns the maximum number of jobs that a search puts into the pool's unbounded queue: the limit
-/// for clients, plus the number of jobs that the running jobs of all pools can have submitted to
-/// this pool if each pool has all its threads.
+/// Returns the maximum number of jobs that a search puts into the pool's unbounded queue. This is
+/// the limit for submits by clients, plus the number of jobs that the threads of all pools can
+/// submit to this pool. Each thread counts with the greatest number of submits to this pool in a
+/// body that the thread can run.
 pub(crate) fn most_queued(plan: &Plan, pool: usize) -> u64 {
     let mut jobs = FOR_CLIENTS;
     for (number, from) in plan.pools().iter().enumerate() {
@@ -72,7 +76,8 @@ pub(crate) fn most_queued(plan: &Plan, pool: usize) -> u64 {
     jobs
 }
 
-/// Returns the maximum number of jobs that one job of the pool `from` submits to the pool `to`.
+/// Returns the greatest number of submits to the pool `to` in the body of a class of the pool
+/// `from`.
 fn most_submits(plan: &Plan, from: usize, to: usize) -> u64 {
     let mut most = 0u64;
     for class in plan.classes() {

@@ -11,18 +11,22 @@ use interleaving::{Event, Outcome, World};
 use job_bodies::{Plan, Pool};
 use std::alloc::{AllocError, Global};
 
-/// Searches for events that lead to a job that the pool rejects, as the plan allows. Visits at most
+/// Searches for events after which the pool rejects a job, as the plan allows. Visits at most
 /// `states` states.
 ///
-/// Returns the events up to the first rejection by the pool. Other pools may reject jobs before,
-/// but no submit is refused. Returns `None` if the search finds no such events, if the pool must
-/// not reject jobs, or if there is no such pool. Even if the search finds none, there can be such
-/// events. For a pool with an unbounded queue, which never rejects a job, returns `None` without a
-/// search. The result is the same for each call with the same arguments.
+/// Returns the events up to the first rejection by this pool. Other pools may reject jobs before,
+/// but no submit is refused. Returns `None` if
 ///
-/// The search looks for a witness against the plan in which this pool must not reject jobs and has
-/// a queue of at least 1. The events of that witness are replayed in the given plan. The search
-/// also ends if another pool refuses a submit, or if jobs wait only for each other.
+/// - the search finds no such events, although there may be some,
+/// - the pool must not reject jobs, or has an unbounded queue and so never rejects a job, or
+/// - there is no such pool.
+///
+/// The result is the same for each call with the same arguments.
+///
+/// The search looks for a witness against a changed plan. In the changed plan, this pool must not
+/// reject jobs and has a queue of at least 1. The events of this witness are replayed in the given
+/// plan. The search also ends if another pool refuses a submit, or if jobs wait only for each
+/// other.
 ///
 /// # Errors
 ///
@@ -49,7 +53,7 @@ pub fn find_rejection(
     }
 }
 
-/// Returns the plan in which the pool must not reject jobs and has a queue of at least 1.
+/// Returns a copy of the plan in which the pool must not reject jobs and has a queue of at least 1.
 fn refusing_plan(alloc: Global, plan: &Plan, pool: usize) -> Result<Plan, AllocError>
     requires { pool < length plan.now.pools }
     ensures { IfOk result (λ refusing. refusing ≡ spec.refusing plan.now pool) }
@@ -86,8 +90,8 @@ fn copies_of(alloc: Global, pools: &[Pool]) -> Result<Vec<Pool>, AllocError>
     Ok(copies)
 }
 
-/// Returns the events up to the first one in which the pool rejects a job. Returns `None` if there
-/// is no such event, or if an event before it is not possible or is a refused submit.
+/// Returns the events up to the first event in which the pool rejects a job. Returns `None` if
+/// there is no such event, or if an event before it is not possible or is a refused submit.
 fn until_rejected(
     alloc: Global,
     plan: &Plan,
@@ -109,7 +113,7 @@ fn until_rejected(
 }
 
 /// Performs the events in `world`, which must be in the plan's initial state. Returns the number of
-/// events up to and including the first one in which the pool rejects a job. Returns `None` if
+/// events up to and including the first event in which the pool rejects a job. Returns `None` if
 /// there is no such event, or if an event before it is not possible or is a refused submit.
 fn first_rejection(
     plan: &Plan,

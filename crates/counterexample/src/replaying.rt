@@ -11,8 +11,8 @@ use std::alloc::AllocError;
 
 /// The result of the replay of a list of events.
 pub(crate) enum ReplayResult {
-    /// A submit is refused. The first number is the number of events up to and including the first
-    /// refused submit. The second is the pool that refuses it.
+    /// A submit is refused. The first field is the number of events up to and including the first
+    /// refused submit. The second field is the number of the pool that refuses it.
     Refused(usize, usize),
     /// An event is not possible, and no earlier event is a refused submit.
     NotPossible,
@@ -21,8 +21,8 @@ pub(crate) enum ReplayResult {
 }
 
 /// Performs the events in `world`, which must be in the plan's initial state. Stops after the first
-/// refused submit, or before the first event that is not possible. Continues after a submit that is
-/// rejected, as the plan allows.
+/// refused submit, or before the first event that is not possible. Does not stop after a submit
+/// that a pool rejects as the plan allows.
 ///
 /// # Errors
 ///

@@ -8,24 +8,24 @@ use job_bodies::Plan;
 use std::alloc::{AllocError, Global};
 use written_machine::{Event, Parent};
 
-/// The state of a replay: the machine, and the clients and jobs that correspond to the clients and
-/// jobs of the script.
+/// The state of a replay of some events of a script, which is a list of events. It consists of the
+/// machine, and of the clients and jobs of the replay that correspond to those of the script.
 #[derive(Drop)]
 pub(crate) struct Replay<'a> {
     pub(crate) machine: Machine<'a>,
     pub(crate) script: Script,
     pub(crate) is_refused: bool,
-    /// For each client of the script, the corresponding client of the replay, or `None` if it has
-    /// not moved in the replay.
+    /// For each client of the script, the corresponding client of the replay, or `None` if the
+    /// client has not moved in the replay.
     clients: Vec<Option<Parent>>,
     /// For each job of the script, the corresponding job of the replay, or `None` if the replay has
-    /// not created it.
+    /// not created this job.
     jobs: Vec<Option<Parent>>,
 }
 
 impl<'a> Replay<'a> {
-    /// Replays each event of the script for which `kept` has `true`. Skips an event that is not
-    /// possible, and stops after the first refused submit.
+    /// Replays the events of the script whose element in `kept` is `true`. Skips an event that is
+    /// not possible, and stops after the first refused submit.
     pub(crate) fn of(
         alloc: Global,
         plan: &'a Plan,
@@ -50,8 +50,8 @@ impl<'a> Replay<'a> {
         Ok(replay)
     }
 
-    /// Returns `true` if the replay ended in the violation `wanted` or in a refused submit. A
-    /// permanent wait is also a [`Violation::StuckNow`].
+    /// Returns `true` if the replay ended in the violation `wanted` or in a refused submit. If
+    /// `wanted` is [`Violation::StuckNow`], a permanent wait counts too.
     pub(crate) fn has_violation(
         &self,
         alloc: Global,
@@ -91,9 +91,9 @@ impl<'a> Replay<'a> {
         }
     }
 
-    /// Returns the client of the replay that corresponds to this client of the script. Adds the
-    /// client to the replay if it has not moved yet. Returns `None` if the script has no such
-    /// client.
+    /// Returns the client of the replay that corresponds to the client `client` of the script. Adds
+    /// this client to the replay if it has not moved yet. Returns `None` if the script has no
+    /// client with this number.
     fn client(&mut self, script: &Script, client: usize) -> Result<Option<Parent>, AllocError> {
         if let Some(actor) = self.clients.get(client).copied().unwrap_or(None) {
             return Ok(Some(actor));

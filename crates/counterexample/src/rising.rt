@@ -13,8 +13,8 @@ pub(crate) fn are_rising(numbers: &[usize]) -> bool
     }
 }
 
-/// Returns `true` if the first number is greater than `last`, and each other number is greater than
-/// the number before it.
+/// Returns `true` if the first of the numbers is greater than `last`, and each other number is
+/// greater than the number before it.
 fn rise_above(mut last: usize, mut numbers: &[usize]) -> bool
     ensures { result ≡ rise_above last numbers.now }
 {

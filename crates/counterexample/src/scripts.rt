@@ -5,8 +5,8 @@ use job_bodies::Plan;
 use std::alloc::{AllocError, Global};
 use written_machine::{Event, Parent};
 
-/// An event of a script, and the number of the job that the event created, if any. Clients are
-/// numbered as in [`Machine`]: in the order of their first steps.
+/// An event of a script, and the number of the job that the event created, if it created one.
+/// Clients are numbered in the order of their first steps, as in [`Machine`].
 #[derive(Clone, Copy, PartialEq, Eq)]
 pub(crate) struct ScriptStep {
     pub(crate) event: Event,
@@ -17,7 +17,8 @@ pub(crate) struct ScriptStep {
 #[derive(Drop)]
 pub(crate) struct Script {
     pub(crate) steps: Vec<ScriptStep>,
-    /// The client kind of each client that moves, by the client's number.
+    /// For each client that moves, the index of its client kind. The list is in the order of the
+    /// clients' numbers.
     pub(crate) kinds: Vec<usize>,
 }
 
@@ -48,8 +49,8 @@ impl Script {
         Ok(())
     }
 
-    /// Returns the events with the clients renumbered as in the plan. The clients of a client kind
-    /// get the lowest numbers of the kind, in the order of their first steps.
+    /// Returns the events with the client numbers of the plan. Of the clients of a client kind, the
+    /// one that moves first gets the lowest number of the kind, and so on.
     pub(crate) fn events(&self, alloc: Global, plan: &Plan) -> Result<Vec<Event>, AllocError> {
         let numbers = self.numbers(alloc, plan)?;
         self.steps
@@ -86,7 +87,7 @@ impl Script {
         Ok(numbers)
     }
 
-    /// Adds a client of this client kind to the script and to the machine, and returns the client.
+    /// Adds a client of this client kind to the script and to the machine, and returns this client.
     pub(crate) fn begin(
         &mut self,
         machine: &mut Machine,

@@ -20,37 +20,41 @@ use job_bodies::Plan;
 use std::alloc::{AllocError, Global};
 use written_machine::Event;
 
-/// The maximum number of guided walks for each vector that exceeds its bound.
+/// The maximum number of guided walks for each vector. A guided walk prefers the choices that lose
+/// the least weight under the vector.
 const GUIDED_WALKS: usize = 256;
 /// The maximum number of walks in random orders.
 const RANDOM_WALKS: usize = 1500;
 
 /// A list of events that is probably a witness. [`confirmed`](crate::confirmed) checks whether it
-/// is.
+/// is a witness.
 #[derive(Drop)]
 pub struct CandidateWitness {
     /// The events that lead from the plan's initial state to the violation.
     pub events: Vec<Event>,
-    /// The numbers of the jobs that wait only for each other after the events. Empty if the last
-    /// event is a refused submit.
+    /// The numbers of the jobs that wait only for each other after the events. This list is empty
+    /// if the last event is a refused submit.
     pub members: Vec<usize>,
 }
 
-/// The result of a search: a probable witness, if one was found, and the number of visited states.
+/// The result of a search for a witness: a probable witness, if one was found, and the number of
+/// visited states.
 #[derive(Drop)]
 pub struct SearchResult {
     /// A probable witness, if one was found.
     pub found: Option<CandidateWitness>,
-    /// The number of visited states. A state counts each time that it is visited: the initial state
-    /// at the start of each walk and of the best-first search, and each state after a choice. In
-    /// the best-first search, a refused submit counts too.
+    /// The number of visited states. A state counts each time that the search visits it:
+    ///
+    /// - the initial state counts at the start of each walk and of the best-first search,
+    /// - the state after each choice counts, and
+    /// - in the best-first search, each choice that ends in a refused submit counts too.
     pub states: usize,
 }
 
 /// Searches for a witness against the plan: events that end in a refused submit, or after which
-/// jobs wait only for each other, possibly not permanently. Visits at most `states` states. If the
-/// search finds no witness, the plan may still have one. The result is the same for each call with
-/// the same arguments.
+/// jobs wait only for each other. A later event may end this wait. Visits at most `states` states.
+/// If the search finds no witness, the plan may still have one. The result is the same for each
+/// call with the same arguments.
 ///
 /// The contract promises nothing about the events that are found. Pass them to
 /// [`confirmed`](crate::confirmed), which replays them.
@@ -90,18 +94,18 @@ struct Search<'a> {
     rng: Rng,
     /// The number of states that the search may still visit.
     left: usize,
-    /// The number of states that are reserved for the later stages of the search, in addition to
-    /// `left`.
+    /// The number of states that are reserved for the later stages of the search. They are not
+    /// included in `left`.
     reserved: usize,
-    /// Events after which some jobs wait only for each other. A later event may end the wait. They
-    /// are the result if no permanent violation is found.
+    /// Events after which some jobs wait only for each other. A later event may end their wait. The
+    /// search returns these events if it finds no permanent violation.
     stuck_now: Option<Script>,
 }
 
 impl Search<'_> {
-    /// Performs the stages of the search: walks in fixed orders, guided walks, walks in random
-    /// orders, and the best-first search. Returns the first permanent violation or, if there is
-    /// none, the first other violation. Returns `None` if no violation was found.
+    /// Performs the stages of the search, and returns the first permanent violation. If there is
+    /// none, returns the first other violation, or `None` if no violation was found. The stages are
+    /// walks in fixed orders, guided walks, walks in random orders, and the best-first search.
     fn find(&mut self) -> Result<Option<CandidateWitness>, AllocError> {
         if let Some(found) = self.in_fixed_orders()? {
             return Ok(Some(found));
@@ -130,9 +134,10 @@ impl Search<'_> {
         self.reserved = 0;
     }
 
-    /// Performs the walks in fixed orders, until one finds a permanent violation. The first walk
-    /// may visit all remaining states. All other walks together may visit half of the states that
-    /// then remain. No walk visits more than [`longest_walk`] states.
+    /// Performs the walks in fixed orders, until one of them finds a permanent violation. No walk
+    /// visits more than [`longest_walk`] states. Within this limit, the first walk may visit all
+    /// remaining states, and all other walks together may visit half of the states that then
+    /// remain.
     fn in_fixed_orders(&mut self) -> Result<Option<CandidateWitness>, AllocError> {
         let first = self.fixed_rules(0)?;
         if let Some(found) = self.walk_once(first, None)? {
@@ -149,8 +154,8 @@ impl Search<'_> {
         Ok(None)
     }
 
-    /// Performs guided walks for each vector that exceeds its bound, until one finds a permanent
-    /// violation. Together they may visit half of the remaining states.
+    /// Performs guided walks for each vector in `potentials`, until one of them finds a permanent
+    /// violation. All these walks together may visit half of the remaining states.
     fn guided(&mut self, potentials: &[Potential]) -> Result<Option<CandidateWitness>, AllocError> {
         self.reserve_half();
         for potential in potentials {
@@ -165,8 +170,8 @@ impl Search<'_> {
         Ok(None)
     }
 
-    /// Performs the walks in random orders, until one finds a permanent violation. Together they
-    /// may visit half of the remaining states.
+    /// Performs the walks in random orders, until one of them finds a permanent violation. All
+    /// these walks together may visit half of the remaining states.
     fn random_walks(&mut self) -> Result<Option<CandidateWitness>, AllocError> {
         self.reserve_half();
         for number in 0..RANDOM_WALKS {
@@ -179,9 +184,10 @@ impl Search<'_> {
         Ok(None)
     }
 
-    /// Performs the best-first search, which may visit all remaining states, and returns a probable
-    /// witness if it finds a permanent violation. If `stuck_now` is empty, stores in it the events
-    /// of a violation that is not permanent, if the search finds one.
+    /// Performs the best-first search, which may visit all remaining states. Returns a probable
+    /// witness if the search finds a permanent violation. If it finds a violation that is not
+    /// permanent, stores the events of this violation in `stuck_now`, unless `stuck_now` already
+    /// has events.
     fn best_first(
         &mut self,
         potentials: &[Potential],
@@ -207,9 +213,10 @@ impl Search<'_> {
         }
     }
 
-    /// Performs a walk by these rules, guided by `potential` if there is one, and returns a
-    /// probable witness if the walk finds a permanent violation. Stores the events of the first
-    /// violation that is not permanent in `stuck_now`.
+    /// Performs a walk by these rules, and returns a probable witness if the walk finds a permanent
+    /// violation. If the walk finds a violation that is not permanent, stores its events in
+    /// `stuck_now`, unless `stuck_now` already has events. `potential` is the vector that guides
+    /// the walk, or `None`.
     fn walk_once(
         &mut self,
         rules: Rules,
@@ -246,8 +253,8 @@ impl Search<'_> {
         }
     }
 
-    /// Returns the result of a search that found no permanent violation: the events in `stuck_now`,
-    /// if any.
+    /// Returns the result of a search that found no permanent violation. The result is a probable
+    /// witness with the events in `stuck_now`, or `None` if there are none.
     fn stuck_now_result(&mut self) -> Result<Option<CandidateWitness>, AllocError> {
         match self.stuck_now.take() {
             Some(script) => {
@@ -269,8 +276,8 @@ impl Search<'_> {
     }
 
     /// Returns the rules of the guided walk with this number. The first [`FIXED_ORDERS`] guided
-    /// walks use the fixed orders, and the others use random orders. Every second one of the others
-    /// changes its order during the walk.
+    /// walks make their choices in the fixed orders, and the others in random orders. Every second
+    /// walk with a random order changes this order at random steps.
     fn guided_rules(&mut self, number: usize) -> Result<Rules, AllocError> {
         let mut rules = self.fixed_rules(number)?;
         if number >= FIXED_ORDERS {
@@ -280,9 +287,10 @@ impl Search<'_> {
         Ok(rules)
     }
 
-    /// Returns the rules of the random walk with this number. Every eighth random walk lets any
-    /// number of clients move. The others have a limit, which is between 1 and 7 in the first 64
-    /// walks and increases by one after every 64 walks.
+    /// Returns the rules of the random walk with this number. In every eighth random walk, any
+    /// number of clients may move. In the others, the number of clients that may move is limited.
+    /// The limit is between 1 and 7 in the first 64 walks, and is one higher after every further 64
+    /// walks.
     fn random_rules(&mut self, number: usize) -> Result<Rules, AllocError> {
         let mut rules = self.fixed_rules(number)?;
         shuffle(&mut rules.keys, &mut self.rng);
@@ -296,9 +304,8 @@ impl Search<'_> {
 }
 
 /// Returns the limit on the number of states that one walk visits: 12 times the sum of the maximums
-/// and queue capacities of all pools, plus 128. For a pool with an unbounded queue, the core counts
-/// as the maximum, and the largest number of jobs that a search puts into the queue counts as the
-/// capacity.
+/// and queue capacities of all pools, plus 128. For a pool with an unbounded queue, the core size
+/// counts as the maximum, and [`most_queued`] as the capacity.
 fn longest_walk(plan: &Plan) -> usize {
     let mut room = 0u64;
     for (number, pool) in plan.pools().iter().enumerate() {
@@ -314,8 +321,8 @@ fn longest_walk(plan: &Plan) -> usize {
     room.saturating_mul(12).saturating_add(128) as usize
 }
 
-/// Shortens the script, and returns it as a probable witness. The shorter script ends in the same
-/// `violation` or in a refused submit.
+/// Shortens the script, which is a list of events that ends in `violation`, and returns the result
+/// as a probable witness. The shorter script ends in the same violation or in a refused submit.
 fn answer_of(
     alloc: Global,
     plan: &Plan,

@@ -7,18 +7,19 @@ use job_bodies::Plan;
 use std::alloc::{AllocError, Global};
 use written_machine::Event;
 
-/// The maximum number of events that are replayed to shorten one script, not counting
-/// [`WHOLE_REPLAYS`] replays of the whole script.
+/// The maximum number of events that are replayed to shorten one script. [`WHOLE_REPLAYS`] replays
+/// of the whole script are allowed in addition.
 const MAX_REPLAYED: u64 = 6_000_000;
-/// The number of replays of the whole script that are allowed besides [`MAX_REPLAYED`] events, so
-/// that a long script can be shortened too.
+/// The number of replays of the whole script that are allowed in addition to [`MAX_REPLAYED`]
+/// events. They allow a long script to be shortened too.
 const WHOLE_REPLAYS: u64 = 24;
 /// The maximum number of rounds, each of which tries every kind of removal.
 const MAX_ROUNDS: usize = 8;
-/// An upper bound on the number of times that the length of a script can be halved.
+/// An upper bound on the number of times that the size of the parts to remove can be halved.
 const MAX_HALVES: usize = 40;
 
-/// The state of a reduction: the script, and the number of events that may still be replayed.
+/// The state of the shortening of a script: the script so far, and the number of events that may
+/// still be replayed.
 #[derive(Drop)]
 struct Shortener<'a> {
     alloc: Global,
@@ -28,8 +29,8 @@ struct Shortener<'a> {
     left: u64,
 }
 
-/// Shortens a script that ends in `violation`. The result ends in the same violation or in a
-/// refused submit, and is not longer than `script`.
+/// Shortens a script, which is a list of events that ends in `violation`. The result ends in the
+/// same violation or in a refused submit, and is not longer than the given script.
 pub(crate) fn shorten_script(
     alloc: Global,
     plan: &Plan,
@@ -58,8 +59,8 @@ pub(crate) fn shorten_script(
 }
 
 impl Shortener<'_> {
-    /// Tries to remove all steps of jobs, and then all events in which a thread takes a job from a
-    /// queue.
+    /// Tries to remove all events of jobs. Then tries to remove all events in which a thread takes
+    /// a job from a queue.
     fn without_kinds(&mut self) -> Result<(), AllocError> {
         self.try_without(|_, event| matches!(event, Event::Job(_)))?;
         self.try_without(|_, event| matches!(event, Event::Take(_)))
@@ -104,8 +105,8 @@ impl Shortener<'_> {
         Ok(())
     }
 
-    /// Tries, for each event, to remove this event and all later events that are equal to it: the
-    /// later steps of the same actor, or the later takes from the same queue.
+    /// Tries, for each event, to remove this event and all equal later events. These are the later
+    /// steps of the same actor, or the later takes from the same queue.
     fn with_actors_still(&mut self) -> Result<(), AllocError> {
         for from in (0..self.script.steps.len()).rev() {
             if let Some(act) = self.script.steps.get(from).copied() {
@@ -115,10 +116,10 @@ impl Shortener<'_> {
         Ok(())
     }
 
-    /// Removes the events for which `is_out` returns `true`, if a replay of the other events is
-    /// shorter than the script and ends in the violation or in a refused submit. Also removes the
-    /// events that the replay skips. Does nothing if the script is longer than the number of events
-    /// that may still be replayed.
+    /// Tries to remove the events for which `is_out` returns `true`. Replays the other events, and
+    /// skips those that are no longer possible. If the performed events are fewer than before and
+    /// end in the violation or in a refused submit, they become the script. Does nothing if the
+    /// script has more events than may still be replayed.
     fn try_without<F: Fn(usize, Event) -> bool>(&mut self, is_out: F) -> Result<(), AllocError>
         requires { F.IsAlwaysCallable is_out }
     {
@@ -147,8 +148,8 @@ impl Shortener<'_> {
     }
 }
 
-/// Returns an upper bound on the number of parts of length `size` into which `length` is divided.
-/// The last part may be shorter.
+/// Returns an upper bound on the number of parts if a list of `length` elements is divided into
+/// parts of `size` elements. The last part may be shorter.
 fn parts(length: usize, size: usize) -> usize {
     length.checked_div(size).unwrap_or(0).saturating_add(1)
 }

@@ -8,8 +8,8 @@ use least_vectors::{Kind, Levels, ResizedPlan, reach};
 use std::alloc::{AllocError, Global};
 use weights::Vector;
 
-/// The weights of a vector whose total exceeds its bound. A walk uses them to compute how much
-/// weight a choice loses.
+/// The weights of a vector whose total is larger than the plan's sizes allow. A walk uses these
+/// weights to compute how much weight a choice loses.
 #[derive(Drop)]
 pub(crate) struct Potential {
     pub(crate) workers: Vec<u64>,
@@ -17,9 +17,9 @@ pub(crate) struct Potential {
     pub(crate) clients: Vec<Vec<u64>>,
 }
 
-/// Computes the lightest vectors that each pool needs, and returns those that are heavier than the
-/// plan's sizes allow. These vectors show where the plan may fail. The list is empty if a class of the
-/// plan submits itself, directly or through other classes.
+/// Returns the vectors that show where the plan may fail. Computes the lightest vectors that each
+/// pool needs in a certificate, and returns those that are heavier than the plan's sizes allow. The
+/// list is empty if a class of the plan submits itself, directly or through other classes.
 pub(crate) fn missed_vectors(alloc: Global, plan: &Plan) -> Result<Vec<Potential>, AllocError> {
     let mut vectors = MissedVectors {
         alloc,
@@ -48,7 +48,7 @@ pub(crate) fn missed_vectors(alloc: Global, plan: &Plan) -> Result<Vec<Potential
     Ok(vectors.potentials)
 }
 
-/// The vectors that were found to exceed their bounds.
+/// The vectors whose totals were found to be larger than the plan's sizes allow.
 #[derive(Drop)]
 struct MissedVectors {
     alloc: Global,
@@ -57,7 +57,7 @@ struct MissedVectors {
 
 impl MissedVectors {
     /// Returns `true` if the pool's lightest vector of this kind has a total of at most `limit`.
-    /// Otherwise returns `false`, and records that vector if there is one.
+    /// Otherwise returns `false`, and records this vector if there is one.
     fn holds(
         &mut self,
         growing: &ResizedPlan,
@@ -86,9 +86,9 @@ impl MissedVectors {
         Ok(false)
     }
 
-    /// Gives this rank to each pool that has no rank yet, and whose blocked vector for this rank
-    /// has a total below the pool's core. Returns whether a pool got the rank. If none did, records
-    /// the blocked vectors with larger totals.
+    /// Gives this rank to some pools, and returns whether it gave the rank to any. A pool gets the
+    /// rank if it has no rank yet, and its lightest blocked vector for this rank has a total below
+    /// its core. If no pool gets the rank, records the blocked vectors, whose totals are too large.
     fn rank_pools(
         &mut self,
         growing: &ResizedPlan,

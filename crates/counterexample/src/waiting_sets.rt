@@ -5,8 +5,8 @@ use job_bodies::MAX_POOLS;
 use std::alloc::{AllocError, Global};
 use written_machine::Parent;
 
-/// The maximum work for reducing one set. The work is the number of members whose removal is tried,
-/// times the number of jobs.
+/// The maximum work for making one set of jobs minimal. The work is the number of members whose
+/// removal is tried, times the number of jobs.
 const MAX_LOOKS: usize = 4_000_000;
 
 /// A set of jobs of a machine, by number.
@@ -17,8 +17,8 @@ pub(crate) struct JobSet {
 
 impl JobSet {
     /// Returns the greatest set of jobs that wait only for each other, which may be empty. If
-    /// `permanent` is `true`, each pool that has a member in its queue must have `max` threads, so
-    /// that the members wait permanently.
+    /// `permanent` is `true`, the members must wait forever: each pool that has one of them in its
+    /// queue must have `max` threads.
     pub(crate) fn greatest(
         alloc: Global,
         machine: &Machine,
@@ -34,10 +34,10 @@ impl JobSet {
         Ok(members)
     }
 
-    /// Returns a minimal subset: its members still wait only for each other, and no smaller subset
-    /// except the empty one has this property. If `permanent` is `true`, each pool that has a
-    /// member in its queue must have `max` threads. If [`MAX_LOOKS`] is reached first, the subset
-    /// may not be minimal.
+    /// Returns a minimal subset whose members still wait only for each other: no smaller subset has
+    /// this property, except the empty one. If `permanent` is `true`, each pool that has a member
+    /// in its queue must have `max` threads. If the work reaches [`MAX_LOOKS`], the subset may not
+    /// be minimal.
     pub(crate) fn made_least(
         self,
         alloc: Global,
@@ -94,11 +94,12 @@ impl JobSet {
     }
 
     /// Repeatedly removes the members that wait for no job or for a job outside the set, until each
-    /// member waits only for members. If `permanent` is `true`, a queued job whose pool has fewer
-    /// than `max` threads is removed too.
+    /// member waits only for members. If `permanent` is `true`, also removes each queued job whose
+    /// pool has fewer than `max` threads.
     ///
-    /// The number of rounds is at most the number of pools plus 2, because each round except the
-    /// first and the last finds fewer closed pools than the round before.
+    /// The number of rounds is at most the number of pools plus 2. The reason is that each round
+    /// except the first and the last finds fewer closed pools than the round before. A pool is
+    /// closed if its queued jobs wait only for members.
     fn shrink(
         &mut self,
         alloc: Global,
@@ -114,9 +115,9 @@ impl JobSet {
         Ok(())
     }
 
-    /// Returns, for each pool, whether it is closed. A job in the queue of a closed pool waits only
-    /// for members, because no thread of the pool is idle and each of its running jobs is a member.
-    /// If `permanent` is `true`, a closed pool must also have `max` threads.
+    /// Returns, for each pool, whether it is closed. In a closed pool, no thread is idle and each
+    /// running job is a member, so a queued job waits only for members. If `permanent` is `true`, a
+    /// closed pool must also have `max` threads.
     fn closed_pools(
         &self,
         alloc: Global,
@@ -140,9 +141,9 @@ impl JobSet {
         Ok(closed)
     }
 
-    /// Removes each member that waits for no job or for a job outside the set, and returns `true`
-    /// if it removed one. Visits the jobs from the latest to the first, because a job at a get
-    /// waits for a job that was created after it.
+    /// Removes each member that waits for no job or for a job outside the set. Returns `true` if it
+    /// removed a member. Visits the jobs from the latest to the first, because a job at a get waits
+    /// for a job that was created later.
     fn shrink_once(&mut self, machine: &Machine, closed: &[bool]) -> bool {
         let mut changed = false;
         for number in (0..machine.jobs.len()).rev() {
@@ -158,8 +159,10 @@ impl JobSet {
         changed
     }
 
-    /// Returns `true` if the job with this number waits only for members. A queued job does if its
-    /// pool is closed. A running job does if it is at a get of a job that is a member.
+    /// Returns `true` if the job with this number waits only for members:
+    ///
+    /// - A queued job waits only for members if its pool is closed.
+    /// - A running job waits only for members if it is at a get of a member.
     fn waits(&self, machine: &Machine, closed: &[bool], number: usize, job: &Job) -> bool {
         match job.phase {
             Phase::Queued => closed.get(job.pool).copied().unwrap_or(false),

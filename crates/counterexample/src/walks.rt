@@ -13,27 +13,29 @@ use job_bodies::{Action, Plan};
 use std::alloc::{AllocError, Global};
 use written_machine::Parent;
 
-/// The factor by which the loss of a choice is multiplied before its key is added. It is greater
-/// than every key, so that the keys decide only among equal losses.
+/// The factor by which the loss of a choice is multiplied before the key of the choice is added.
+/// The factor is greater than every key, so the keys decide only among choices with equal losses.
 const FOR_A_LOSS: u64 = 10_000_000_000_000;
 
-/// The violation in which a list of events ends. It is *permanent* unless it is `StuckNow`.
+/// The violation in which a list of events ends. The violation is *permanent* unless it is
+/// `StuckNow`.
 #[derive(Clone, Copy, PartialEq, Eq)]
 pub(crate) enum Violation {
     /// The last event is a refused submit.
     Refused,
-    /// Some jobs wait only for each other, and each pool that has one of them in its queue has
-    /// `max` threads.
+    /// Some jobs wait only for each other, and each pool that has one of these jobs in its queue
+    /// has `max` threads.
     StuckForever,
-    /// Some jobs wait only for each other. A later event may end the wait.
+    /// Some jobs wait only for each other. A later event may end their wait.
     StuckNow,
 }
 
 /// The rules by which a walk makes its choices, and the limits of the walk.
 #[derive(Drop)]
 pub(crate) struct Rules {
-    /// The key of each choice. Of the possible choices that lose the least weight, the walk makes
-    /// the one with the least key. In a walk without a vector, no choice loses weight.
+    /// The key of each choice. The walk makes a possible choice that loses the least weight. Among
+    /// choices with equal losses, it makes the one with the least key. In a walk without a vector,
+    /// no choice loses weight.
     pub(crate) keys: Vec<u64>,
     /// The maximum number of clients that move.
     pub(crate) max_active_clients: usize,
@@ -72,22 +74,28 @@ pub(crate) struct Walk<'a> {
     pub(crate) machine: Machine<'a>,
     pub(crate) choices: &'a Choices,
     pub(crate) script: Script,
-    /// For each choice, the actors that are at its submit, in the order in which they arrived.
+    /// For each choice, the actors that are at the submit of this choice, in the order in which
+    /// they arrived there.
     pub(crate) ready: Vec<Vec<Parent>>,
     /// For each client kind, the number of its clients that have started their bodies.
     pub(crate) begun: Vec<u64>,
-    /// The choices that ended in a rejected submit, since the last choice that ended otherwise.
+    /// The choices that ended in a rejected submit since the last choice with another outcome.
     pub(crate) rejected: Vec<usize>,
-    /// Whether, since this flag was last cleared, a client or a job has stopped at a get that must
-    /// wait, or a client at the end of its body.
+    /// Whether an actor has stopped since this flag was last cleared: a client or a job at a get
+    /// that must wait, or a client at the end of its body.
     pub(crate) has_blocked: bool,
 }
 
-/// Performs a walk by these rules, until a submit is refused, a permanent violation is found, no
-/// choice is possible, or the limit of states is reached. `potential` is the vector of a guided
-/// walk. Each step makes a choice, and then performs the steps that are possible without another
-/// choice: work, gets of done jobs, and ends and restarts of bodies. If the walk finds only a
-/// violation that is not permanent, its result has the events that lead to that violation.
+/// Performs a walk by these rules: makes one choice after another, from the plan's initial state.
+/// After each choice, performs the steps that need no further choice: work, gets of done jobs, and
+/// ends and restarts of bodies. The walk ends if
+///
+/// - a submit is refused or a permanent violation is found,
+/// - no choice is possible, or
+/// - the limit of states is reached.
+///
+/// If the walk finds only a violation that is not permanent, its result has the events that lead to
+/// this violation. `potential` is the vector that guides the walk, or `None`.
 pub(crate) fn perform_walk<'a>(
     alloc: Global,
     plan: &'a Plan,
@@ -161,7 +169,7 @@ impl<'a> Walk<'a> {
     }
 
     /// Returns the violation if some jobs wait only for each other, and `None` otherwise. If `now`
-    /// is `false`, returns `None` also for a violation that is not permanent.
+    /// is `false`, returns only a permanent violation.
     pub(crate) fn stuck(&self, alloc: Global, now: bool) -> Result<Option<Violation>, AllocError> {
         let members = JobSet::greatest(alloc, &self.machine, false)?;
         if members.is_empty() {
@@ -174,8 +182,8 @@ impl<'a> Walk<'a> {
         Ok(if now { Some(Violation::StuckNow) } else { None })
     }
 
-    /// Makes the possible choice that [`first_possible`](Walk::first_possible) returns, or does
-    /// nothing if no choice is possible.
+    /// Makes the choice that [`first_possible`](Walk::first_possible) returns. Does nothing if no
+    /// choice is possible.
     fn step(
         &mut self,
         rules: &Rules,
@@ -193,11 +201,13 @@ impl<'a> Walk<'a> {
         Ok(step)
     }
 
-    /// Makes the choice with this index. If an actor that is ready for the choice makes it, `newer`
-    /// selects the actor: 0 for the actor that became ready last, 1 for the one before it, and so
-    /// on. If a new client starts or a thread takes a job, `newer` has no effect. The choice of a
-    /// new client must be possible. If any other choice is not possible, changes nothing and
-    /// returns [`WalkStep::Nothing`].
+    /// Makes the choice with this index. Some choices are made by an actor that is ready for the
+    /// choice. `newer` then selects the actor: 0 for the actor that became ready last, 1 for the
+    /// actor before it, and so on. If a new client starts or a thread takes a job, `newer` has no
+    /// effect.
+    ///
+    /// If the choice is not possible, changes nothing and returns [`WalkStep::Nothing`]. Only the
+    /// start of a new client is not checked, and must be possible.
     pub(crate) fn choose(&mut self, place: usize, newer: usize) -> Result<WalkStep, AllocError> {
         match self.choices.all.get(place).copied() {
             Some(Choice::Begin(kind)) => {
@@ -217,8 +227,9 @@ impl<'a> Walk<'a> {
         }
     }
 
-    /// Removes and returns one of the actors that are ready for this choice. `newer` is the number
-    /// of ready actors that became ready after it. Returns `None` if there is no such actor.
+    /// Removes one of the actors that are ready for this choice, and returns it. `newer` is the
+    /// number of those that became ready later than this actor. Returns `None` if there is no such
+    /// actor.
     fn take_ready(&mut self, place: usize, newer: usize) -> Option<Parent> {
         let ready = self.ready.get_mut(place)?;
         let at = ready.len().checked_sub(1)?.checked_sub(newer)?;
@@ -229,11 +240,13 @@ impl<'a> Walk<'a> {
         }
     }
 
-    /// Returns the index of the possible choice that loses the least weight under the vector
-    /// `potential`, or `None` if no choice is possible. Among equal losses, returns the choice with
-    /// the least key. Without a vector, every loss counts as 0. Returns a choice in `rejected` only
-    /// if no other choice is possible. Never returns a submit to an unbounded queue that is at its
-    /// limit.
+    /// Returns the index of the choice that the walk makes next, or `None` if no choice is
+    /// possible. This is the possible choice that loses the least weight under the vector
+    /// `potential`. Among choices with equal losses, it is the one with the least key.
+    ///
+    /// - Without a vector, every loss counts as 0.
+    /// - A choice in `rejected` is returned only if no other choice is possible.
+    /// - A submit to an unbounded queue that is at its limit is never returned.
     fn first_possible(&self, rules: &Rules, potential: Option<&Potential>) -> Option<usize> {
         let mut best = None;
         let mut least = u64::MAX;
@@ -277,7 +290,8 @@ impl<'a> Walk<'a> {
         }
     }
 
-    /// Returns `true` if some client of the client kind has not moved and its body has a submit.
+    /// Returns `true` if some client of the client kind has not moved, and the body of the kind has
+    /// a submit.
     pub(crate) fn has_more(&self, kind: usize) -> bool {
         let Some(client) = self.machine.plan.client_at(kind) else {
             return false;
@@ -324,8 +338,8 @@ impl<'a> Walk<'a> {
         Ok(WalkStep::Advanced)
     }
 
-    /// Performs the first submit of a new client. The client is at that submit, and no other actor
-    /// became ready for it later.
+    /// Performs the first submit of a new client. The client must be at this submit, and must be
+    /// the last actor that became ready for it.
     fn submit_of(&mut self, client: Parent) -> Result<WalkStep, AllocError> {
         let place = match self.machine.point(client) {
             Some((position, _)) => self.choices.place_of(&self.machine, client, position),
@@ -358,8 +372,8 @@ impl<'a> Walk<'a> {
     }
 
     /// Performs all steps of the actor up to its next submit, to a get that must wait, or to its
-    /// end. An actor that reaches a submit becomes ready for it. If the actor is a job and ends,
-    /// continues with its parent if the parent waited for this job.
+    /// end. An actor that reaches a submit becomes ready for this submit. If the actor is a job
+    /// that ends, and its parent waited for this job, continues with the parent.
     fn settle(&mut self, actor: Parent) -> Result<(), AllocError> {
         let mut actor = actor;
         for _ in 0..u64::MAX {
@@ -389,7 +403,8 @@ impl<'a> Walk<'a> {
         Ok(())
     }
 
-    /// Adds the actor, which is at a submit, to the actors that are ready for that submit.
+    /// Adds the actor, which is at a submit, to the list of the actors that are ready for this
+    /// submit.
     fn add_ready(&mut self, actor: Parent, position: usize) -> Result<(), AllocError> {
         let place = self.choices.place_of(&self.machine, actor, position);
         if let Some(ready) = place.and_then(|place| self.ready.get_mut(place)) {
