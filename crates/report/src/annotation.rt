@@ -30,7 +30,8 @@ pub(crate) enum Rule {
 pub(crate) struct Annotation {
     pub(crate) rule: Rule,
     pub(crate) message: String,
-    /// The place, or `None` if the remark is about the whole file or its place is not known.
+    /// The place of the remark. `None` if the remark is about the whole file, or if its place is
+    /// not known.
     pub(crate) place: Option<TextPlace>,
 }
 

@@ -22,8 +22,8 @@ use std::alloc::{AllocError, Global};
 
 // ---- faults
 
-/// Returns an annotation for each fault that is reported. If other faults are left out, one more
-/// annotation gives their number.
+/// Returns an annotation for each fault in the list `faults`. If further faults are left out, one
+/// more annotation has their number.
 pub(crate) fn fault_annotations(
     alloc: Global,
     faults: &Faults,
@@ -62,8 +62,8 @@ fn push_fault(
     push(alloc, found, rule, &fault.what, Some(fault.place))
 }
 
-/// Appends an annotation with the number of faults that are left out. Appends nothing if the number
-/// is 0.
+/// Appends an annotation with `omitted`, the number of faults that are left out. Appends nothing if
+/// this number is 0.
 fn push_omitted(
     alloc: Global,
     found: &mut Vec<Annotation>,
@@ -87,8 +87,8 @@ fn omitted_words(alloc: Global, omitted: usize) -> Result<String, AllocError>
     }
 }
 
-/// Returns an annotation for a single fault that has no place in the plan's text. `words` is its
-/// message.
+/// Returns an annotation for the fault with this number, which has no place in the plan's text.
+/// `words` is the message of the fault.
 pub(crate) fn single_fault(
     alloc: Global,
     number: u8,
@@ -123,8 +123,9 @@ pub(crate) fn push(
 
 // ---- findings
 
-/// Returns the annotations of a finding about a plan: one for each warning, one for the finding
-/// and, unless the plan is safe, those for the result of the search for sizes.
+/// Returns the annotations of a finding about a plan: one for each warning, and one for the
+/// finding. If the plan is not known to be safe, also returns those for the result of the search
+/// for sizes.
 pub(crate) fn annotations_of(
     alloc: Global,
     places: &PlanPlaces,
@@ -233,8 +234,8 @@ fn push_warning(
 }
 
 /// Appends the annotations of the answer NOT SAFE: one with the first line of `description`, and
-/// then those for the result of the search for sizes. `description` is the description of the
-/// witness.
+/// those for the result of the search for sizes. `description` is the text that describes the
+/// events of the witness.
 fn push_not_safe(
     alloc: Global,
     found: &mut Vec<Annotation>,
@@ -252,7 +253,7 @@ fn push_not_safe(
     push_sizes_found(alloc, found, Rule::NotSafe, places, plan, sizes)
 }
 
-/// Returns the first line of a text, or an empty text if there is none.
+/// Returns the first line of a text, or an empty text if the text has no lines.
 fn first_line(text: &str) -> &str
     ensures { result.now ≡ spec.first_line text.now }
 {
@@ -262,8 +263,8 @@ fn first_line(text: &str) -> &str
     }
 }
 
-/// Returns the place of the name of the pool that refuses a submit, if the witness ends with a
-/// refused submit. Returns `None` for any other ending, or if the place is not known.
+/// Returns the place of the name of the pool that refuses the last submit of the witness. Returns
+/// `None` if the witness ends in another way, or if the place is not known.
 fn ending_place(places: &PlanPlaces, ending: &Ending) -> Option<TextPlace>
     ensures { result ≡ spec.ending_place places.now ending.now }
 {

@@ -7,12 +7,12 @@ use job_bodies::{MAX_SIZE, Plan};
 use size_search::{Cause, NoSizes};
 use std::alloc::AllocError;
 
-/// Appends the line `no fitting sizes found`, and a line with the reason, such as
-/// `class render submits itself`.
+/// Appends the line `no fitting sizes found` and a second line with the reason, such as `class
+/// render submits itself`.
 ///
 /// # Errors
 ///
-/// [`AllocError`] if memory runs out.
+/// Returns [`AllocError`] if memory runs out.
 pub fn push_no_sizes(text: &mut String, plan: &Plan, cause: NoSizes) -> Result<(), AllocError>
     ensures { Pushes result text.old text.new (spec.no_sizes_text plan.now cause) }
 {

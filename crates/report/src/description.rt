@@ -13,11 +13,12 @@ use counterexample::{Ending, Reason, Witness};
 use job_bodies::Plan;
 use std::alloc::{AllocError, Global};
 
-/// Returns the description of a witness.
+/// Returns the description of a witness. A witness is a list of events after which a submit is
+/// refused or jobs wait only for each other.
 ///
-/// The first line has the form `refused by db, after 7 events of 2 clients`. The lines after it
-/// show the events and the pools. If jobs wait only for each other, further lines show what each of
-/// these jobs waits for, and a last line says why the wait is permanent or what may end it. Long
+/// The first line has the form `refused by db, after 7 events of 2 clients`. The next lines show
+/// the events and the pools. If jobs wait only for each other, further lines show what each of
+/// these jobs waits for. A last line then says why their wait is permanent or what may end it. Long
 /// lists of events or of jobs are shortened.
 ///
 /// # Errors
@@ -40,7 +41,8 @@ pub fn describe(alloc: Global, plan: &Plan, witness: &Witness) -> Result<String,
     Ok(text)
 }
 
-/// Appends the first line: the ending of the witness, and the numbers of its events and clients.
+/// Appends the first line: the ending of the witness, the number of its events, and the number of
+/// clients that act in them.
 fn push_head(
     text: &mut String,
     plan: &Plan,
@@ -83,8 +85,8 @@ fn push_stuck(text: &mut String, how: &str, members: &[usize]) -> Result<(), All
     write!(text, "{how}{jobs} jobs wait only for each other")
 }
 
-/// Appends the last line: the reason why jobs wait permanently, or what may end the wait. Appends
-/// nothing if the witness ends with a refused submit.
+/// Appends the last line, which says why the jobs wait permanently or what may end their wait.
+/// Appends nothing if the witness ends with a refused submit.
 fn push_why(text: &mut String, ending: &Ending) -> Result<(), AllocError>
     ensures { Pushes result text.old text.new (spec.why_text ending.now) }
 {

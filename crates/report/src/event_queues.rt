@@ -12,8 +12,8 @@ use serde_json::Value;
 use std::alloc::{AllocError, Global};
 use std::collections::VecDeque;
 
-/// Returns a JSON list of the numbers of the jobs that are in the pool's queue after these steps,
-/// in the order of the queue. The steps begin at the plan's initial state.
+/// Returns a JSON list with the numbers of the jobs that are in the pool's queue after these steps,
+/// in the order of the queue. The first step must start from the plan's initial state.
 pub(crate) fn queue_value(
     alloc: Global,
     steps: &[EventStep],
@@ -38,7 +38,7 @@ fn push_jobs(values: &mut Vec<Value>, mut queue: VecDeque<usize>) -> Result<(), 
     Ok(())
 }
 
-/// Returns the queue of a pool after these steps. The queue is empty before them.
+/// Returns the queue of a pool after these steps. Before them, the queue is empty.
 fn queue_after(
     alloc: Global,
     steps: &[EventStep],
@@ -65,9 +65,9 @@ fn add_all(
     Ok(())
 }
 
-/// Updates the queue of the pool for one step: appends the job if the step queues one in this pool,
-/// and removes the first job if a thread of this pool takes one. Any other step leaves the queue
-/// unchanged.
+/// Updates the queue of the pool for one step. Appends a job that the step adds to the queue of
+/// this pool. Removes the first job if a thread of this pool takes it. Any other step leaves the
+/// queue unchanged.
 fn add(queue: &mut VecDeque<usize>, step: EventStep, pool: usize) -> Result<(), AllocError>
     ensures { OnOk result (queue.new.items ≡ shown.queue_with pool queue.old.items step) }
 {

@@ -17,15 +17,16 @@ use std::alloc::{AllocError, Global};
 /// The actor of an event.
 #[derive(Clone, Copy)]
 pub(crate) enum Actor {
-    /// A client: the index of its client kind, and its own number.
+    /// A client. The first field is the index of its client kind, and the second field is its own
+    /// number.
     Client(usize, usize),
-    /// A job: the index of its class, and its own number.
+    /// A job. The first field is the index of its class, and the second field is its own number.
     Job(usize, usize),
     /// An idle worker of the pool with this index.
     Pool(usize),
 }
 
-/// The number of a pool's threads, and the number of those that are idle.
+/// The number of threads of a pool, and the number of its idle threads.
 #[derive(Clone, Copy)]
 pub(crate) struct PoolCounts {
     /// The index of the pool in the plan.
@@ -38,24 +39,24 @@ pub(crate) struct PoolCounts {
 #[derive(Clone, Copy)]
 pub(crate) struct EventStep {
     pub(crate) actor: Actor,
-    /// The index, in the actor's body, of the action that the actor performed. It is `None` at the
-    /// end of a body, and for an event of a pool.
+    /// The index of the performed action in the actor's body. It is `None` if the event is not an
+    /// action: at the end of a body, and for an event of a pool.
     pub(crate) action: Option<usize>,
     pub(crate) outcome: Outcome,
-    /// The pool that the event changed, or that refused or rejected a submit, with its numbers of
-    /// threads after the event. It is `None` for any other event.
+    /// The pool that the event changed, or that refused or rejected a submit, with its number of
+    /// threads after the event. It is `None` if the event concerns no pool.
     pub(crate) pool: Option<PoolCounts>,
-    /// The index of the class of the job that a thread took from a queue, or `None` if no job was
-    /// taken.
+    /// The index of the class of the job that a thread took from a queue. It is `None` if no thread
+    /// took a job.
     pub(crate) taken: Option<usize>,
 }
 
-/// Performs the events in `world`, which must be a new world of the plan, and returns what each of
-/// them did. Stops before the first event that is not possible.
+/// Performs the events in `world`, which must be a new world of the plan, and returns what each
+/// event did. Stops before the first event that is not possible.
 ///
 /// # Errors
 ///
-/// [`AllocError`] if memory runs out.
+/// Returns [`AllocError`] if memory runs out.
 pub(crate) fn perform_all(
     alloc: Global,
     plan: &Plan,
@@ -72,7 +73,7 @@ pub(crate) fn perform_all(
     Ok(steps)
 }
 
-/// Performs the events and appends what each of them did. Stops before the first event that is not
+/// Performs the events and appends what each event did. Stops before the first event that is not
 /// possible.
 fn push_steps(
     steps: &mut Vec<EventStep>,
@@ -97,8 +98,8 @@ fn push_steps(
     Ok(())
 }
 
-/// Performs the event and returns what it did. If the event is not possible, changes nothing and
-/// returns `None`.
+/// Performs the event and returns what it did. Changes nothing and returns `None` if the event is
+/// not possible.
 fn perform(
     plan: &Plan,
     kinds: &Clients,
@@ -140,15 +141,15 @@ fn actor_of(kinds: &Clients, world: &World, event: Event) -> Actor
     }
 }
 
-/// Returns the index of the class of a job. Returns 0 if the job is not live.
+/// Returns the index of the class of the job with this number. Returns 0 if the job is not live.
 fn class_of(world: &World, number: usize) -> usize
     ensures { result ≡ performed.class_seen world.now.view number }
 {
     world.job(number).map_or(0, |job| job.class)
 }
 
-/// Returns the position of the event's actor in its body. Returns 0 for a pool, for a client that
-/// does not exist, and for a job that is queued, done or not live.
+/// Returns the position of the event's actor in its body before the event. Returns 0 if the actor
+/// is a pool, a client that does not exist, or a job that does not run.
 fn position_of(world: &World, event: Event) -> usize
     ensures { result ≡ performed.position_seen world.now.view event }
 {
@@ -186,7 +187,8 @@ fn action_of(outcome: Outcome, position: usize) -> Option<usize>
 }
 
 /// Returns the index of the pool that an event with this outcome changed, or that refused or
-/// rejected a submit. Returns `None` for any other event. `world` is the world after the event.
+/// rejected a submit. Returns `None` if the event concerns no pool. `world` is the world after the
+/// event.
 fn changed_pool(plan: &Plan, world: &World, actor: Actor, outcome: Outcome) -> Option<usize>
     ensures { result ≡ performed.changed_pool_seen plan.now world.now.view actor outcome }
 {
@@ -198,8 +200,8 @@ fn changed_pool(plan: &Plan, world: &World, actor: Actor, outcome: Outcome) -> O
     }
 }
 
-/// Returns the index of the class of the job that a thread took from a queue, or `None` for any
-/// other outcome. `world` is the world after the event.
+/// Returns the index of the class of the job that a thread took from a queue. Returns `None` if no
+/// thread took a job. `world` is the world after the event.
 fn taken_class(world: &World, outcome: Outcome) -> Option<usize>
     ensures { result ≡ performed.taken_seen world.now.view outcome }
 {

@@ -8,13 +8,14 @@ use size_search::SizesFound;
 /// A finding about a plan with its declared sizes.
 #[derive(Drop)]
 pub enum PlanFinding {
-    /// A certificate that accepts the plan. The list has, for each pool that was found to reject a
-    /// job, the number of events after which it does. For any other pool it has `None`, or ends
-    /// before it.
+    /// A certificate accepts the plan. The first field is this certificate. The second field has an
+    /// element for each pool: if the pool was found to reject a job, the number of events after
+    /// which it rejects one, and otherwise `None`. Elements at the end can be missing.
     Safe(Cert, Vec<Option<u64>>),
-    /// A witness against the plan, and the result of the search for other sizes.
+    /// A witness shows that the plan is not safe. The fields are the witness and the result of the
+    /// search for other sizes.
     NotSafe(Witness, SizesFound),
-    /// Neither a certificate nor a witness was found, so it is not known whether the declared sizes
-    /// are safe. The field is the result of the search for other sizes.
+    /// Neither a certificate nor a witness was found, so the declared sizes may or may not be safe.
+    /// The field is the result of the search for other sizes.
     NotDecided(SizesFound),
 }

@@ -14,12 +14,12 @@ use job_bodies::Plan;
 use plan_text::TextPlace;
 use std::alloc::{AllocError, Global};
 
-/// Returns the commands for the finding about a plan and for its warnings. `file` is the name of
-/// the plan's file.
+/// Returns the commands of GitHub Actions for the finding about a plan and for its warnings. `file`
+/// is the name of the plan's file.
 ///
 /// # Errors
 ///
-/// [`AllocError`] if memory runs out.
+/// Returns [`AllocError`] if memory runs out.
 pub fn finding_github(
     alloc: Global,
     file: &str,
@@ -35,11 +35,12 @@ pub fn finding_github(
     commands(alloc, file, &annotations)
 }
 
-/// Returns the commands for the faults of a plan's text. `file` is the name of the plan's file.
+/// Returns the commands of GitHub Actions for the faults of a plan's text. `file` is the name of
+/// the plan's file.
 ///
 /// # Errors
 ///
-/// [`AllocError`] if memory runs out.
+/// Returns [`AllocError`] if memory runs out.
 pub fn faults_github(alloc: Global, file: &str, faults: &Faults) -> Result<String, AllocError>
     ensures { IfOk result
         (λ text. string_bytes text ≡ spec.github_text file.now (fault_remarks faults.now)) }
@@ -48,12 +49,12 @@ pub fn faults_github(alloc: Global, file: &str, faults: &Faults) -> Result<Strin
     commands(alloc, file, &annotations)
 }
 
-/// Returns the command for the fault `number`, which has no place in the plan's text. `words` is
-/// its message, and `file` is the name of the plan's file.
+/// Returns the command of GitHub Actions for a fault that has no place in the plan's text. `number`
+/// is the number of the fault, and `words` is its message. `file` is the name of the plan's file.
 ///
 /// # Errors
 ///
-/// [`AllocError`] if memory runs out.
+/// Returns [`AllocError`] if memory runs out.
 pub fn fault_github(
     alloc: Global,
     file: &str,

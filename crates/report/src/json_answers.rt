@@ -20,8 +20,8 @@ use std::alloc::{AllocError, Global};
 /// The version of the JSON format, which each answer states as its member `format`.
 const FORMAT: u8 = 1;
 
-/// Values in the JSON object of an answer about a plan. Each field is named after its member of the
-/// object.
+/// The values of some members in the JSON object of an answer about a plan. Each field has the name
+/// of its member.
 #[derive(Drop)]
 pub(crate) struct AnswerParts {
     pub(crate) assumptions: Value,
@@ -33,12 +33,12 @@ pub(crate) struct AnswerParts {
 }
 
 /// Returns the JSON text of the finding about a plan and of its warnings. `file` is the name of the
-/// plan's file, `text` is its content, and `places` has the place of each entry of the plan in the
-/// text.
+/// plan's file, and `text` is the content of this file. `places` has the place of each entry of the
+/// plan in `text`.
 ///
 /// # Errors
 ///
-/// [`AllocError`] if memory runs out.
+/// Returns [`AllocError`] if memory runs out.
 pub fn finding_json(
     alloc: Global,
     file: &str,
@@ -57,11 +57,11 @@ pub fn finding_json(
 }
 
 /// Returns the JSON text of the faults of a plan's text. `file` is the name of the plan's file, and
-/// `text` its content.
+/// `text` is the content of this file.
 ///
 /// # Errors
 ///
-/// [`AllocError`] if memory runs out.
+/// Returns [`AllocError`] if memory runs out.
 pub fn faults_json(
     alloc: Global,
     file: &str,
@@ -76,12 +76,13 @@ pub fn faults_json(
     line_of(alloc, &value)
 }
 
-/// Returns the JSON text of the fault `number`, which has no place in the plan's text. `words` is
-/// its message. `file` is the name of the plan's file, and `text` its content.
+/// Returns the JSON text of a fault that has no place in the plan's text. `number` is the number of
+/// the fault, and `words` is its message. `file` is the name of the plan's file, and `text` is the
+/// content of this file.
 ///
 /// # Errors
 ///
-/// [`AllocError`] if memory runs out.
+/// Returns [`AllocError`] if memory runs out.
 pub fn fault_json(
     alloc: Global,
     file: &str,
@@ -108,8 +109,8 @@ fn word_of(finding: &PlanFinding) -> &'static str
     }
 }
 
-/// Creates the object of an answer about a plan. `word` is the name of the answer, such as `NOT
-/// SAFE`, and `file` is the name of the plan's file.
+/// Creates the JSON object of an answer about a plan. `word` is the name of the answer, such as
+/// `NOT SAFE`. `file` is the name of the plan's file.
 #[tactic(auto, unfolding(crate::specs::Json::answer_data))]
 fn answer_value(
     alloc: Global,
@@ -144,9 +145,9 @@ fn answer_value(
     })
 }
 
-/// Creates the object of the answer `FAULTS`. `faults` lists the faults that are reported, and
-/// `omitted` is the number of those that are left out. `file` is the name of the plan's file, and
-/// `text` its content.
+/// Creates the JSON object of the answer `FAULTS`. `faults` is the JSON list of the reported
+/// faults, and `omitted` is the number of faults that are left out. `file` is the name of the
+/// plan's file, and `text` is the content of this file.
 #[tactic(auto, unfolding(crate::specs::Json::answer_data))]
 fn faulty_value(
     alloc: Global,

@@ -11,8 +11,9 @@ use plan_text::TextPlace;
 use serde_json::{Value, json};
 use std::alloc::{AllocError, Global};
 
-/// Converts `body`, the body of the class or client kind at this index, to a JSON list. `places`
-/// has the places of all classes, or those of all client kinds.
+/// Converts a body to a JSON list of its actions. `index` is the index of the class or client kind
+/// that has this body. `places` has the places of all classes or, for the body of a client kind, of
+/// all client kinds.
 pub(crate) fn body_value(
     alloc: Global,
     plan: &Plan,
@@ -67,8 +68,8 @@ fn action_value(
     }
 }
 
-/// Returns a JSON value that identifies the job of a submit in its body: the submit's position, or
-/// null if the body has no get of this job.
+/// Returns a JSON value by which a submit and its get refer to the same job: the position of the
+/// submit in its body. The value is null if the body has no get of this job.
 fn slot_value(body: &[Action], submit: usize) -> Value
     ensures { view result ≡ spec.slot_data body.now submit }
 {

@@ -14,10 +14,13 @@ use serde_json::{Value, json};
 use std::alloc::{AllocError, Global};
 use weights::{Bound, Vector};
 
-/// Converts a pool's bound to JSON: its kind, its total and the shares in the total. The total
-/// bounds the number of jobs in the queue at one time (`standing`), or of jobs that are ever
-/// submitted to the pool (`lifetime`). The value is null if there is no bound, if its vector does
-/// not fit the plan, or if its total does not bound the jobs in an unbounded queue.
+/// Converts a pool's bound to JSON: its kind, its total and the shares in the total. The kind says
+/// what the total limits: the jobs in the queue at one time (`standing`), or the jobs that are ever
+/// submitted to the pool (`lifetime`). The value is null if
+///
+/// - there is no bound,
+/// - the vector of the bound does not fit the plan, or
+/// - the queue is unbounded and the total does not limit its jobs.
 pub(crate) fn bound_value(
     alloc: Global,
     plan: &Plan,
@@ -85,7 +88,7 @@ fn bound_object(
     })
 }
 
-/// Converts the shares of the client kinds to JSON, except those that are 0.
+/// Converts the shares of the client kinds in a bound to JSON, except the shares that are 0.
 fn clients_value(alloc: Global, plan: &Plan, shares: &[u64]) -> Result<Value, AllocError>
     ensures { IfOk result (λ value. view value ≡ spec.clients_data plan.now shares.now) }
 {
@@ -96,7 +99,7 @@ fn clients_value(alloc: Global, plan: &Plan, shares: &[u64]) -> Result<Value, Al
     Ok(Value::from(values))
 }
 
-/// Converts the shares of the pools' threads to JSON, except those that are 0.
+/// Converts the shares of the pools' threads in a bound to JSON, except the shares that are 0.
 fn threads_value(alloc: Global, plan: &Plan, shares: &[u64]) -> Result<Value, AllocError>
     ensures { IfOk result (λ value. view value ≡ spec.threads_data plan.now shares.now) }
 {
@@ -133,9 +136,9 @@ fn share_value(alloc: Global, jobs: u64, name: &str) -> Result<Value, AllocError
 }
 
 /// Creates a JSON object with two numbers: the maximum number of core threads that wait at counted
-/// gets at once, and the number of the other core threads. A counted get can block a thread that
-/// other jobs need. The maximum is the total of `blocked`; the value is null if this vector does
-/// not fit the plan.
+/// gets at once, and the number of the other core threads. A counted get is one that can block a
+/// thread that other jobs need. The maximum is the total of the vector `blocked`. The value is null
+/// if this vector does not fit the plan.
 pub(crate) fn blocked_value(
     alloc: Global,
     plan: &Plan,

@@ -20,7 +20,8 @@ use job_bodies::{Action, Plan};
 use serde_json::{Value, json};
 use std::alloc::{AllocError, Global};
 
-/// Converts the ending of a witness to JSON. `world` is the world after the events of the witness.
+/// Converts the ending of a witness to JSON: the pool that refuses a submit, or the jobs that wait
+/// only for each other. `world` is the world after the events of the witness.
 #[tactic(auto, unfolding(crate::specs::JsonEnding::ending_parts))]
 pub(crate) fn ending_value(
     alloc: Global,
@@ -72,8 +73,8 @@ fn refusing_pool(alloc: Global, plan: &Plan, ending: &Ending) -> Result<Value, A
     }
 }
 
-/// Returns a JSON value for each of the jobs `members`, except those that are done or not live. The
-/// value says what the job waits for.
+/// Returns, for each of the jobs `members`, a JSON value that says what the job waits for. Skips
+/// jobs that are done or not live.
 fn wait_values(
     alloc: Global,
     plan: &Plan,
@@ -91,7 +92,7 @@ fn wait_values(
     Ok(values)
 }
 
-/// Appends the JSON value that says what the job with this number waits for. Appends nothing if the
+/// Appends a JSON value that says what the job with this number waits for. Appends nothing if the
 /// job is done or not live.
 fn push_wait(
     values: &mut Vec<Value>,
@@ -134,7 +135,7 @@ fn push_wait(
     }
 }
 
-/// Appends the JSON value that says that the job `number` of the pool `pool` waits for the jobs
+/// Appends a JSON value that says that the job `number` of the pool `pool` waits for the jobs
 /// `awaited`. `place` is `queue` if the job waits in the pool's queue, and `get` if it waits at a
 /// get.
 #[tactic(auto, using(std::proofs::lemmas::List::map_push))]
@@ -187,8 +188,8 @@ pub(crate) fn action_at(plan: &Plan, class: usize, position: usize) -> Option<Ac
     }
 }
 
-/// Returns a list with the job that the job `number` waits for at this action. The list is empty if
-/// the action is not a get, or if the awaited job is not live.
+/// Returns a list with the number of the job for which the job `number` waits at this action. The
+/// list is empty if the action is not a get, or if the awaited job is not live.
 fn awaited(
     alloc: Global,
     world: &World,
@@ -207,7 +208,7 @@ fn awaited(
 }
 
 /// Returns the number of the latest live job that the job `number` created by the submit at the
-/// position `submit` of its body, or `None` if there is none.
+/// position `submit` of its body. Returns `None` if there is no such job.
 pub(crate) fn child_of(world: &World, number: usize, submit: usize) -> Option<usize>
     ensures { result ≡ live_child world.now.view.jobs (parent.Job number) submit }
 {
@@ -229,7 +230,7 @@ fn is_child_of(job: Option<JobView>, number: usize, submit: usize) -> bool
     }
 }
 
-/// Returns the numbers of the jobs that have a thread of the pool, in ascending order.
+/// Returns the numbers of the jobs that threads of the pool run, in ascending order.
 fn running_in(
     alloc: Global,
     plan: &Plan,

@@ -13,8 +13,8 @@ use plan_text::TextPlace;
 use serde_json::{Value, json};
 use std::alloc::{AllocError, Global};
 
-/// Returns the place of the action with this index in the actor's body. Returns `None` if the place
-/// is not known, if the actor is a pool, or if `action` is `None`.
+/// Returns the place, in the plan's text, of the action with this index in the actor's body.
+/// Returns `None` if the place is not known, if the actor is a pool, or if `action` is `None`.
 pub(crate) fn actor_place(
     places: &PlanPlaces,
     actor: Actor,
@@ -30,8 +30,8 @@ pub(crate) fn actor_place(
     }
 }
 
-/// Creates a JSON object that names the actor: a client by its kind and number, a job by its class
-/// and number, or a pool by its name.
+/// Creates a JSON object that identifies the actor of an event. A client is identified by its
+/// client kind and its number, a job by its class and its number, and a pool by its name.
 pub(crate) fn actor_value(alloc: Global, plan: &Plan, actor: Actor) -> Result<Value, AllocError>
     ensures { IfOk result (λ value. view value ≡ spec.actor_data plan.now actor) }
 {
@@ -81,8 +81,8 @@ pub(crate) fn outcome_word(outcome: Outcome) -> &'static str
     }
 }
 
-/// Returns the number of the job that was created, got or taken, or that ended. Returns `None` for
-/// an outcome without a job.
+/// Returns the number of the job that the event created, got, took or ended. Returns `None` if the
+/// outcome has no job.
 pub(crate) fn job_of(outcome: Outcome) -> Option<usize>
     ensures { result ≡ spec.job_of outcome }
 {

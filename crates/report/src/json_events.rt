@@ -21,7 +21,8 @@ use job_bodies::Plan;
 use serde_json::{Value, json};
 use std::alloc::{AllocError, Global};
 
-/// A run that the next step may extend: its first step, the number of its steps, and its last step.
+/// A run of similar steps that the next step may extend: its first step, the number of its steps,
+/// and its last step.
 #[derive(Clone, Copy)]
 struct OpenRun {
     first: EventStep,
@@ -29,8 +30,8 @@ struct OpenRun {
     last: EventStep,
 }
 
-/// Converts the steps to a JSON list with an object for each run. The steps begin at the plan's
-/// initial state.
+/// Converts the steps to a JSON list. Each run of similar steps becomes one object. The first step
+/// must start from the plan's initial state.
 pub(crate) fn events_value(
     alloc: Global,
     plan: &Plan,
@@ -135,8 +136,8 @@ fn is_sum(total: usize, number: usize, times: usize) -> bool
     number <= total && total - number == times
 }
 
-/// Appends the JSON object of a run. `steps` has all steps of the witness up to and including the
-/// last step of the run.
+/// Appends the JSON object of a run of similar steps. `steps` has all steps of the witness up to
+/// and including the last step of the run.
 fn push_run(
     values: &mut Vec<Value>,
     alloc: Global,
@@ -193,8 +194,9 @@ fn pool_value(
     }
 }
 
-/// Returns a JSON object with the name of a pool, the jobs in its queue after these steps, and the
-/// numbers of its threads and of its idle threads, which are in `counts`.
+/// Returns a JSON object with the state of a pool after these steps: its name, the jobs in its
+/// queue, and the numbers of its threads and of its idle threads. The two numbers are those in
+/// `counts`.
 #[tactic(auto, unfolding(crate::specs::JsonEvents::pool_state_data))]
 fn pool_state_value(
     alloc: Global,

@@ -12,7 +12,8 @@ use plan_text::TextPlace;
 use serde_json::{Value, json};
 use std::alloc::{AllocError, Global};
 
-/// Converts the faults of a plan's text to a JSON list, without those that are left out.
+/// Converts the faults of a plan's text to a JSON list. The list does not have the faults that are
+/// left out.
 pub(crate) fn faults_value(alloc: Global, faults: &Faults) -> Result<Value, AllocError>
     ensures { IfOk result (λ value. view value ≡ spec.faults_data faults.now) }
 {
@@ -20,7 +21,8 @@ pub(crate) fn faults_value(alloc: Global, faults: &Faults) -> Result<Value, Allo
     faults_from(alloc, first, &faults.others)
 }
 
-/// Creates a JSON list with only the fault `number`, which has no place. `words` is its message.
+/// Creates a JSON list of one fault, which has no place in the plan's text. `number` is the number
+/// of the fault, and `words` is its message.
 pub(crate) fn single_fault(alloc: Global, number: u8, words: &str) -> Result<Value, AllocError>
     ensures { IfOk result (λ value. view value ≡ spec.single_fault_data number words.now) }
 {
@@ -28,8 +30,8 @@ pub(crate) fn single_fault(alloc: Global, number: u8, words: &str) -> Result<Val
     faults_from(alloc, fault, &[])
 }
 
-/// Creates a JSON list of faults: the fault `first`, which is already converted, and then the
-/// others.
+/// Creates a JSON list of faults. The first element is `first`, which is already a JSON value, and
+/// the others are converted from `others`.
 fn faults_from(alloc: Global, first: Value, others: &[Diagnostic]) -> Result<Value, AllocError>
     ensures { IfOk result (λ value. view value
         ≡ array (items_of (view first ∷ map spec.diagnostic_data others.now))) }
@@ -68,8 +70,8 @@ fn diagnostic_value(alloc: Global, diagnostic: &Diagnostic) -> Result<Value, All
     )
 }
 
-/// Converts a range to a JSON list of its lowest and its highest number. The value is null if there
-/// is no range.
+/// Converts a range of numbers to a JSON list of its lowest and its highest number. The value is
+/// null if `range` is `None`.
 fn range_value(alloc: Global, range: Option<NumberRange>) -> Result<Value, AllocError>
     ensures { IfOk result (λ value. view value ≡ spec.range_data range) }
 {

@@ -16,7 +16,8 @@ use job_bodies::Plan;
 use serde_json::{Value, json};
 use std::alloc::{AllocError, Global};
 
-/// Creates the members of an answer about a plan, which was read from `text`.
+/// Creates the values of the members in an answer about a plan. `text` is the text from which the
+/// plan was read.
 pub(crate) fn finding_parts(
     alloc: Global,
     text: &[u8],
@@ -38,7 +39,8 @@ pub(crate) fn finding_parts(
     })
 }
 
-/// Converts the assumptions that the answer rests on to JSON. Only the answer SAFE has assumptions.
+/// Converts the assumptions of the answer to a JSON list. The list is empty if the answer is not
+/// SAFE.
 fn assumptions_value(alloc: Global, finding: &PlanFinding) -> Result<Value, AllocError>
     ensures { IfOk result (λ value. view value ≡ spec.assumptions_data finding.now) }
 {

@@ -9,7 +9,8 @@ use plan_text::TextPlace;
 use serde_json::Value;
 use size_search::{Cause, NoSizes};
 
-/// Converts the line of a place to JSON. The value is null if the place is not known.
+/// Converts the line of a place in a text to JSON. The value is null if the place is `None`, which
+/// means that it is not known.
 pub(crate) fn line_value(place: Option<TextPlace>) -> Value
     ensures { view result ≡ spec.line_data place }
 {
@@ -19,7 +20,8 @@ pub(crate) fn line_value(place: Option<TextPlace>) -> Value
     }
 }
 
-/// Converts the column of a place to JSON. The value is null if the place is not known.
+/// Converts the column of a place in a text to JSON. The value is null if the place is `None`,
+/// which means that it is not known.
 pub(crate) fn column_value(place: Option<TextPlace>) -> Value
     ensures { view result ≡ spec.column_data place }
 {
@@ -29,7 +31,8 @@ pub(crate) fn column_value(place: Option<TextPlace>) -> Value
     }
 }
 
-/// Returns the places of the pool with this index. If there is no such pool, each place is `None`.
+/// Returns the places of the name and sizes of the pool with this index. If there is no such pool,
+/// each place is `None`.
 pub(crate) fn pool_places_at(pools: &[PoolPlaces], pool: usize) -> PoolPlaces
     ensures { result ≡ spec.pool_places_at pools.now pool }
 {
@@ -55,8 +58,8 @@ pub(crate) fn name_place(bodies: &[BodyPlaces], index: usize) -> Option<TextPlac
     }
 }
 
-/// Returns the place of the action with the index `action` in the body of the class or client kind
-/// at `index`, or `None` if the place is not known.
+/// Returns the place of an action, or `None` if the place is not known. `action` is the index of
+/// the action in its body, and `index` is the index of the class or client kind with this body.
 pub(crate) fn action_place(bodies: &[BodyPlaces], index: usize, action: usize) -> Option<TextPlace>
     ensures { result ≡ spec.action_place bodies.now index action }
 {
@@ -75,8 +78,8 @@ fn place_at(actions: &[Option<TextPlace>], action: usize) -> Option<TextPlace>
     }
 }
 
-/// Returns the place of the class, the action or the pool that the reason `cause` names, or `None`
-/// if the place is not known.
+/// Returns the place of the class, the action or the pool that the reason `cause` names. Returns
+/// `None` if the place is not known.
 pub(crate) fn cause_place(places: &PlanPlaces, cause: NoSizes) -> Option<TextPlace>
     ensures { result ≡ spec.cause_place places.now cause }
 {

@@ -13,7 +13,7 @@ use plan_text::TextPlace;
 use serde_json::{Value, json};
 use std::alloc::{AllocError, Global};
 
-/// Converts a plan to JSON. `text` is the text from which it was read.
+/// Converts a plan to JSON. `text` is the text from which the plan was read.
 #[tactic(auto, unfolding(crate::specs::JsonPlan::plan_object))]
 pub(crate) fn plan_value(
     alloc: Global,
@@ -31,8 +31,8 @@ pub(crate) fn plan_value(
     })
 }
 
-/// Converts the plan's text to JSON for an answer with faults: in the form of a plan whose lists of
-/// pools, classes and client kinds are empty.
+/// Converts the text of a plan with faults to JSON. The result has the form of a plan without
+/// pools, classes and client kinds.
 #[tactic(auto, unfolding(crate::specs::JsonPlan::plan_object))]
 pub(crate) fn text_only_value(alloc: Global, text: &[u8]) -> Result<Value, AllocError>
     ensures { IfOk result (λ value. view value ≡ spec.text_only_data text.now) }
@@ -45,7 +45,7 @@ pub(crate) fn text_only_value(alloc: Global, text: &[u8]) -> Result<Value, Alloc
     })
 }
 
-/// Converts the plan's text to JSON. The value is null if the text is not UTF-8.
+/// Converts the plan's text to a JSON string. The value is null if the text is not UTF-8.
 fn text_value(alloc: Global, text: &[u8]) -> Result<Value, AllocError>
     ensures { IfOk result (λ value. view value ≡ spec.text_data text.now) }
 {
@@ -79,7 +79,8 @@ fn pool_entry(
     placed_pool(alloc, places.name, pool)
 }
 
-/// Converts a pool to JSON. Only a pool that may reject jobs has a member that says so.
+/// Converts a pool to JSON. Only for a pool that may reject jobs, the object has a member that says
+/// this.
 fn placed_pool(alloc: Global, place: Option<TextPlace>, pool: &Pool) -> Result<Value, AllocError>
     ensures { IfOk result (λ value. view value ≡ spec.placed_pool place pool.now) }
 {

@@ -17,9 +17,9 @@ use job_bodies::{Plan, Pool};
 use serde_json::{Value, json};
 use std::alloc::{AllocError, Global};
 
-/// Converts the pools of a plan to JSON, each with its part of the certificate and the number of
-/// events after which it rejects a job. `parts` and `rejections` are empty if no certificate accepts
-/// the plan.
+/// Converts the pools of a plan to JSON. `parts` has, for each pool, its part of the certificate.
+/// `rejections` has, for each pool, the number of events after which the pool rejects a job, if
+/// this number is known. Both lists are empty if no certificate accepts the plan.
 pub(crate) fn pools_value(
     alloc: Global,
     plan: &Plan,
@@ -142,8 +142,8 @@ fn rejecting_object(
     })
 }
 
-/// Converts the number of events after which a pool rejects a job to JSON. The value is null if the
-/// number is not known.
+/// Converts the number of events after which a pool rejects a job to JSON. The value is null if
+/// this number is not known.
 fn rejects_value(rejection: Option<u64>) -> Value
     ensures { view result ≡ spec.rejects_data rejection }
 {
@@ -178,7 +178,7 @@ fn pool_object(
     })
 }
 
-/// Creates a JSON list of the names of the pools that jobs of this pool wait for.
+/// Creates a JSON list of the names of the pools for which jobs of this pool wait.
 fn waits_value(alloc: Global, plan: &Plan, number: usize) -> Result<Value, AllocError>
     ensures { IfOk result (λ value. view value ≡ spec.waits_data plan.now number) }
 {

@@ -19,8 +19,8 @@ use serde_json::Value;
 use std::alloc::{AllocError, Global};
 use support::push_number;
 
-/// Converts the event lines of a witness to a JSON list: one for each event, and a `stuck` line if
-/// jobs wait only for each other after the events.
+/// Converts the event lines of a witness to a JSON list. The list has one line for each event. If
+/// jobs wait only for each other after the events, it also has a `stuck` line with their numbers.
 pub(crate) fn replay_value(
     alloc: Global,
     plan: &Plan,
@@ -78,8 +78,8 @@ fn push_numbered(text: &mut String, words: &str, number: usize) -> Result<(), Al
     push_number(text, number as u64)
 }
 
-/// Appends a line `stuck` with the numbers of the jobs that wait only for each other. Appends
-/// nothing if there are none.
+/// Appends a `stuck` line with the numbers of the jobs in `members`, which wait only for each
+/// other. Appends nothing if `members` is empty.
 fn push_question(
     values: &mut Vec<Value>,
     alloc: Global,

@@ -14,7 +14,8 @@ use serde_json::{Value, json};
 use size_search::SizesFound;
 use std::alloc::{AllocError, Global};
 
-/// Converts the sizes that were found to JSON, or the reason why none were found.
+/// Converts the result of the search for sizes to JSON: the sizes that were found, or the reason
+/// why no sizes were found.
 #[tactic(auto, unfolding(crate::specs::JsonSizes::sizes_object))]
 pub(crate) fn sizes_value(
     alloc: Global,
@@ -82,8 +83,8 @@ fn size_value(alloc: Global, changes: Vec<Value>, fit: &Pool) -> Result<Value, A
     })
 }
 
-/// Returns a JSON value for each size that changes from `declared`, the pool in the plan, to `fit`,
-/// the pool with the sizes that were found. The list is empty if `declared` is `None`.
+/// Returns a JSON value for each size of a pool that changes. `declared` is the pool in the plan,
+/// and `fit` is the pool with the sizes that were found. The list is empty if `declared` is `None`.
 fn changes_of(
     alloc: Global,
     places: PoolPlaces,
@@ -114,8 +115,8 @@ fn push_changes(
     push_limits(alloc, values, places, declared, fit)
 }
 
-/// Appends the changes of the pool's maximum and queue. Appends nothing if its queue is unbounded, so
-/// that neither has an effect.
+/// Appends the changes of the pool's maximum and queue capacity. Appends nothing if the queue is
+/// unbounded, because the maximum and the capacity then have no effect.
 fn push_limits(
     alloc: Global,
     values: &mut Vec<Value>,
@@ -140,8 +141,8 @@ fn push_limits(
     )
 }
 
-/// Appends the change of the size `key` from `now` to `value`. Appends nothing if the two are
-/// equal.
+/// Appends the change of the size `key` from `now` to `value`. Appends nothing if `now` and `value`
+/// are equal.
 #[tactic(auto, using(std::proofs::lemmas::List::map_push))]
 fn push_change(
     alloc: Global,

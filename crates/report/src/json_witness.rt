@@ -26,7 +26,7 @@ use std::alloc::{AllocError, Global};
 ///
 /// # Errors
 ///
-/// [`AllocError`] if memory runs out.
+/// Returns [`AllocError`] if memory runs out.
 pub(crate) fn witness_value(
     alloc: Global,
     plan: &Plan,
@@ -40,8 +40,8 @@ pub(crate) fn witness_value(
     parts_value(alloc, plan, places, &world, &steps, witness)
 }
 
-/// Converts a witness to JSON. `steps` has what its events did, and `world` is the world after
-/// them.
+/// Converts a witness to JSON. `steps` has what the events of the witness did, and `world` is the
+/// world after these events.
 #[tactic(auto, unfolding(crate::specs::JsonWitness::witness_parts))]
 fn parts_value(
     alloc: Global,

@@ -6,9 +6,9 @@ ghost use Rattle.report.specs.LostSubmits as spec;
 use job_bodies::{Action, Class, Client, Plan, has_get_of};
 use std::alloc::{AllocError, Global};
 
-/// Returns texts such as `client visitor submits append without a get`. There is one for each body
-/// and each class of the pool with this index if the body submits a job of the class that it never
-/// gets. The texts about client kinds come first, then those about classes, each in plan order.
+/// Returns texts about bodies that submit a job to the pool with this index and never get it. An
+/// example is `client visitor submits append without a get`. A body has one text for each class of
+/// such jobs. The texts about client kinds come before those about classes, each in plan order.
 pub(crate) fn lost_texts(alloc: Global, plan: &Plan, pool: usize) -> Result<Vec<String>, AllocError>
     ensures { IfOk result
         (λ texts. map string_bytes texts.items ≡ spec.lost_texts plan.now pool) }
@@ -91,8 +91,9 @@ fn push_class(
     push_body(alloc, texts, plan, pool, "class", &class.name, &class.body)
 }
 
-/// Appends a text for each class of the pool if the body submits a job of the class that it never
-/// gets. `kind` and `name` are those of the body's class or client kind.
+/// Appends a text for each class of the pool, if the body submits a job of this class and never
+/// gets it. `kind` is `client` or `class`, and `name` is the name of the client kind or class with
+/// this body.
 fn push_body(
     alloc: Global,
     texts: &mut Vec<String>,
@@ -112,8 +113,8 @@ fn push_body(
     Ok(())
 }
 
-/// Appends the text for one class, if the class belongs to the pool and the body submits a job of
-/// the class that it never gets.
+/// Appends the text for one class. Appends nothing if the class does not belong to the pool, or if
+/// the body gets each job of the class that it submits.
 #[tactic(auto, using(std::proofs::lemmas::List::map_push))]
 fn push_lost(
     alloc: Global,
@@ -143,7 +144,7 @@ fn lost_words(alloc: Global, kind: &str, name: &str, class: &str) -> Result<Stri
     format!(in alloc; "{kind} {name} submits {class} without a get")
 }
 
-/// Returns whether the body submits a job of the class that it never gets.
+/// Returns whether the body submits a job of the class and never gets this job.
 fn loses(body: &[Action], class: usize) -> bool
     ensures { result ≡ spec.loses body.now class }
 {

@@ -10,13 +10,13 @@ use job_bodies::Plan;
 use report_page::page_of;
 use std::alloc::{AllocError, Global};
 
-/// Returns the page of the finding about a plan and of its warnings. `file` is the name of the
-/// plan's file, `text` is its content, and `places` has the place of each entry of the plan in the
-/// text.
+/// Returns the HTML page of the finding about a plan and of its warnings. `file` is the name of the
+/// plan's file, and `text` is the content of this file. `places` has the place of each entry of the
+/// plan in `text`.
 ///
 /// # Errors
 ///
-/// [`AllocError`] if memory runs out.
+/// Returns [`AllocError`] if memory runs out.
 pub fn finding_html(
     alloc: Global,
     file: &str,
@@ -33,12 +33,12 @@ pub fn finding_html(
     page_of(alloc, &line)
 }
 
-/// Returns the page of the faults of a plan's text. `file` is the name of the plan's file, and
-/// `text` its content.
+/// Returns the HTML page of the faults of a plan's text. `file` is the name of the plan's file, and
+/// `text` is the content of this file.
 ///
 /// # Errors
 ///
-/// [`AllocError`] if memory runs out.
+/// Returns [`AllocError`] if memory runs out.
 pub fn faults_html(
     alloc: Global,
     file: &str,
@@ -52,12 +52,13 @@ pub fn faults_html(
     page_of(alloc, &line)
 }
 
-/// Returns the page of the fault `number`, which has no place in the plan's text. `words` is its
-/// message. `file` is the name of the plan's file, and `text` its content.
+/// Returns the HTML page of a fault that has no place in the plan's text. `number` is the number of
+/// the fault, and `words` is its message. `file` is the name of the plan's file, and `text` is the
+/// content of this file.
 ///
 /// # Errors
 ///
-/// [`AllocError`] if memory runs out.
+/// Returns [`AllocError`] if memory runs out.
 pub fn fault_html(
     alloc: Global,
     file: &str,

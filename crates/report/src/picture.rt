@@ -18,12 +18,13 @@ use job_bodies::{Class, Client, Plan, Pool};
 use std::alloc::{AllocError, Global};
 use weights::{Bound, Ranks};
 
-/// Returns the picture of a plan. If a certificate accepts the plan, the picture also shows the
-/// bound of each queue, and the counted gets are bold.
+/// Returns the picture of a plan as a Graphviz graph. If a certificate accepts the plan, the
+/// picture also shows the known bounds of the queues, and counted gets are bold. A counted get can
+/// block a thread that other jobs need.
 ///
 /// # Errors
 ///
-/// [`AllocError`] if memory runs out.
+/// Returns [`AllocError`] if memory runs out.
 pub fn picture_of(alloc: Global, plan: &Plan, finding: &PlanFinding) -> Result<String, AllocError>
     ensures { IfOk result
         (λ text. string_bytes text ≡ spec.picture_text plan.now finding.now) }
@@ -34,9 +35,10 @@ pub fn picture_of(alloc: Global, plan: &Plan, finding: &PlanFinding) -> Result<S
     }
 }
 
-/// Returns the graph of a plan. `parts` has the certificate's part for each pool, and is empty if
-/// there is no certificate. `ranks` are the ranks of the certificate, or `None` without one. They
-/// determine which gets are counted. Counted gets are bold.
+/// Returns the Graphviz graph of a plan. `parts` has, for each pool, its part of the certificate,
+/// and is empty if there is no certificate. `ranks` has the ranks of the certificate, or is `None`
+/// if there is no certificate. The ranks determine which gets are counted, and counted gets are
+/// bold.
 fn graph_of(
     alloc: Global,
     plan: &Plan,
@@ -161,7 +163,7 @@ fn push_nodes(text: &mut String, classes: &[Class], pool: usize) -> Result<(), A
     text.push_str("  }\n")
 }
 
-/// Appends the name of the pool, its sizes, and the bound of its queue if it is known.
+/// Appends the name of the pool, its sizes, and the bound of its queue if this bound is known.
 fn push_label(
     text: &mut String,
     plan: &Plan,
@@ -180,7 +182,8 @@ fn push_label(
     push_bound(text, plan, number, pool, part)
 }
 
-/// Appends the bound of the pool's queue. Appends nothing if the pool has no part of a certificate.
+/// Appends the bound of the pool's queue. Appends nothing if `part` is `None`, because there is no
+/// certificate.
 fn push_bound(
     text: &mut String,
     plan: &Plan,
@@ -197,9 +200,12 @@ fn push_bound(
     }
 }
 
-/// Appends the bound of the pool's queue. Without a bound, appends that the pool may reject jobs,
-/// or nothing if its queue is unbounded. Also appends nothing if the bound's vector does not fit
-/// the plan, or if its total does not bound the jobs in an unbounded queue.
+/// Appends the bound of the pool's queue, except in these cases:
+///
+/// - If the pool has no bound and its queue is bounded, appends that the pool may reject jobs.
+/// - If the queue is unbounded, and there is no bound or its total does not limit the jobs in the
+///   queue, appends nothing.
+/// - If the vector of the bound does not fit the plan, appends nothing.
 fn push_bound_of(
     text: &mut String,
     plan: &Plan,
@@ -218,8 +224,8 @@ fn push_bound_of(
     }
 }
 
-/// Returns the text for a pool without a bound: it may reject jobs. The text is empty if its queue
-/// is unbounded.
+/// Returns the text for a pool without a bound, which says that the pool may reject jobs. Returns
+/// an empty text if the queue is unbounded, because such a pool rejects no jobs.
 fn no_bound_words(pool: &Pool) -> &'static str
     ensures { result.now ≡ spec.no_bound_part pool.now }
 {

@@ -11,14 +11,16 @@ use job_bodies::{Class, Plan};
 use std::alloc::{AllocError, Global};
 use weights::{Bound, Vector};
 
-/// Returns, for each pool of the certificate, the number of queue places that are enough by its
-/// bound: the total of its standing vector. The number is `None` if the pool has a lifetime vector
-/// or no vector, if its vector does not fit the plan, or if its queue is unbounded and some queued
-/// job of the pool has no weight in the vector.
+/// Returns, for each pool of the certificate, a queue capacity that its bound proves to be enough:
+/// the total of its standing vector. The capacity is `None` if the pool
+///
+/// - has a lifetime vector or no vector,
+/// - has a vector that does not fit the plan, or
+/// - has an unbounded queue, and some queued job of the pool has no weight in the vector.
 ///
 /// # Errors
 ///
-/// [`AllocError`] if memory runs out.
+/// Returns [`AllocError`] if memory runs out.
 pub fn needed_places(
     alloc: Global,
     plan: &Plan,
@@ -68,10 +70,14 @@ pub fn total_of(plan: &Plan, vector: &Vector) -> Option<u64>
     }
 }
 
-/// Returns whether the total of this bound limits the number of the pool's jobs: of those in its
-/// queue or, if the bound is a lifetime vector, of those that are ever submitted to the pool. For a
-/// bounded queue, the conditions on the bound demand this. For an unbounded queue they do not, so
-/// each job of the pool must have a weight of at least 1.
+/// Returns whether the total of the bound limits the number of jobs of the pool. A standing vector
+/// limits the jobs in the queue at one time. A lifetime vector limits the jobs that are ever
+/// submitted to the pool.
+///
+/// - If the queue is bounded, returns `true`, because the conditions on the bound demand it.
+/// - If the queue is unbounded, the conditions do not demand it. Returns whether the vector fits
+///   the plan and gives each job of the pool a weight of at least 1. In a standing vector, only
+///   queued jobs need this weight.
 pub(crate) fn bounds_jobs(plan: &Plan, pool: usize, bound: &Bound) -> bool
     ensures { result ≡ spec.bounds_jobs plan.now pool bound.now }
 {
@@ -89,8 +95,8 @@ pub(crate) fn is_unbounded(plan: &Plan, pool: usize) -> bool
     }
 }
 
-/// Returns whether the vector of the bound fits the plan, and each job of the pool has a weight of
-/// at least 1 in it.
+/// Returns whether the bound's vector fits the plan and gives each job of the pool a weight of at
+/// least 1. In a standing vector, only queued jobs need this weight.
 fn counts_jobs(plan: &Plan, pool: usize, bound: &Bound) -> bool
     ensures { result ≡ spec.counts_jobs plan.now pool bound.now }
 {
@@ -107,16 +113,18 @@ fn counts_classes(pool: usize, bound: &Bound, classes: &[Class]) -> bool
         .all(|(number, class)| counts_if_of(pool, bound, number, class))
 }
 
-/// Returns whether the class does not belong to the pool, or each job of the class has a weight of
-/// at least 1.
+/// Returns whether the bound's vector gives each job of the class a weight of at least 1. In a
+/// standing vector, only queued jobs need this weight. Also returns `true` if the class does not
+/// belong to the pool. `number` is the number of the class.
 fn counts_if_of(pool: usize, bound: &Bound, number: usize, class: &Class) -> bool
     ensures { result ≡ spec.counts_if_of pool bound.now (number, class.now) }
 {
     class.pool != pool || counts_class(bound, number)
 }
 
-/// Returns whether each job of the class has a weight of at least 1: in a standing vector while it
-/// is queued, and in a lifetime vector always.
+/// Returns whether the bound's vector gives each job of the class a weight of at least 1. In a
+/// standing vector, only queued jobs need this weight. In a lifetime vector, queued, running and
+/// done jobs need it.
 fn counts_class(bound: &Bound, class: usize) -> bool
     ensures { result ≡ spec.counts_class bound.now class }
 {
@@ -141,7 +149,8 @@ fn counts_always(weights: &[u64]) -> bool
     weights.iter().all(|weight| *weight >= 1)
 }
 
-/// Returns the weights of the class in the vector, or an empty list if the vector has none.
+/// Returns the weights of the class in the vector, or an empty list if the vector has no weights
+/// for the class.
 fn weights_of(vector: &Vector, class: usize) -> &[u64]
     ensures { result.now ≡ class_weights vector.now class }
 {

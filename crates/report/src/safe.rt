@@ -19,7 +19,7 @@ use weights::{Bound, Vector};
 
 /// Appends the lines of each pool that has a part of the certificate, and a last line that says
 /// what the certificate guarantees. `rejections` has, for each pool that was found to reject a job,
-/// the number of events after which it does.
+/// the number of events after which the pool rejects a job.
 pub(crate) fn push_safe(
     alloc: Global,
     text: &mut String,
@@ -35,8 +35,9 @@ pub(crate) fn push_safe(
     text.push('\n')
 }
 
-/// Returns what the certificate guarantees for all pools, or for all but those that may reject
-/// jobs.
+/// Returns the words that say what the certificate guarantees: no refused submit and no deadlock.
+/// If a pool has no bound and a bounded queue, it may reject jobs, and the words about submits then
+/// exclude such pools.
 pub(crate) fn safe_words(plan: &Plan, cert: &Cert) -> &'static str
     ensures { result.now ≡ spec.safe_words plan.now cert.now }
 {
@@ -57,8 +58,8 @@ fn any_may_reject(plan: &Plan, parts: &[PoolCert]) -> bool
         .any(|(number, part)| may_reject_jobs(plan, number, part))
 }
 
-/// Returns whether the pool with this number has no bound, and its queue is bounded. If a
-/// certificate accepts the plan, such a pool may reject jobs.
+/// Returns whether the pool with this number has no bound and a bounded queue. If a certificate
+/// accepts the plan, such a pool may reject jobs.
 fn may_reject_jobs(plan: &Plan, number: usize, part: &PoolCert) -> bool
     ensures { result ≡ spec.may_reject_jobs plan.now (number, part.now) }
 {
@@ -101,8 +102,8 @@ fn push_pool(
     }
 }
 
-/// Returns the number of events after which the pool with this index rejects a job, or `None` if it
-/// is not known.
+/// Returns the number of events after which the pool with this index rejects a job. Returns `None`
+/// if this number is not known.
 pub(crate) fn rejection_at(rejections: &[Option<u64>], pool: usize) -> Option<u64>
     ensures { result ≡ spec.rejection_at rejections.now pool }
 {
@@ -149,7 +150,7 @@ fn push_rest(
     push_pool_submits(text, plan, number, pool, bound)
 }
 
-/// Appends the lines of the submits to the pool, if it has no bound and its queue is bounded.
+/// Appends a line for each submit to the pool, if the pool has no bound and a bounded queue.
 fn push_pool_submits(
     text: &mut String,
     plan: &Plan,

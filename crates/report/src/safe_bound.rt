@@ -36,9 +36,12 @@ pub(crate) fn push_bound(
     text.push('\n')
 }
 
-/// Appends the capacity of the pool's queue, and its bound with the shares in it. If the pool has
-/// no bound, or if the total of its bound does not bound the jobs in an unbounded queue, appends
-/// the text for a queue without a bound.
+/// Appends the capacity of the pool's queue, and the bound of the queue with its shares. A share is
+/// the part of the bound that the clients of one kind, or the threads of one pool, account for.
+/// Appends the text for a queue without a bound if
+///
+/// - the pool has no bound, or
+/// - the queue is unbounded and the total of the bound does not limit its jobs.
 fn push_queue(
     alloc: Global,
     text: &mut String,
@@ -59,8 +62,8 @@ fn push_queue(
     }
 }
 
-/// Appends the text for a queue without a bound: its capacity, and why it has no bound or that the
-/// pool may reject jobs.
+/// Appends the text for a queue without a bound: its capacity, and either why it has no bound or
+/// that the pool may reject jobs.
 fn push_open_queue(
     alloc: Global,
     text: &mut String,
@@ -89,8 +92,8 @@ pub(crate) fn push_queue_size(text: &mut String, pool: &Pool) -> Result<(), Allo
     write!(text, "{queue}")
 }
 
-/// Appends, for a pool with an unbounded queue, why the queue has no bound. For any other pool
-/// appends that it may reject jobs, and after how many events it does if that is known.
+/// Appends why a queue has no bound, if it is unbounded. Otherwise appends that the pool may reject
+/// jobs, and after how many events it rejects one, if this number is known.
 fn push_no_bound(
     alloc: Global,
     text: &mut String,
@@ -109,8 +112,9 @@ fn push_no_bound(
     }
 }
 
-/// Appends why the unbounded queue of the pool has no bound: texts about the bodies that submit a
-/// job to the pool and never get it. If there are none, appends that no bound is known.
+/// Appends why the unbounded queue of the pool has no bound. This is a text for each body that
+/// submits a job to the pool and never gets it. If there is no such body, appends that no bound is
+/// known.
 fn push_growth(
     alloc: Global,
     text: &mut String,
@@ -128,7 +132,7 @@ fn push_growth(
     push_separated(alloc, text, &lost)
 }
 
-/// Appends that a pool may reject jobs, and the number of events after which it does if it is
+/// Appends that a pool may reject jobs, and after how many events it rejects one, if this number is
 /// known.
 fn push_rejection(text: &mut String, rejection: Option<u64>) -> Result<(), AllocError>
     ensures { Pushes result text.old text.new (spec.rejects_text rejection) }
@@ -139,8 +143,8 @@ fn push_rejection(text: &mut String, rejection: Option<u64>) -> Result<(), Alloc
     }
 }
 
-/// Appends the capacity of the pool's queue, its bound and the shares in the bound. Appends nothing
-/// if the vector of the bound does not fit the plan.
+/// Appends the capacity of the pool's queue, the bound of the queue, and the shares in the bound.
+/// Appends nothing if the vector of the bound does not fit the plan.
 fn push_bounded(
     alloc: Global,
     text: &mut String,
@@ -161,8 +165,9 @@ fn push_bounded(
     push_places(alloc, text, plan, bound)
 }
 
-/// Returns what a bound means for a pool that may reject jobs by the plan. Returns an empty text
-/// for any other pool, and for one with an unbounded queue, which never rejects jobs.
+/// Returns the words that precede the bound of a pool. If the plan says that the pool may reject
+/// jobs, and its queue is bounded, these words say that it never rejects jobs. Otherwise they are
+/// empty.
 fn never_words(pool: &Pool) -> &'static str
     ensures { result.now ≡ spec.never_text pool.now }
 {
@@ -173,7 +178,8 @@ fn never_words(pool: &Pool) -> &'static str
     }
 }
 
-/// Appends the bound of a queue and the shares in it.
+/// Appends the bound of a queue and the shares in the bound. A share is the part of the bound that
+/// the clients of one kind, or the threads of one pool, account for.
 fn push_places(
     alloc: Global,
     text: &mut String,
@@ -195,8 +201,9 @@ fn push_places(
     text.push_str(")")
 }
 
-/// Appends the bound of a queue: the maximum number of jobs in it at one time, or of jobs that are
-/// ever submitted to the pool.
+/// Appends the bound `total` of a queue. If `bound` is a standing vector, the text says that this
+/// is the maximum number of jobs in the queue at one time. If it is a lifetime vector, the text
+/// says that this is the maximum number of jobs that are ever submitted to the pool.
 pub(crate) fn push_most(text: &mut String, bound: &Bound, total: u64) -> Result<(), AllocError>
     ensures { Pushes result text.old text.new (spec.most_text bound.now total) }
 {
@@ -208,8 +215,9 @@ pub(crate) fn push_most(text: &mut String, bound: &Bound, total: u64) -> Result<
     }
 }
 
-/// Appends the number of the pool's threads, such as `4 threads`, or `2 to 4 threads` if the core
-/// size and the maximum differ. A pool with an unbounded queue never has more threads than core.
+/// Appends the number of threads that the pool can have, such as `4 threads`. If the core size and
+/// the maximum differ, appends both, such as `2 to 4 threads`. If the queue is unbounded, appends
+/// only the core size, because the pool never has more threads.
 pub(crate) fn push_threads(text: &mut String, pool: &Pool) -> Result<(), AllocError>
     ensures { Pushes result text.old text.new (spec.threads_text pool.now) }
 {
@@ -224,8 +232,9 @@ pub(crate) fn push_threads(text: &mut String, pool: &Pool) -> Result<(), AllocEr
     }
 }
 
-/// Appends the shares in the total of a vector that are not 0, such as `200 browser, 8 from threads
-/// of web`.
+/// Appends the shares in the total of a vector, such as `200 browser, 8 from threads of web`. Skips
+/// the shares that are 0. A share is the part of the total that the clients of one kind, or the
+/// threads of one pool, account for.
 fn push_shares(
     alloc: Global,
     text: &mut String,
@@ -280,8 +289,8 @@ fn push_workers(
     Ok(())
 }
 
-/// Appends the text of one share, such as `8 from threads of web`, unless the share is 0. `from` is
-/// the text between the number and the name.
+/// Appends the text of one share, such as `8 from threads of web`. `from` is the text between the
+/// number and the name. Appends nothing if the share is 0.
 #[tactic(auto, using(std::proofs::lemmas::List::map_push))]
 fn push_share(
     alloc: Global,

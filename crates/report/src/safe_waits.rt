@@ -12,8 +12,9 @@ use job_bodies::{Plan, Pool};
 use std::alloc::{AllocError, Global};
 use weights::Vector;
 
-/// Appends the line with the pools for which the pool's jobs wait, and the maximum number of its
-/// core threads that wait at counted gets at once if it is known and not 0.
+/// Appends the line with the pools for which the pool's jobs wait. The line also has the maximum
+/// number of core threads of the pool that wait at counted gets at once. This number is omitted if
+/// it is not known or 0. A counted get can block a thread that other jobs need.
 pub(crate) fn push_waits(
     alloc: Global,
     text: &mut String,
@@ -34,7 +35,7 @@ pub(crate) fn push_waits(
 
 /// Appends the maximum number of core threads that wait at counted gets at once, and the number of
 /// the other core threads. The maximum is the total of the vector `blocked`. Appends nothing if the
-/// total is 0 or this vector does not fit the plan.
+/// total is 0, or if this vector does not fit the plan.
 fn push_left(
     text: &mut String,
     plan: &Plan,
@@ -64,7 +65,8 @@ fn push_waiting(text: &mut String, pool: &Pool, most: u64) -> Result<(), AllocEr
     )
 }
 
-/// Appends the names of the pools for which jobs of this pool wait, or `nobody` if there are none.
+/// Appends the names of the pools for which jobs of this pool wait. Appends `nobody` if there are
+/// no such pools.
 fn push_waited(
     alloc: Global,
     text: &mut String,
@@ -95,7 +97,8 @@ pub(crate) fn waited_names(
     Ok(names)
 }
 
-/// Appends the name of the other pool, if jobs of this pool wait for its jobs.
+/// Appends the name of the pool `other`, if jobs of the pool `number` wait for jobs of the pool
+/// `other`.
 #[tactic(auto, using(std::proofs::lemmas::List::map_push))]
 fn push_if_waited(
     alloc: Global,

@@ -19,12 +19,12 @@ use plan_text::TextPlace;
 use serde_json::{Value, json};
 use std::alloc::{AllocError, Global};
 
-/// Returns the log with the finding about a plan and its warnings, on one line. `file` is the name
-/// of the plan's file.
+/// Returns the SARIF log with the finding about a plan and its warnings, on one line. `file` is the
+/// name of the plan's file.
 ///
 /// # Errors
 ///
-/// [`AllocError`] if memory runs out.
+/// Returns [`AllocError`] if memory runs out.
 pub fn finding_sarif(
     alloc: Global,
     file: &str,
@@ -40,12 +40,12 @@ pub fn finding_sarif(
     log_of(alloc, file, &annotations)
 }
 
-/// Returns the log with the faults of a plan's text, on one line. `file` is the name of the plan's
-/// file.
+/// Returns the SARIF log with the faults of a plan's text, on one line. `file` is the name of the
+/// plan's file.
 ///
 /// # Errors
 ///
-/// [`AllocError`] if memory runs out.
+/// Returns [`AllocError`] if memory runs out.
 pub fn faults_sarif(alloc: Global, file: &str, faults: &Faults) -> Result<String, AllocError>
     ensures { IfOk result (λ text.
         IsLineOf (spec.sarif_data file.now (fault_remarks faults.now)) (string_bytes text)) }
@@ -54,12 +54,12 @@ pub fn faults_sarif(alloc: Global, file: &str, faults: &Faults) -> Result<String
     log_of(alloc, file, &annotations)
 }
 
-/// Returns the log with the fault `number`, which has no place in the plan's text, on one line.
-/// `words` is its message, and `file` is the name of the plan's file.
+/// Returns the SARIF log with a fault that has no place in the plan's text, on one line. `number`
+/// is the number of the fault, and `words` is its message. `file` is the name of the plan's file.
 ///
 /// # Errors
 ///
-/// [`AllocError`] if memory runs out.
+/// Returns [`AllocError`] if memory runs out.
 pub fn fault_sarif(alloc: Global, file: &str, number: u8, words: &str) -> Result<String, AllocError>
     ensures { IfOk result (λ text.
         IsLineOf (spec.sarif_data file.now (single_fault number words.now)) (string_bytes text)) }
@@ -155,7 +155,8 @@ fn location_value(alloc: Global, file: &str, place: Option<TextPlace>) -> Result
     json!(in alloc; {"physicalLocation": physical_value(alloc, file, place)?})
 }
 
-/// Creates the SARIF object of a location: the file and, if `place` is known, the place in it.
+/// Creates the SARIF object of a location: the file and, if `place` is not `None`, the place in
+/// this file.
 fn physical_value(alloc: Global, file: &str, place: Option<TextPlace>) -> Result<Value, AllocError>
     ensures { IfOk result (λ value. view value ≡ spec.physical_data file.now place) }
 {
@@ -227,7 +228,7 @@ fn rule_value(alloc: Global, name: &str) -> Result<Value, AllocError>
     json!(in alloc; {"id": name})
 }
 
-/// Returns the names of the annotations' rules, each once, in the order of their first annotations.
+/// Returns the names of the annotations' rules, each once, in the order in which they first occur.
 fn rule_names(alloc: Global, mut annotations: &[Annotation]) -> Result<Vec<String>, AllocError>
     ensures { IfOk result
         (λ names. map string_bytes names.items ≡ spec.rule_names (remarks_in annotations.now)) }

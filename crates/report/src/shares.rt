@@ -10,20 +10,22 @@ use job_bodies::Plan;
 use std::alloc::{AllocError, Global};
 use weights::Vector;
 
-/// The shares in the total of a vector. Their sum is the total.
+/// The shares in the total of a vector, whose sum is this total. A share is the part of the total
+/// that the clients of one kind, or the threads of one pool, account for.
 #[derive(Drop)]
 pub struct Shares {
-    /// The share of the clients of each kind, in plan order.
+    /// For each client kind in plan order, the share of its clients.
     pub clients: Vec<u64>,
-    /// The share of the threads of each pool, in plan order.
+    /// For each pool in plan order, the share of its threads.
     pub workers: Vec<u64>,
 }
 
-/// Returns the shares of clients and threads in the total of this vector. Their sum is the total.
+/// Returns the shares in the total of this vector, whose sum is the total. A share is the part of
+/// the total that the clients of one kind, or the threads of one pool, account for.
 ///
 /// # Errors
 ///
-/// [`AllocError`] if memory runs out.
+/// Returns [`AllocError`] if memory runs out.
 #[tactic(auto, using(crate::proofs::ShareSums::shares_sum))]
 pub fn shares_of(alloc: Global, plan: &Plan, vector: &Vector) -> Result<Shares, AllocError>
     requires { IsTrue (vector_fits plan.now vector.now) }

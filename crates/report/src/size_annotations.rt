@@ -14,8 +14,8 @@ use plan_text::TextPlace;
 use size_search::{NoSizes, SizesFound};
 use std::alloc::{AllocError, Global};
 
-/// Appends an annotation for each size to change. If no sizes were found, appends one annotation
-/// for the reason.
+/// Appends an annotation for each size that changes. If no sizes were found, appends one annotation
+/// with the reason.
 pub(crate) fn push_sizes_found(
     alloc: Global,
     found: &mut Vec<Annotation>,
@@ -104,8 +104,8 @@ fn push_pool(
     push_limits(alloc, found, rule, places, declared, fit)
 }
 
-/// Appends the annotations for the pool's maximum and queue. Appends none if its queue is unbounded,
-/// so that neither has an effect.
+/// Appends the annotations for changes of the pool's maximum and queue capacity. Appends nothing if
+/// the queue is unbounded, because the maximum and the capacity then have no effect.
 fn push_limits(
     alloc: Global,
     found: &mut Vec<Annotation>,
@@ -127,8 +127,8 @@ fn push_limits(
     push_change(alloc, found, rule, places.queue, pool, "queue", queue)
 }
 
-/// Appends an annotation if the size `key` changes. `size` has the declared value and the value
-/// that was found.
+/// Appends an annotation if the size `key` changes. The first element of `size` is the declared
+/// value, and the second element is the value that was found.
 fn push_change(
     alloc: Global,
     found: &mut Vec<Annotation>,

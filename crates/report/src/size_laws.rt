@@ -2,8 +2,8 @@
 
 ghost use Rattle.report.specs.Sizes.{UnchangedSizesAreTheDeclaredPlan};
 
-/// Proves that a fitted plan equals the declared one, if the two differ at most in their sizes and
-/// the number of sizes that change is 0.
+/// States that a fitted plan equals the declared plan if no size changes. A fitted plan is the plan
+/// with the sizes that a search found. The two plans must differ at most in their sizes.
 pub fn unchanged_sizes_are_the_declared_plan()
     ensures { UnchangedSizesAreTheDeclaredPlan }
 {}

@@ -8,13 +8,13 @@ ghost use Rattle.report.specs.Sizes as spec;
 use job_bodies::{Plan, Pool};
 use std::alloc::AllocError;
 
-/// Appends a line with the sizes of each pool, such as `pool pages: core 1, max 1, queue 2 (now 1)`
-/// if the declared queue is 1, and then the number of sizes that change, such as `changes 1`.
-/// Returns that number.
+/// Appends a line with the sizes of each pool, and a last line with the number of sizes that
+/// change, such as `changes 1`. Returns this number. If a size changes, its declared value follows
+/// it: `pool pages: core 1, max 1, queue 2 (now 1)`.
 ///
 /// # Errors
 ///
-/// [`AllocError`] if memory runs out.
+/// Returns [`AllocError`] if memory runs out.
 pub fn push_sizes(text: &mut String, declared: &Plan, fit: &Plan) -> Result<u64, AllocError>
     ensures text { Pushes result text.old text.new (spec.sizes_text declared.now fit.now) }
     ensures changes { IfOk result (λ changes. changes ≡ spec.changes declared.now fit.now) }
@@ -38,8 +38,8 @@ fn push_pool(text: &mut String, declared: &Pool, fit: &Pool) -> Result<(), Alloc
     text.push('\n')
 }
 
-/// Appends the maximum and the queue of a pool. If the queue is unbounded, the maximum has no effect
-/// and is omitted.
+/// Appends the maximum and the queue capacity of a pool. If the queue is unbounded, omits the
+/// maximum, because it has no effect.
 fn push_limits(text: &mut String, declared: &Pool, fit: &Pool) -> Result<(), AllocError>
     ensures { Pushes result text.old text.new (spec.limits_text declared.now fit.now) }
 {
@@ -62,8 +62,8 @@ fn push_size(text: &mut String, declared: u64, fit: u64) -> Result<(), AllocErro
     }
 }
 
-/// Returns the number of sizes of the pool that change. The sizes of a pool with an unbounded queue
-/// count as one, because only its core size has an effect.
+/// Returns the number of sizes of the pool that change. For a pool with an unbounded queue, all
+/// sizes count as one, because only the core size has an effect.
 fn pool_changes(declared: &Pool, fit: &Pool) -> u64
     ensures { result ≡ spec.pool_changes declared.now fit.now }
 {

@@ -10,8 +10,8 @@ ghost use Rattle.report.specs.StorySeen as seen;
 use crate::story_turns::Turn;
 use std::alloc::{AllocError, Global};
 
-/// The maximum number of lines for the events. If the events need more lines, one line replaces
-/// those in the middle.
+/// The maximum number of lines for the events. If the events need more lines, one line replaces the
+/// lines in the middle.
 const MAX_LINES: usize = 20;
 
 /// The number of lines before the line that replaces the middle lines.
@@ -20,17 +20,18 @@ const FIRST_LINES: usize = 9;
 /// The number of lines after the line that replaces the middle lines.
 const LAST_LINES: usize = 10;
 
-/// A line of the story: consecutive turns with the same text.
+/// A line of the text about the events. It stands for consecutive turns with the same text. A turn
+/// is a group of consecutive steps of one actor.
 #[derive(Clone, Copy)]
 pub(crate) struct Line<'a> {
     pub(crate) text: &'a str,
     pub(crate) times: usize,
-    /// The number of steps of the story from its start to the end of this line.
+    /// The number of steps that this line and all lines before it show.
     pub(crate) end: usize,
 }
 
-/// Appends the lines of the turns. If there are more than 20, one line replaces those in the
-/// middle.
+/// Appends the lines that show the turns. A turn is a group of consecutive steps of one actor. If
+/// there are more than 20 lines, one line replaces the lines in the middle.
 ///
 /// # Errors
 ///
@@ -50,8 +51,8 @@ fn lines_of<'a>(alloc: Global, turns: &'a [Turn]) -> Result<Vec<Line<'a>>, Alloc
     Ok(lines)
 }
 
-/// Appends the lines of the turns. Each line has as many consecutive turns with the same text as
-/// possible.
+/// Appends the lines that show the turns. Each line stands for as many consecutive turns with the
+/// same text as possible.
 fn push_folded<'a>(lines: &mut Vec<Line<'a>>, turns: &'a [Turn]) -> Result<(), AllocError>
     ensures { OnOk result (map line_seen lines.new.items
         ≡ map line_seen lines.old.items ++ spec.lines (map turn_seen turns.now)) }
@@ -85,7 +86,7 @@ fn push_folded<'a>(lines: &mut Vec<Line<'a>>, turns: &'a [Turn]) -> Result<(), A
     Ok(())
 }
 
-/// Appends the lines. If there are more than 20, one line replaces those in the middle.
+/// Appends the lines. If there are more than 20, one line replaces the lines in the middle.
 fn push_shown(text: &mut String, lines: &[Line<'_>]) -> Result<(), AllocError>
     ensures { Pushes result text.old text.new (spec.lines_text (map line_seen lines.now)) }
 {
@@ -96,8 +97,8 @@ fn push_shown(text: &mut String, lines: &[Line<'_>]) -> Result<(), AllocError>
     }
 }
 
-/// Appends the first lines, then a line with the number of events that are left out, and then the
-/// last lines.
+/// Appends the first lines, a line with the number of events that are left out, and the last lines.
+/// There must be more than 20 lines.
 fn push_shortened(text: &mut String, lines: &[Line<'_>]) -> Result<(), AllocError>
     requires { 20 < length lines.now }
     ensures { Pushes result text.old text.new (seen.shortened_seen lines.now) }
@@ -109,8 +110,8 @@ fn push_shortened(text: &mut String, lines: &[Line<'_>]) -> Result<(), AllocErro
     push_each(text, &lines[last..])
 }
 
-/// Returns the number of steps from the start of the story to the end of the line with this index,
-/// or 0 if there is no such line.
+/// Returns the number of steps that the line with this index and all lines before it show. Returns
+/// 0 if there is no such line.
 fn end_at(lines: &[Line<'_>], index: usize) -> usize
     ensures { result ≡ spec.end_of (slice_get (map line_seen lines.now) index) }
 {

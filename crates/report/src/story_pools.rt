@@ -12,8 +12,8 @@ use job_bodies::{Plan, Pool};
 use pool_machine::PoolState;
 use std::alloc::AllocError;
 
-/// Appends a line for each pool, such as `pool db: threads 10 of 10, idle 0, queued 190 of 190`. The
-/// line of a pool with an unbounded queue ends with, for example, `queued 190 of unbounded`.
+/// Appends a line for each pool, such as `pool db: threads 10 of 10, idle 0, queued 190 of 190`.
+/// For a pool with an unbounded queue, the line ends with, for example, `queued 190 of unbounded`.
 ///
 /// # Errors
 ///
@@ -50,8 +50,8 @@ fn push_pool(text: &mut String, pool: &Pool, state: &PoolState) -> Result<(), Al
     text.push('\n')
 }
 
-/// Returns the most threads that the pool has at one time: core if its queue is unbounded, and
-/// otherwise its maximum.
+/// Returns the greatest number of threads that the pool can have: the core size if its queue is
+/// unbounded, and otherwise its maximum.
 fn most_threads(state: &PoolState) -> u64
     ensures { result ≡ spec.most_threads state.now }
 {

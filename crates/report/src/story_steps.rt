@@ -10,8 +10,8 @@ use job_bodies::{Action, Plan};
 use std::alloc::AllocError;
 use weights::submitted_class;
 
-/// Appends the name of an actor, such as `client web`, `job page` or `pool db`. A client is named
-/// by its client kind, and a job by its class.
+/// Appends the kind and name of an actor, such as `client web`, `job page` or `pool db`. The name
+/// of a client is that of its client kind, and the name of a job is that of its class.
 pub(crate) fn push_actor(text: &mut String, plan: &Plan, actor: Actor) -> Result<(), AllocError>
     ensures { Pushes result text.old text.new (spec.actor_text plan.now actor) }
 {
@@ -40,7 +40,8 @@ pub(crate) fn push_step(text: &mut String, plan: &Plan, step: EventStep) -> Resu
 }
 
 /// Returns the name of the class whose job the actor's action submits, or an empty name if `action`
-/// is `None`. If the action is not a submit, the caller does not use the name.
+/// is `None`. If the action is not a submit, the name has no meaning, and the caller does not use
+/// it.
 fn submitted_name(plan: &Plan, actor: Actor, action: Option<usize>) -> &str
     ensures { result.now ≡ spec.submitted_name plan.now actor action }
 {
@@ -75,8 +76,9 @@ fn taken_name(plan: &Plan, taken: Option<usize>) -> &str
     }
 }
 
-/// Appends what an actor did. `submitted` is the name of the class whose job it submitted, and
-/// `taken` that of the class whose job it took. A name that the outcome does not need is not used.
+/// Appends what an actor did. `submitted` is the name of the class whose job the actor submitted.
+/// `taken` is the name of the class whose job the actor took. A name that the outcome does not need
+/// is ignored.
 fn push_act(
     text: &mut String,
     plan: &Plan,
@@ -112,7 +114,8 @@ fn push_submit(text: &mut String, class: &str, answer: &str) -> Result<(), Alloc
     text.push_str(answer)
 }
 
-/// Appends a submit that the pool did not take. `answer` has the words before the pool's name.
+/// Appends a submit whose job the pool refused or rejected. `answer` has the words before the
+/// pool's name.
 fn push_not_taken(
     text: &mut String,
     class: &str,

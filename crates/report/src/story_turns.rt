@@ -13,19 +13,20 @@ use interleaving::Outcome;
 use job_bodies::Plan;
 use std::alloc::{AllocError, Global};
 
-/// Consecutive steps of one actor, such as `client web: works, submits page (queued)`. If a client
-/// starts its body again, its next step begins a new turn.
+/// A turn: consecutive steps of one actor, such as `client web: works, submits page (queued)`. If a
+/// client starts its body again, its next step begins a new turn.
 #[derive(Drop)]
 pub(crate) struct Turn {
     pub(crate) actor: Actor,
     pub(crate) text: String,
-    /// Whether the last step of this turn is the one with which the client starts its body again.
+    /// Whether the last step of this turn is that the client starts its body again.
     pub(crate) is_ended: bool,
-    /// The number of steps of the story from its start to the end of this turn.
+    /// The number of steps in this turn and in all turns before it.
     pub(crate) end: usize,
 }
 
-/// Groups the steps into turns, each of which is as long as possible.
+/// Groups the steps into turns, which are as long as possible. A turn is a group of consecutive
+/// steps of one actor.
 ///
 /// # Errors
 ///
@@ -58,8 +59,8 @@ fn push_turns(
     push_turns_from(turns, alloc, plan, turn, rest, steps.len())
 }
 
-/// Appends the turn `turn`, extended by the steps at the start of `steps` that continue it, and
-/// then the turns of the remaining steps. `all` is the number of all steps of the story.
+/// Appends the turn `turn` and the turns of `steps`. If the first of these steps continue `turn`,
+/// they become part of it. `all` is the number of steps of all turns.
 fn push_turns_from(
     turns: &mut Vec<Turn>,
     alloc: Global,
@@ -80,8 +81,9 @@ fn push_turns_from(
     Ok(())
 }
 
-/// Returns the last turn after one more step. If the step continues the turn `turn`, returns that
-/// turn with the step. Otherwise appends `turn`, and returns a new turn that begins with the step.
+/// Returns the last turn after one more step. If the step continues `turn`, this is `turn`,
+/// extended by the step. Otherwise appends `turn` to `turns`, and returns a new turn that begins
+/// with the step.
 fn after_step(
     turns: &mut Vec<Turn>,
     alloc: Global,
@@ -108,8 +110,8 @@ fn after_step(
     }
 }
 
-/// Returns a new turn that has only this step. The story has `all` steps, and `before` of them
-/// precede this one.
+/// Returns a new turn that has only this step. `before` is the number of steps before this step,
+/// and `all` is the number of all steps.
 fn new_turn(
     alloc: Global,
     plan: &Plan,
@@ -132,7 +134,7 @@ fn new_turn(
     })
 }
 
-/// Returns whether a step with this outcome ends its turn, because the client starts its body
+/// Returns whether a step with this outcome ends its turn: whether the client starts its body
 /// again.
 fn ends_turn(outcome: Outcome) -> bool
     ensures { result ≡ spec.ends_turn outcome }

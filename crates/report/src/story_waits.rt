@@ -15,9 +15,10 @@ use weights::submitted_class;
 /// The maximum number of waiting jobs that are listed.
 const MAX_WAITS: usize = 20;
 
-/// Appends a line for each job in `members`, for at most 20 of them. These jobs wait only for each
-/// other. A line has the form `job 0 (report) waits for job 1 (section)` or `job 1 (section) waits
-/// in the queue of p, ..`. A last line has the number of the other jobs, if there are any.
+/// Appends a line for each job in `members`, which says what this job waits for. A line has the
+/// form `job 0 (report) waits for job 1 (section)` or `job 1 (section) waits in the queue of p,
+/// ..`. Only the first 20 jobs get a line. If there are more, a last line has the number of the
+/// others.
 ///
 /// # Errors
 ///
@@ -138,8 +139,8 @@ fn push_awaited(
     text.push('\n')
 }
 
-/// Returns the index of the class that the body of the class `class` submits at the position
-/// `submit`, or 0 if there is no submit at that position.
+/// Returns the index of the class whose job the body of the class `class` submits at the position
+/// `submit`. Returns 0 if there is no submit at this position.
 fn submitted_in(plan: &Plan, class: usize, submit: usize) -> usize
     ensures { result ≡ spec.submitted_in plan.now class submit }
 {

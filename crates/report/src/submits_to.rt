@@ -9,8 +9,9 @@ use diagnostics::has_open_future;
 use job_bodies::{Action, Class, Client, Plan};
 use std::alloc::AllocError;
 
-/// Appends a line for each submit to the pool with this index: first the submits of the classes,
-/// then those of the client kinds, each in plan order. A line says if a future is open there.
+/// Appends a line for each submit to the pool with this index. The submits of the classes come
+/// before those of the client kinds, each in plan order. The line says whether a future is open at
+/// the submit.
 pub(crate) fn push_submits(text: &mut String, plan: &Plan, pool: usize) -> Result<(), AllocError>
     ensures { Pushes result text.old text.new (spec.submits_text plan.now pool) }
 {
@@ -67,8 +68,8 @@ fn push_client(
     push_body(text, plan, pool, "client", &client.name, &client.body)
 }
 
-/// Appends a line for each submit of the body to the pool. `kind` and `name` are those of the class
-/// or client kind.
+/// Appends a line for each submit of the body to the pool. `kind` is `class` or `client`, and
+/// `name` is the name of the class or client kind with this body.
 fn push_body(
     text: &mut String,
     plan: &Plan,
@@ -86,7 +87,8 @@ fn push_body(
     Ok(())
 }
 
-/// Appends the line of the action at this position of the body, if it submits to the pool.
+/// Appends a line for the action at this position of the body, if the action submits a job to the
+/// pool.
 fn push_action(
     text: &mut String,
     plan: &Plan,
@@ -108,7 +110,7 @@ fn push_action(
     }
 }
 
-/// Appends the line of the submit of the class at this position of the body.
+/// Appends the line for the submit of a job of the class at this position of the body.
 fn push_line(
     text: &mut String,
     plan: &Plan,

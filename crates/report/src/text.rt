@@ -15,13 +15,17 @@ use job_bodies::Plan;
 use size_search::SizesFound;
 use std::alloc::{AllocError, Global};
 
-/// Returns the text of the finding: `SAFE`, with the bound of each queue and the shares in it; `NOT
-/// SAFE`, with the description of the witness, the result of the search for sizes and advice; or
-/// `NOT DECIDED`, with that result, advice and a line that says what was not found.
+/// Returns the text of the finding. The first line is the answer, and the other lines depend on it:
+///
+/// - `SAFE`: the bound of each queue and the shares in it.
+/// - `NOT SAFE`: the description of the witness, the result of the search for other sizes, and
+///   advice.
+/// - `NOT DECIDED`: the result of the search for other sizes, advice, and a line that says what was
+///   not found.
 ///
 /// # Errors
 ///
-/// [`AllocError`] if memory runs out.
+/// Returns [`AllocError`] if memory runs out.
 pub fn render(alloc: Global, plan: &Plan, finding: &PlanFinding) -> Result<String, AllocError>
     ensures { IfOk result (λ text. spec.Tells plan.now finding.now (string_bytes text)) }
 {
@@ -73,7 +77,7 @@ fn not_decided(alloc: Global, plan: &Plan, sizes: &SizesFound) -> Result<String,
     Ok(text)
 }
 
-/// Appends the sizes that were found, or the reason why none were found.
+/// Appends the sizes that were found, or the reason why no sizes were found.
 fn push_found(text: &mut String, plan: &Plan, sizes: &SizesFound) -> Result<(), AllocError>
     ensures { Pushes result text.old text.new (spec.sizes_part plan.now sizes.now) }
 {

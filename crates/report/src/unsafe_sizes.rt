@@ -8,8 +8,8 @@ use job_bodies::{Plan, Pool};
 use size_search::{Cause, NoSizes, SizesFound};
 use std::alloc::AllocError;
 
-/// Appends the advice for the user: the reason for each core size and each queue capacity that
-/// changes, or what to do if no sizes were found.
+/// Appends the advice for the user. If sizes were found, the advice is the reason for each core
+/// size and each queue capacity that changes. Otherwise it says what the user can do.
 pub(crate) fn push_advice(
     text: &mut String,
     plan: &Plan,
@@ -23,8 +23,8 @@ pub(crate) fn push_advice(
     }
 }
 
-/// Appends the reason for each core size and each queue capacity that differs in `plan`, the
-/// declared plan, and in `fit`, the plan with the sizes that were found.
+/// Appends the reason for each core size and each queue capacity that changes. `plan` is the
+/// declared plan, and `fit` is the plan with the sizes that were found.
 fn push_reasons(text: &mut String, plan: &Plan, fit: &Plan) -> Result<(), AllocError>
     ensures { Pushes result text.old text.new (spec.reasons_text plan.now fit.now) }
 {

@@ -6,7 +6,7 @@ ghost use Rattle.report.specs.Uri as spec;
 
 use std::alloc::{AllocError, Global};
 
-/// Returns the URI reference of the file with this name, as RFC 3986 defines it.
+/// Returns the URI reference, as RFC 3986 defines it, of the file with this name.
 pub(crate) fn uri_of(alloc: Global, name: &str) -> Result<String, AllocError>
     ensures { IfOk result (λ uri. string_bytes uri ≡ spec.uri_text name.now) }
 {
@@ -16,9 +16,11 @@ pub(crate) fn uri_of(alloc: Global, name: &str) -> Result<String, AllocError>
     Ok(uri)
 }
 
-/// Returns `/.` if the name starts with two slashes, `./` if it has a colon before its first slash,
-/// and otherwise an empty text. Without this prefix, a reader of the URI would take the start of
-/// the name for a host or a scheme.
+/// Returns the prefix without which the start of the name would be read as a host or a scheme:
+///
+/// - `/.` if the name starts with two slashes,
+/// - `./` if the name has a colon before its first slash, and
+/// - an empty text otherwise.
 fn path_start(name: &[u8]) -> &'static str
     ensures { result.now ≡ spec.path_start name.now }
 {
@@ -37,7 +39,7 @@ fn has_two_slashes(name: &[u8]) -> bool
     name.starts_with(b"//")
 }
 
-/// Returns whether the name has a colon with no slash before it.
+/// Returns whether the name has a colon before its first slash.
 fn has_early_colon(mut name: &[u8]) -> bool
     ensures { result ≡ spec.has_early_colon name.entry.now }
 {
@@ -53,7 +55,7 @@ fn has_early_colon(mut name: &[u8]) -> bool
     false
 }
 
-/// Appends the name, with an escape for each byte that a path may not have.
+/// Appends the name. Replaces each byte that a path may not have by its escape, such as `%20`.
 fn push_path(text: &mut String, mut name: &[u8]) -> Result<(), AllocError>
     ensures { Pushes result text.old text.new (spec.path_text name.entry.now) }
 {

@@ -13,7 +13,7 @@ use weights::Ranks;
 
 // ---- from clients
 
-/// Appends the edges from each client kind to the classes whose jobs it submits or gets.
+/// Appends the edges from each client kind to the classes whose jobs its clients submit or get.
 pub(crate) fn push_client_edges(text: &mut String, plan: &Plan) -> Result<(), AllocError>
     ensures { Pushes result text.old text.new (spec.client_edges plan.now) }
 {
@@ -52,8 +52,8 @@ fn push_client_edges_to(
 
 // ---- from classes
 
-/// Appends the edges from each class to the classes whose jobs it submits or gets. `ranks`
-/// determine which gets are counted; if it is `None`, none are.
+/// Appends the edges from each class to the classes whose jobs its jobs submit or get. `ranks`
+/// determines which gets are counted. If `ranks` is `None`, no get is counted.
 pub(crate) fn push_class_edges(
     text: &mut String,
     plan: &Plan,
@@ -137,7 +137,7 @@ fn has_get(body: &[Action], class: usize) -> bool
 }
 
 /// Returns whether the body of the class `number` has a counted get of a job of the class `class`.
-/// Returns `false` if there are no ranks, or if they do not fit the plan.
+/// Returns `false` if there are no ranks, or if the ranks do not fit the plan.
 fn has_counted_get(
     plan: &Plan,
     ranks: Option<&Ranks>,
@@ -164,8 +164,8 @@ fn counts_any(plan: &Plan, ranks: &Ranks, number: usize, body: &[Action], class:
     })
 }
 
-/// Returns whether the action at this position of the class's body is a counted get. Returns
-/// `false` if there is no such action.
+/// Returns whether the action at this position of the class's body is a counted get. A counted get
+/// can block a thread that other jobs need. Returns `false` if there is no such action.
 fn is_counted(plan: &Plan, ranks: &Ranks, class: usize, position: usize) -> bool
     requires { IsTrue (ranks_fit plan.now ranks.now) }
     ensures { result ≡ is_counted plan.now ranks.now class position }
@@ -182,8 +182,8 @@ fn is_counted(plan: &Plan, ranks: &Ranks, class: usize, position: usize) -> bool
 
 // ---- lines
 
-/// Appends one edge for `times` submits of the class `class`. The edge starts at the node that is
-/// named `kind` followed by `number`. Appends nothing if `times` is 0.
+/// Appends one edge for `times` submits of jobs of the class `class`. The name of the node at which
+/// the edge starts is `kind` followed by `number`. Appends nothing if `times` is 0.
 fn push_submit_edge(
     text: &mut String,
     kind: &str,
@@ -210,9 +210,9 @@ fn push_times(text: &mut String, times: usize) -> Result<(), AllocError>
     write!(text, " [label=\"{times}\"]")
 }
 
-/// Appends one edge for the gets of jobs of the class `class`. The edge starts at the node that is
-/// named `kind` followed by `number`. Appends nothing if `gets` is false. The edge is bold if
-/// `counted` is true.
+/// Appends one edge for the gets of jobs of the class `class`. The name of the node at which the
+/// edge starts is `kind` followed by `number`. If `counted` is true, the edge is bold. If `gets` is
+/// false, appends nothing.
 fn push_get_edge(
     text: &mut String,
     kind: &str,
