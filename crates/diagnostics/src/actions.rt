@@ -7,8 +7,8 @@ use crate::suggestions::suggestion;
 use job_bodies::{MAX_WORK, is_valid_name};
 use std::alloc::{AllocError, Global};
 
-/// A parsed action. Its fields are the class of a submit, and the name under which the action
-/// submits or gets a job.
+/// A parsed action of a body: a `work`, a submit or a get. The fields are the class of the
+/// submitted job, and the name under which the action submits or gets a job.
 #[derive(Clone, Copy)]
 pub(crate) enum ParsedAction<'a> {
     Work,
@@ -17,8 +17,8 @@ pub(crate) enum ParsedAction<'a> {
     Get(&'a str),
 }
 
-/// The first four words of a text, and the number of all its words. A word that the text lacks is
-/// empty.
+/// The first four words of a text, and the number of all words of the text. If the text has fewer
+/// than four words, the missing words are empty.
 #[derive(Clone, Copy)]
 struct Words<'a> {
     verb: &'a str,
@@ -49,7 +49,7 @@ fn words_of(text: &str) -> Words<'_> {
     found
 }
 
-/// Parses an action. Returns `None` if the text is not an action.
+/// Parses the text of an action. Returns `None` if the text is not an action.
 pub(crate) fn parse_action(text: &str) -> Option<ParsedAction<'_>> {
     let words = words_of(text);
     match words.verb {
@@ -89,8 +89,8 @@ fn parse_get(words: Words<'_>) -> Option<ParsedAction<'_>> {
     }
 }
 
-/// Returns whether the text is the length of a `work`: a number from 1 to 1,000,000 without a
-/// leading zero.
+/// Returns whether the text is a valid length of a `work` action: a number from 1 to 1,000,000
+/// without a leading zero.
 fn is_length(text: &str) -> bool {
     let bytes = text.as_bytes();
     if bytes.first() == Some(&b'0') || !bytes.iter().all(|byte| byte.is_ascii_digit()) {
@@ -102,9 +102,12 @@ fn is_length(text: &str) -> bool {
     }
 }
 
-/// Returns the valid range of the length of a `work`, if the first word of the text is `work` and
-/// there is a second word. Returns `None` for any other text, and for a text with wrong spaces or
-/// with several actions. The text must not be a valid action.
+/// Returns the valid range for the length of a `work` action, if the text looks like such an action
+/// with an invalid length. The text must not be a valid action. Returns `None` if
+///
+/// - the first word of the text is not `work`, or there is no second word,
+/// - the text has wrong spaces, or
+/// - the text looks like several actions.
 pub(crate) fn range_of_work(text: &str) -> Option<NumberRange> {
     let words = words_of(text);
     if words.verb == "work"
@@ -140,7 +143,8 @@ pub(crate) fn action_error(alloc: Global, text: &str) -> Result<String, AllocErr
     }
 }
 
-/// Returns whether the text has a tab, two spaces in sequence, or a space at its start or end.
+/// Returns whether the text has wrong spaces: a tab, two spaces in sequence, or a space at its
+/// start or end.
 fn is_spaced(text: &str) -> bool {
     let bytes = text.as_bytes();
     let mut last = b' ';
@@ -153,8 +157,8 @@ fn is_spaced(text: &str) -> bool {
     !bytes.is_empty() && last == b' '
 }
 
-/// Returns whether the text looks like several actions: it has more than two words, and a comma, a
-/// semicolon or a second verb.
+/// Returns whether the text looks like several actions. Such a text has more than two words, and a
+/// comma, a semicolon or a second verb.
 fn has_several_actions(words: Words<'_>, text: &str) -> bool {
     words.count > 2 && (has_separator(text) || has_two_verbs(words, text))
 }
@@ -218,7 +222,8 @@ fn submit_form(alloc: Global, class: &str) -> Result<String, AllocError> {
     format!(in alloc; "write submit {class}, or submit {class} as NAME if its result is needed")
 }
 
-/// Returns the message for a text whose first word is not the verb of an action.
+/// Returns the message for a text that is not an action because its first word is no verb of an
+/// action.
 fn verb_error(alloc: Global, verb: &str, first: &str) -> Result<String, AllocError> {
     match verb {
         "execute" | "invoke" | "start" | "schedule" => submit_form(alloc, first),

@@ -11,13 +11,13 @@ use std::alloc::{AllocError, Global};
 use support::number::{BAD_ACTION, NO_SUCH_CLASS, SLOT_EMPTY, SLOT_OPEN};
 use toml::Value;
 
-/// A name under which a job was submitted.
+/// A name under which an action submitted a job.
 #[derive(Clone, Copy)]
 struct Slot<'a> {
     name: &'a str,
     /// The index of the action that submitted the job.
     submit: usize,
-    /// The index of the action that got the job, or `None` if no action got it yet.
+    /// The index of the action that got the job, or `None` if no action has got the job yet.
     got: Option<usize>,
 }
 
@@ -52,8 +52,8 @@ impl CheckedAction<'_> {
         self.report_with_range(collector, number, words, None)
     }
 
-    /// Reports a fault of the action. If the fault is a number that is out of range, `range` is the
-    /// valid range.
+    /// Reports a fault of this action. If the fault is a number that is out of range, `range` is
+    /// the valid range.
     fn report_with_range(
         &self,
         collector: &mut FaultCollector,
@@ -66,8 +66,8 @@ impl CheckedAction<'_> {
     }
 }
 
-/// Reports the faults of the actions in an entry's body. Skips elements that are not strings, and a
-/// body that is missing or is not an array.
+/// Reports the faults of the actions in an entry's body. Ignores a body that is missing or is not
+/// an array, and elements of the body that are not strings.
 pub(crate) fn body(
     collector: &mut FaultCollector,
     entry: &PlacedEntry<'_>,
@@ -145,15 +145,16 @@ fn check_submit(
     checked.report(collector, NO_SUCH_CLASS, &words)
 }
 
-/// Returns the message for a submit of a class that the plan does not have.
+/// Returns the message for a submit of the class `class`, which the plan does not have. `classes`
+/// has the names of the plan's classes.
 fn unknown_class(alloc: Global, class: &str, classes: &[&str]) -> Result<String, AllocError> {
     let otherwise = known_classes(alloc, classes)?;
     let right = suggestion(alloc, class, classes, &otherwise)?;
     format!(in alloc; "unknown class {class}{right}")
 }
 
-/// Returns the end of the message for an unknown class: a list of the plan's classes, or what to
-/// add if the plan has none.
+/// Returns the end of the message for an unknown class: a list of the plan's classes. If the plan
+/// has no classes, the end says what to add.
 fn known_classes(alloc: Global, classes: &[&str]) -> Result<String, AllocError> {
     if classes.is_empty() {
         let words = "; the plan has no classes: add a [[class]] with this name";
@@ -163,8 +164,8 @@ fn known_classes(alloc: Global, classes: &[&str]) -> Result<String, AllocError> 
     format!(in alloc; "; the classes are {all}")
 }
 
-/// Checks a submit under this name. Reports the submit if an earlier one used the name and no
-/// action got its job yet. Otherwise adds the name to `slots`.
+/// Checks a submit under this name. If an earlier action submitted a job under the same name and no
+/// action has got that job yet, reports the submit. Otherwise adds the name to `slots`.
 fn check_slot_is_free<'a>(
     collector: &mut FaultCollector,
     checked: CheckedAction<'a>,
@@ -182,8 +183,8 @@ fn check_slot_is_free<'a>(
     Ok(())
 }
 
-/// Returns the index of the action that submitted a job under this name, if no action got the job
-/// yet. Returns `None` if there is no such action.
+/// Returns the index of the action that submitted a job under this name, if no action has got this
+/// job yet. Returns `None` if there is no such action.
 fn submit_in_use(slots: &[Slot<'_>], name: &str) -> Option<usize> {
     for slot in slots {
         if slot.name == name && slot.got.is_none() {
@@ -205,8 +206,8 @@ fn report_in_use(
     checked.report(collector, SLOT_OPEN, &words)
 }
 
-/// Checks a get of this name. Records that the action gets the job that was submitted under the
-/// name. Reports the action instead if there is no such job or an earlier action got it.
+/// Checks a get of this name. If a job was submitted under the name and no action has got it yet,
+/// records that this action gets the job. Otherwise reports the get.
 fn check_get<'a>(
     collector: &mut FaultCollector,
     checked: CheckedAction<'a>,
@@ -220,8 +221,9 @@ fn check_get<'a>(
     }
 }
 
-/// Records that the action with the index `action` gets the job that was submitted under this name,
-/// if no earlier action got it. Returns which of the cases occurred.
+/// Records that the action with the index `action` gets the job that was submitted under this name.
+/// Changes nothing if there is no such job, or if an earlier action got it. Returns which of these
+/// three cases holds.
 fn mark_as_got(slots: &mut [Slot<'_>], name: &str, action: usize) -> Marked {
     let mut marked = Marked::Missing;
     for slot in slots.iter_mut() {

@@ -8,7 +8,7 @@ use crate::circles::classes_between;
 use job_bodies::{Action, Plan};
 use std::alloc::{AllocError, Global};
 
-/// Returns the message that a class submits itself. If it does so through other classes, the
+/// Returns the message that a class submits itself. If the class does so through other classes, the
 /// message lists the submits, as in `class a submits itself: a submits b, b submits a`.
 pub(crate) fn words_of_circle(
     alloc: Global,
@@ -23,8 +23,8 @@ pub(crate) fn words_of_circle(
     Ok(words)
 }
 
-/// Returns `between` if the class submits itself through these classes, and otherwise an empty
-/// slice.
+/// Returns `between` if the class submits itself through the classes in this list, in this order.
+/// Otherwise returns an empty list.
 fn checked_circle<'a>(plan: &Plan, class: usize, between: &'a [usize]) -> &'a [usize]
     ensures { 0 < length result.now → IsTrue (spec.submits_through plan.now class result.now class) }
 {
@@ -35,8 +35,8 @@ fn checked_circle<'a>(plan: &Plan, class: usize, between: &'a [usize]) -> &'a [u
     }
 }
 
-/// Returns the message that a class submits itself through the classes `between`. If `between` is
-/// empty, the message lists no submits.
+/// Returns the message that a class submits itself through the classes `between`, with the list of
+/// these submits. If `between` is empty, the message has no list.
 fn words_through(
     alloc: Global,
     plan: &Plan,
@@ -58,8 +58,8 @@ fn push_itself(words: &mut String, name: &str) -> Result<(), AllocError>
     write!(words, "class {name} submits itself")
 }
 
-/// Appends the submits of the circle from the class through the classes `between` back to the
-/// class. Appends nothing if `between` is empty.
+/// Appends the submits by which the class submits itself through the classes `between`. Appends
+/// nothing if `between` is empty.
 fn push_circle(
     words: &mut String,
     plan: &Plan,
@@ -75,7 +75,8 @@ fn push_circle(
     push_steps(words, plan, class, between, class)
 }
 
-/// Appends the submits that lead from the class `from` through these classes to the class `to`.
+/// Appends the submits that lead from the class `from` through the classes `between` to the class
+/// `to`.
 fn push_steps(
     words: &mut String,
     plan: &Plan,
@@ -113,8 +114,8 @@ fn push_step(words: &mut String, plan: &Plan, from: usize, to: usize) -> Result<
     words.push_str(plan.class_name(to))
 }
 
-/// Returns whether the class `from` submits the first of these classes, each of them submits the
-/// next one, and the last one submits the class `to`.
+/// Returns whether the submits lead from the class `from` through the classes `between`, in this
+/// order, to the class `to`. Each of these classes must submit the next one directly.
 fn submits_through(plan: &Plan, mut from: usize, mut between: &[usize], to: usize) -> bool
     ensures { result ≡ spec.submits_through plan.now from between.now to }
 {

@@ -3,11 +3,12 @@
 use job_bodies::{Action, Plan};
 use std::alloc::{AllocError, Global};
 
-/// A breadth-first search for a shortest circle of submits, which leads from a class back to
-/// itself.
+/// A breadth-first search for a shortest circle of submits. A circle of submits leads from a class,
+/// possibly through other classes, back to the same class.
 #[derive(Drop)]
 struct CircleSearch {
-    /// For each class, the class whose body led the search to it, or `None` if it was not found.
+    /// For each class, the class from whose body the search found it, or `None` if the search has
+    /// not found it.
     submitters: Vec<Option<usize>>,
     /// The classes that were found, in the order in which they were found.
     found: Vec<usize>,
@@ -55,15 +56,15 @@ impl CircleSearch {
         Ok(())
     }
 
-    /// Returns the class whose body led the search to this class, or `None` if this class was not
-    /// found.
+    /// Returns the class from whose body the search found this class. Returns `None` if the search
+    /// has not found this class.
     fn submitter_of(&self, class: usize) -> Option<usize> {
         self.submitters.get(class).copied().flatten()
     }
 }
 
-/// Returns the other classes of a shortest circle of submits through the class, in the order of the
-/// submits. The list is empty if the class submits itself directly, or not at all.
+/// Returns the classes through which the class submits itself, in the order of the submits, by a
+/// shortest way. The list is empty if the class submits itself directly, or does not submit itself.
 pub(crate) fn classes_between(
     alloc: Global,
     plan: &Plan,
@@ -77,8 +78,9 @@ pub(crate) fn classes_between(
     Ok(between)
 }
 
-/// Appends the other classes of the circle that the search found, from the last to the first: the
-/// submitter of `class`, then its submitter, and so on, until `class` is reached again.
+/// Appends the classes through which the class submits itself, from the last to the first. The last
+/// is the class from whose body the search found `class`. The one before it is the class from whose
+/// body the search found the last, and so on.
 fn push_submitters(
     between: &mut Vec<usize>,
     search: &CircleSearch,

@@ -9,14 +9,14 @@ use std::alloc::{AllocError, Global};
 /// The maximum number of faults besides the one that the plan parser reports.
 const MAX_OTHERS: usize = 99;
 
-/// The faults found so far: the fault that the plan parser reports, the first 99 others, and the
-/// number of further faults.
+/// The faults that were found so far: the fault that the plan parser reports, the first 99 other
+/// faults, and the number of further faults.
 #[derive(Drop)]
 pub(crate) struct FaultCollector {
     pub(crate) alloc: Global,
     /// The fault that the plan parser reports.
     pub(crate) wanted: PlanFault,
-    /// The first diagnostic for that fault.
+    /// The first diagnostic that was found for the fault `wanted`.
     pub(crate) first: Option<Diagnostic>,
     pub(crate) others: Vec<Diagnostic>,
     pub(crate) omitted: usize,
@@ -35,8 +35,8 @@ impl FaultCollector {
         }
     }
 
-    /// Adds a fault. The first one that equals `wanted` becomes `first`. Any other fault is added
-    /// to `others`, or, if there are already 99 others, only counted.
+    /// Adds a fault. If it is the first one that equals `wanted`, stores it in `first`. Otherwise
+    /// adds it to `others`. If `others` already has 99 faults, only counts it in `omitted`.
     pub(crate) fn push(&mut self, found: Diagnostic) -> Result<(), AllocError> {
         if self.first.is_none() && found.fault == self.wanted {
             self.first = Some(found);

@@ -8,12 +8,12 @@ ghost use Rattle.support.specs.Pushed.{Pushes};
 
 use std::alloc::{AllocError, Global};
 
-/// Returns the text with each control character escaped, such as `\n` for a newline. The result is
-/// a single line.
+/// Returns the text as a single line. Each control character is replaced by an escape, such as `\n`
+/// for a newline.
 ///
 /// # Errors
 ///
-/// [`AllocError`] if memory runs out.
+/// Returns [`AllocError`] if memory runs out.
 pub fn one_line(alloc: Global, text: &str) -> Result<String, AllocError>
     ensures exact { IfOk result (λ line. string_bytes line ≡ spec.one_line text.now) }
     ensures single { IfOk result (λ line. spec.HasNoNewline (string_bytes line)) }

@@ -17,7 +17,7 @@ pub struct NumberRange {
 /// A diagnostic for one fault.
 #[derive(Drop)]
 pub struct Diagnostic {
-    /// The fault: its number and position, as the other commands print them.
+    /// The number and the position of the fault, as other commands print them.
     pub fault: PlanFault,
     /// The place of the fault in the text.
     pub place: TextPlace,
@@ -34,17 +34,17 @@ pub struct Faults {
     pub first: Diagnostic,
     /// The other faults that were found, at most 99.
     pub others: Vec<Diagnostic>,
-    /// The number of faults that were found and are left out, since at most 100 are reported.
+    /// The number of faults that were found but are not listed, because at most 100 are listed.
     pub omitted: usize,
 }
 
 /// Appends a line for each fault, such as `shop.toml:17:21: class page, action 2 "get row": nothing
-/// was submitted as row; did you mean rows? (fault 13)`, with `file` as the file's name. A last
-/// line says how many faults are left out, if there are any, such as `... and 12 more faults`.
+/// was submitted as row; did you mean rows? (fault 13)`. `file` is the name of the plan's file. If
+/// faults are left out, a last line has their number, such as `... and 12 more faults`.
 ///
 /// # Errors
 ///
-/// [`AllocError`] if memory runs out.
+/// Returns [`AllocError`] if memory runs out.
 pub fn push_faults(text: &mut String, file: &str, faults: &Faults) -> Result<(), AllocError>
     ensures { Pushes result text.old text.new (spec.faults_text file.now faults.now) }
 {
@@ -89,7 +89,7 @@ fn push_line(
     push_number(text, number)
 }
 
-/// Appends a place in the file, as `FILE:LINE:COLUMN: `.
+/// Appends a place in the file, in the form `FILE:LINE:COLUMN: `.
 pub(crate) fn push_place(text: &mut String, file: &str, place: TextPlace) -> Result<(), AllocError>
     ensures { Pushes result text.old text.new (spec.place_head file.now place) }
 {

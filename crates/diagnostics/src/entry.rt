@@ -13,8 +13,8 @@ pub(crate) const BEGINNING: TextPlace = TextPlace { line: 1, column: 1 };
 /// The string for a size without a bound, in place of a number.
 pub(crate) const UNBOUNDED: &str = "unbounded";
 
-/// Returns the key of the list for entries of this kind, such as `pool`, or `plan` for the whole
-/// text. Messages use it as the name of the kind.
+/// Returns the key of the list that has the entries of this kind, such as `pool`. Returns `plan`
+/// for the whole text. Messages use the result as the name of the kind.
 pub(crate) fn list_of(part: Part) -> &'static str {
     match part {
         Part::Text => "plan",
@@ -24,8 +24,8 @@ pub(crate) fn list_of(part: Part) -> &'static str {
     }
 }
 
-/// An entry of one of the plan's lists. `places` has the places of all entries, keys and values in
-/// the plan's text.
+/// An entry of one of the plan's lists: a pool, a class or a client kind. `places` has the places
+/// of all entries, keys and values in the plan's text.
 #[derive(Clone, Copy)]
 pub(crate) struct PlacedEntry<'a> {
     pub(crate) part: Part,
@@ -39,8 +39,8 @@ impl<'a> PlacedEntry<'a> {
         self.table.get(key)
     }
 
-    /// Returns the string at the key, or `None` if the key is missing or has a value of another
-    /// type.
+    /// Returns the string at the key. Returns `None` if the entry does not have the key, or if the
+    /// value is not a string.
     pub(crate) fn text(&self, key: &str) -> Option<&'a str> {
         match self.table.get(key) {
             Some(value) => value.as_str(),
@@ -48,8 +48,8 @@ impl<'a> PlacedEntry<'a> {
         }
     }
 
-    /// Returns the integer at the key, or `None` if the key is missing or has a value of another
-    /// type.
+    /// Returns the integer at the key. Returns `None` if the entry does not have the key, or if the
+    /// value is not an integer.
     pub(crate) fn number(&self, key: &str) -> Option<i64> {
         match self.table.get(key) {
             Some(value) => value.as_integer(),
@@ -70,8 +70,8 @@ impl<'a> PlacedEntry<'a> {
         }
     }
 
-    /// Returns how messages name the entry, such as `pool db`, or `this pool` if the entry has no
-    /// name.
+    /// Returns the words by which messages name the entry, such as `pool db`. If the entry has no
+    /// name, these are, for example, `this pool`.
     pub(crate) fn who(&self, alloc: Global) -> Result<String, AllocError> {
         let list = list_of(self.part);
         match self.text("name") {
@@ -109,8 +109,8 @@ impl<'a> PlacedEntry<'a> {
         }
     }
 
-    /// Reports a fault of the entry, with a message such as `pool db: WORDS`, where WORDS is
-    /// `words`.
+    /// Reports a fault of the entry. The message begins with the kind and name of the entry, as in
+    /// `pool db: `, and continues with `words`.
     pub(crate) fn report(
         &self,
         collector: &mut FaultCollector,
@@ -121,8 +121,9 @@ impl<'a> PlacedEntry<'a> {
         self.report_with_range(collector, number, place, words, None)
     }
 
-    /// Reports a fault of the entry. If the fault is a number that is out of range, `range` is the
-    /// valid range.
+    /// Reports a fault of the entry. The message begins with the kind and name of the entry, as in
+    /// `pool db: `, and continues with `words`. If the fault is a number that is out of range,
+    /// `range` is the valid range.
     pub(crate) fn report_with_range(
         &self,
         collector: &mut FaultCollector,
@@ -142,9 +143,9 @@ impl<'a> PlacedEntry<'a> {
         })
     }
 
-    /// Reports a fault of an action, with a message such as `class page, action 1 "get row":
-    /// WORDS`, where WORDS is `words`. If the fault is a number that is out of range, `range` is
-    /// the valid range.
+    /// Reports a fault of an action. The message begins with, for example, `class page, action 1
+    /// "get row": `, and continues with `words`. If the fault is a number that is out of range,
+    /// `range` is the valid range.
     pub(crate) fn report_action(
         &self,
         collector: &mut FaultCollector,

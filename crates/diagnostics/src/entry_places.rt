@@ -8,7 +8,8 @@ use job_bodies::{Action, Part, Plan};
 use plan_text::{Places, TextPlace};
 use std::alloc::{AllocError, Global};
 
-/// The places of a plan's entries in its text. A place is `None` if it was not found.
+/// The places of a plan's entries in the plan's text. A place is a line and a column, or `None` if
+/// it was not found.
 #[derive(Drop)]
 pub struct PlanPlaces {
     /// The places of each pool.
@@ -28,19 +29,21 @@ pub struct PoolPlaces {
     pub queue: Option<TextPlace>,
 }
 
-/// The places of the name of a class or client kind, and of each action of its body.
+/// The places of a class or client kind in the plan's text: those of its name and of each action of
+/// its body.
 #[derive(Drop)]
 pub struct BodyPlaces {
     pub name: Option<TextPlace>,
     pub actions: Vec<Option<TextPlace>>,
 }
 
-/// Returns the places of the plan's entries in its text. The result has an element for each pool,
-/// class, client kind and action of the plan. The contract does not say where the places are.
+/// Returns the places of the plan's entries in the plan's text. The result has an element for each
+/// pool, class, client kind and action of the plan. The contract promises nothing about the places
+/// in these elements.
 ///
 /// # Errors
 ///
-/// [`AllocError`] if memory runs out.
+/// Returns [`AllocError`] if memory runs out.
 pub fn plan_places(alloc: Global, text: &[u8], plan: &Plan) -> Result<PlanPlaces, AllocError>
     ensures { IfOk result (spec.FitPlan plan.now) }
 {

@@ -10,9 +10,16 @@ use crate::lints::push_if;
 use job_bodies::{Action, Class, Client, Part, Plan};
 use std::alloc::AllocError;
 
-/// Appends a lint for each submit that repeating clients cause, if the queue of its pool is
-/// unbounded and its body has no get of it. For each class, `repeated` has whether repeating
-/// clients submit it, directly or through other jobs.
+/// Appends a lint for each submit that may let an unbounded queue grow without limit. Such a submit
+/// meets three conditions:
+///
+/// - The queue of the submitted job's pool is unbounded.
+/// - The body with the submit has no get of the job.
+/// - The body belongs to a client kind that repeats, or to a class whose element in `repeated` is
+///   `true`.
+///
+/// `repeated` has, for each class, whether repeating clients submit it, directly or through other
+/// jobs.
 pub(crate) fn push_growing(
     found: &mut Vec<Lint>,
     plan: &Plan,

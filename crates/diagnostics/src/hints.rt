@@ -3,8 +3,8 @@
 ghost use Rattle.std.specs.Prelude.{◌≡◌, option_map};
 ghost use Rattle.diagnostics.specs.Hints as spec;
 
-/// Returns the end of the message for a size of 0, which says what to write instead or which page
-/// explains it. It is empty for keys other than `queue` and `core`.
+/// Returns the end of the message for a size of 0. It says what to write instead, or which page
+/// explains the size 0. It is empty if the key is not `queue` or `core`.
 pub(crate) fn zero_hint(key: &str) -> &'static str
     ensures { result.now ≡ spec.zero_hint key.now }
 {
@@ -15,9 +15,9 @@ pub(crate) fn zero_hint(key: &str) -> &'static str
     }
 }
 
-/// Returns the end of the message for a string in place of a number. If the key is `max` or
-/// `queue`, and the string is `unlimited`, `infinite` or `none`, the end asks whether `unbounded`
-/// was meant. Otherwise it is empty.
+/// Returns the end of the message for a string in place of a number. The end asks whether
+/// `unbounded` was meant, if the key is `max` or `queue` and the string is `unlimited`, `infinite`
+/// or `none`. Otherwise the end is empty.
 pub(crate) fn no_limit_hint(key: &str, text: &str) -> &'static str
     ensures { result.now ≡ spec.no_limit_hint key.now text.now }
 {
@@ -40,7 +40,8 @@ fn names_no_limit(text: &str) -> bool
     matches!(text, "unlimited" | "infinite" | "none")
 }
 
-/// Returns the end of the message for a maximum without a bound over a queue with a capacity.
+/// Returns the end of the message for a pool whose maximum is `unbounded`, although its queue has a
+/// capacity.
 pub(crate) fn unbounded_max_hint() -> &'static str
     ensures { result.now ≡ spec.unbounded_max_hint }
 {
@@ -48,7 +49,7 @@ pub(crate) fn unbounded_max_hint() -> &'static str
 }
 
 /// Returns the end of the message for a maximum that is less than the core size. If the queue is
-/// unbounded, the end says that the maximum can be `unbounded` too. Otherwise it is empty.
+/// unbounded, the end says that the maximum can be `unbounded` too. Otherwise the end is empty.
 pub(crate) fn max_hint(is_unbounded: bool) -> &'static str
     ensures { result.now ≡ spec.max_hint is_unbounded }
 {
@@ -59,8 +60,8 @@ pub(crate) fn max_hint(is_unbounded: bool) -> &'static str
     }
 }
 
-/// Returns a hint if `line`, the first line of a text, shows that the text is a recording or JSON,
-/// such as a certificate. Otherwise returns `None`.
+/// Returns a hint if `line`, the first line of a text, shows that the text is not a plan. The hint
+/// says that the text is a recording or JSON, such as a certificate. Otherwise returns `None`.
 pub(crate) fn kind_hint(line: &str) -> Option<&'static str>
     ensures { option_map (λ hint. hint.now) result ≡ spec.kind_hint line.now }
 {
@@ -73,8 +74,8 @@ pub(crate) fn kind_hint(line: &str) -> Option<&'static str>
     None
 }
 
-/// Returns a hint for a value of this key that is a word without quotes. Returns `None` for `body`
-/// and for an unknown key.
+/// Returns a hint for a value of this key that is a word without quotes. The hint says what to
+/// write instead. Returns `None` if the key is `body` or unknown.
 pub(crate) fn word_hint(key: &str) -> Option<&'static str>
     ensures { option_map (λ hint. hint.now) result ≡ spec.word_hint key.now }
 {

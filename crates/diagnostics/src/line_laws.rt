@@ -2,9 +2,9 @@
 
 ghost use Rattle.diagnostics.specs.PrintedLines.{EachFaultIsALine, EachWarningIsALine};
 
-/// Proves that each fault and each warning is printed on a line of its own, if neither the file's
-/// name nor a message has a newline. The messages of [`faults_of`](crate::faults_of) and
-/// [`warnings_of`](crate::warnings_of) have no newlines.
+/// States that each fault and each warning is printed on a line of its own. The name of the file
+/// and the messages must not have newlines. The messages of [`faults_of`](crate::faults_of) and
+/// [`warnings_of`](crate::warnings_of) have none.
 pub fn each_message_is_a_line()
     ensures faults { EachFaultIsALine }
     ensures warnings { EachWarningIsALine }

@@ -6,18 +6,18 @@ ghost use Rattle.diagnostics.specs.Lints as spec;
 use crate::warnings::Warning;
 use job_bodies::Part;
 
-/// A lint: a part of a valid plan that is probably a mistake. Pools, classes, client kinds and
-/// actions are numbered from 0.
+/// A lint: a part of a valid plan that is probably a mistake. The fields name pools, classes,
+/// client kinds and actions by their numbers, which begin at 0.
 #[derive(Clone, Copy)]
 pub enum Lint {
-    /// A certificate accepts the plan with each maximum lowered to the core size of its pool. The
-    /// caller that searched for the certificate provides this fact.
+    /// A certificate accepts the plan even if each maximum is lowered to the core size of its pool.
+    /// The caller that searched for this certificate provides the fact.
     SafeAtCore,
     /// This class submits itself, directly or through other classes.
     SubmitsItself(usize),
     /// The body of a class or client kind has a submit without a get, and repeating clients cause
-    /// such submits without limit. The fields are: whether it is a class or a client kind, its
-    /// number, and the number of the action.
+    /// such submits without limit. The fields are the kind of entry (class or client kind), the
+    /// number of the entry, and the number of the action.
     NeverGot(Part, usize, usize),
     /// The plan has no pools and no clients.
     NothingToAsk,
@@ -27,58 +27,59 @@ pub enum Lint {
     NothingSubmitted,
     /// No job is ever submitted to this pool.
     PoolWithoutJobs(usize),
-    /// The maximum of this pool is above its core size, but has no effect, because the queue is
-    /// large enough for all jobs that are in it at once.
+    /// The maximum of this pool is above its core size, but has no effect. The reason is that its
+    /// queue is large enough for all jobs that are in the queue at once.
     UselessMax(usize),
-    /// The plan says that this pool may reject jobs, but it never does, because its queue is large
-    /// enough for all jobs that are in it at once. The second field is the maximum number of these
-    /// jobs.
+    /// The plan says that this pool may reject jobs, but the pool never does. The reason is that
+    /// its queue is large enough for all jobs that are in the queue at once. The second field is
+    /// the maximum number of these jobs.
     UselessMayReject(usize, u64),
-    /// The plan says that this pool may reject jobs, but it never does, because its queue is
+    /// The plan says that this pool may reject jobs, but the pool never does, because its queue is
     /// unbounded.
     NeverRejects(usize),
-    /// The queue capacity of this pool is more than ten times the second field, which is the
-    /// maximum number of jobs in the queue at once.
+    /// The queue capacity of this pool is more than ten times the second field. The second field is
+    /// the maximum number of jobs in the queue at once.
     QueueFarAbove(usize, u64),
     /// No client submits this class, directly or through other jobs.
     ClassWithoutJobs(usize),
-    /// The pool of this class may reject its jobs, and the body of the class has submits or gets.
-    /// If the pool's handler runs a rejected job in the caller, the plan does not describe what
-    /// happens.
+    /// The pool of this class may reject the class's jobs, and the body of the class has submits or
+    /// gets. If the pool's handler runs a rejected job in the caller, the plan does not describe
+    /// what happens.
     RunInCaller(usize),
-    /// This client kind does not repeat: each of its clients goes through its body once.
+    /// This client kind does not repeat: each client of this kind goes through its body once.
     GoesOnce(usize),
-    /// This client kind submits jobs, but only to pools that must not reject jobs and have one core
-    /// thread and a bounded queue. The capacity of each of these queues is below the number of
-    /// clients of the kind.
+    /// This client kind has many clients for the small pools to which they submit jobs. Each of
+    /// these pools must not reject jobs, and has one core thread and a bounded queue. The capacity
+    /// of each of these queues is below the number of clients of the kind.
     Crowd(usize),
-    /// The body of a class or client kind has a `work` of at least 50 units, whose length is also a
-    /// size of a pool or the count of a client kind. The fields are: whether it is a class or a
-    /// client kind, its number, the number of the action, and the length in units.
+    /// The body of a class or client kind has a `work` whose length is also a size of a pool or the
+    /// count of a client kind. The length is at least 50 units. The fields are the kind of entry
+    /// (class or client kind), its number, the number of the action, and the length.
     WorkLikeASize(Part, usize, usize, u32),
-    /// The body of a class or client kind submits a job that its pool may reject, between another
-    /// submit and the get of that submit, so that a future is open. The fields are: whether it is a
-    /// class or a client kind, its number, and the number of the action.
+    /// The body of a class or client kind submits a job that its pool may reject, while a future is
+    /// open. This means that the submit is between another submit and the get of that other submit.
+    /// The fields are the kind of entry (class or client kind), the number of the entry, and the
+    /// number of the action.
     OpenFuture(Part, usize, usize),
     /// The body of a class or client kind submits a job to a pool with an unbounded queue and has
-    /// no get of it. Repeating clients cause this submit again and again, so the queue may grow
-    /// without limit. The fields are: whether it is a class or a client kind, its number, and the
-    /// number of the action.
+    /// no get of this job. Repeating clients cause this submit again and again, so the queue may
+    /// grow without limit. The fields are the kind of entry (class or client kind), the number of
+    /// the entry, and the number of the action.
     QueueMayGrow(Part, usize, usize),
-    /// A given certificate does not accept the plan. This is not a lint of the plan itself, and the
-    /// caller that reports it provides the message.
+    /// A given certificate does not accept the plan. The checks of the plan never report this lint.
+    /// The caller that reports it provides the message.
     StaleCertificate,
 }
 
-/// Returns whether the lint is a note, and not a warning. Whether a note matters depends on the
-/// handler of a pool or on the code around a submit, about which a plan says nothing.
+/// Returns whether the lint is a note instead of a warning. Whether a note matters depends on the
+/// handler of a pool or on the code around a submit, which a plan does not describe.
 pub fn is_note(lint: Lint) -> bool
     ensures { result ≡ spec.is_note lint }
 {
     matches!(lint, Lint::RunInCaller(_) | Lint::OpenFuture(_, _, _))
 }
 
-/// Returns whether at least one of these is a warning, and not a note.
+/// Returns whether at least one of these is a warning instead of a note.
 pub fn has_warning(warnings: &[Warning]) -> bool
     ensures { result ≡ spec.has_warning warnings.now }
 {

@@ -8,32 +8,32 @@ ghost use Rattle.diagnostics.specs.Lints as spec;
 use crate::open_futures::has_open_future;
 use job_bodies::{Action, Class, Client, Plan, Pool, has_get_of};
 
-/// The number by which [`is_far_above`] divides a queue's capacity before it compares the capacity
-/// with the maximum number of jobs in the queue.
+/// The number by which [`is_far_above`] divides the capacity of a queue before it compares the
+/// result with the maximum number of jobs in the queue.
 const FAR_ABOVE: u64 = 10;
 
-/// A lint reports a `work` of at least this many units, if its length is also a size of a pool or
-/// the count of a client kind.
+/// The least length, in units, that a `work` must have for a lint to report it. Such a lint reports
+/// that the length is also a size of a pool or the count of a client kind.
 const LIKE_A_SIZE: u32 = 50;
 
-/// Returns whether clients submit the class of this number, directly or through other jobs. `marks`
-/// has this fact for each class. Returns false if there is no such class.
+/// Returns whether clients submit the class with this number, directly or through other jobs.
+/// `marks` has the answer for each class. Returns `false` if there is no such class.
 pub(crate) fn is_submitted(marks: &[bool], class: usize) -> bool
     ensures { result ≡ slice_index_or marks.now class false }
 {
     class < marks.len() && marks[class]
 }
 
-/// Returns whether clients submit any class. `marks` is as in [`is_submitted`].
+/// Returns whether clients submit any class. `marks` has, for each class, whether clients submit
+/// it.
 pub(crate) fn is_any_submitted(marks: &[bool]) -> bool
     ensures { result ≡ list_any (λ mark. mark) marks.now }
 {
     marks.iter().any(|mark| *mark)
 }
 
-/// Returns the maximum number of jobs that are in the queue of the pool of this number at once.
-/// `needed` has this maximum for each pool. Returns `None` if it is not known, or if there is no
-/// such pool.
+/// Returns the maximum number of jobs in the queue of this pool at once. `needed` has this number
+/// for each pool. Returns `None` if the number is not known, or if there is no such pool.
 pub(crate) fn most_at(needed: &[Option<u64>], pool: usize) -> Option<u64>
     ensures { result ≡ slice_index_or needed.now pool None }
 {
@@ -44,8 +44,8 @@ pub(crate) fn most_at(needed: &[Option<u64>], pool: usize) -> Option<u64>
     }
 }
 
-/// Returns whether clients submit a class that runs in the pool of this number, directly or through
-/// other jobs. `marks` is as in [`is_submitted`].
+/// Returns whether clients submit a class that runs in the pool with this number, directly or
+/// through other jobs. `marks` has, for each class, whether clients submit it.
 pub(crate) fn gets_a_job(plan: &Plan, marks: &[bool], pool: usize) -> bool
     ensures { result ≡ spec.gets_a_job plan.now marks.now pool }
 {
@@ -61,40 +61,41 @@ fn brings_jobs(marks: &[bool], number: usize, class: &Class, pool: usize) -> boo
     is_submitted(marks, number) && class.pool == pool
 }
 
-/// Returns whether the pool's queue is bounded and its maximum is above its core size. If the queue
-/// is unbounded, the maximum has no effect.
+/// Returns whether the pool can have more threads than its core size: its maximum is above its core
+/// size, and its queue is bounded. With an unbounded queue, the maximum has no effect.
 pub(crate) fn may_grow(pool: &Pool) -> bool
     ensures { result ≡ spec.may_grow pool.now }
 {
     !pool.unbounded && pool.core < pool.max
 }
 
-/// Returns whether the pool's maximum is above its core size, but has no effect, because the queue
-/// holds `most` jobs, the maximum number of jobs in it at once.
+/// Returns whether the pool's maximum is above its core size, but has no effect because the queue
+/// can hold `most` jobs. `most` is the maximum number of jobs in the queue at once.
 pub(crate) fn has_useless_max(pool: &Pool, most: u64) -> bool
     ensures { result ≡ spec.has_useless_max pool.now most }
 {
     may_grow(pool) && most <= pool.queue
 }
 
-/// Returns whether the plan says that the pool may reject jobs, although its queue holds `most`
-/// jobs, the maximum number of jobs in it at once.
+/// Returns whether the plan says that the pool may reject jobs, although its queue can hold `most`
+/// jobs. `most` is the maximum number of jobs in the queue at once.
 pub(crate) fn never_rejects(pool: &Pool, most: u64) -> bool
     ensures { result ≡ spec.never_rejects pool.now most }
 {
     pool.may_reject && most <= pool.queue
 }
 
-/// Returns whether the queue's capacity is far above `most`, the maximum number of jobs in it at
-/// once: a tenth of the capacity, rounded down, exceeds both `most` and 1.
+/// Returns whether the capacity of the queue is far above `most`, the maximum number of jobs in the
+/// queue at once. This is so if a tenth of the capacity, rounded down, exceeds both `most` and 1.
 pub(crate) fn is_far_above(pool: &Pool, most: u64) -> bool
     ensures { result ≡ spec.is_far_above pool.now most }
 {
     most.max(1) < pool.queue / FAR_ABOVE
 }
 
-/// Returns whether the pool of the class may reject its jobs, and the body of the class has submits
-/// or gets. `needed` is as in [`most_at`].
+/// Returns whether the pool of the class may reject the class's jobs, and the body of the class has
+/// submits or gets. `needed` has, for each pool, the maximum number of jobs in its queue at once,
+/// if it is known.
 pub(crate) fn may_run_in_caller(plan: &Plan, needed: &[Option<u64>], class: &Class) -> bool
     ensures { result ≡ spec.may_run_in_caller plan.now needed.now class.now }
 {
@@ -113,8 +114,9 @@ fn is_work(action: Action) -> bool
     matches!(action, Action::Work(_))
 }
 
-/// Returns whether a future is open at this position of the body, and the submit of a job of the
-/// class there may be rejected. `needed` is as in [`most_at`].
+/// Returns whether a future is open at this position of the body, and a job of the class that is
+/// submitted there may be rejected. `needed` has, for each pool, the maximum number of jobs in its
+/// queue at once, if it is known.
 pub(crate) fn leaves_a_future(
     plan: &Plan,
     needed: &[Option<u64>],
@@ -127,9 +129,9 @@ pub(crate) fn leaves_a_future(
     may_reject_jobs(plan, needed, pool_of(plan, class)) && has_open_future(body, position)
 }
 
-/// Returns whether the plan says that the pool with this number may reject jobs, and its queue may
-/// be too small for all jobs that can be in it at once (see [`holds_all`]). `needed` is as in
-/// [`most_at`]. Returns `false` if there is no such pool.
+/// Returns whether the plan says that the pool with this number may reject jobs, and its queue is
+/// not certain to hold all jobs that can be in it at once. `needed` has, for each pool, the maximum
+/// number of these jobs, if it is known. Returns `false` if there is no such pool.
 fn may_reject_jobs(plan: &Plan, needed: &[Option<u64>], number: usize) -> bool
     ensures { result ≡ spec.may_reject_jobs plan.now needed.now number }
 {
@@ -139,9 +141,9 @@ fn may_reject_jobs(plan: &Plan, needed: &[Option<u64>], number: usize) -> bool
     }
 }
 
-/// Returns whether the pool's queue is unbounded or holds `most` jobs, the maximum number of jobs
-/// in it at once. If `most` is `None`, that number is not known, and only an unbounded queue is
-/// certain to hold all jobs.
+/// Returns whether the queue of the pool is certain to hold all jobs that can be in it at once.
+/// `most` is the maximum number of these jobs, or `None` if it is not known. The queue must be
+/// unbounded or have a capacity of at least `most`.
 fn holds_all(pool: &Pool, most: Option<u64>) -> bool
     ensures { result ≡ spec.holds_all pool.now most }
 {
@@ -151,8 +153,8 @@ fn holds_all(pool: &Pool, most: Option<u64>) -> bool
     }
 }
 
-/// Returns whether the action at this position of the body submits a job to a pool with an
-/// unbounded queue, and the body has no get of it.
+/// Returns whether the action at this position of the body submits a job that the body never gets,
+/// to a pool with an unbounded queue.
 pub(crate) fn fills_queue(plan: &Plan, body: &[Action], position: usize, action: Action) -> bool
     ensures { result ≡ spec.fills_queue plan.now body.now position action }
 {
@@ -176,7 +178,7 @@ fn is_unbounded(plan: &Plan, number: usize) -> bool
 }
 
 /// Returns whether the clients of this kind submit jobs, and each pool to which they submit is
-/// small for their number (see [`is_small`]).
+/// small for the number of these clients, as [`is_small`] defines it.
 pub(crate) fn are_a_crowd(plan: &Plan, client: &Client) -> bool
     ensures { result ≡ spec.are_a_crowd plan.now client.now }
 {
@@ -201,8 +203,8 @@ fn submits_to_small_alone(plan: &Plan, count: u64, body: &[Action]) -> bool
     body.iter().all(|action| is_for_small(plan, count, *action))
 }
 
-/// Returns whether the action is not a submit, or submits a job to a pool that is small for `count`
-/// clients (see [`is_small`]).
+/// Returns `false` if the action submits a job to a pool that is not small for `count` clients, as
+/// [`is_small`] defines it. Otherwise returns `true`.
 fn is_for_small(plan: &Plan, count: u64, action: Action) -> bool
     ensures { result ≡ spec.is_for_small plan.now count action }
 {
@@ -231,16 +233,16 @@ fn is_small_at(plan: &Plan, count: u64, pool: usize) -> bool
     }
 }
 
-/// Returns whether the pool is small for `count` clients: it must not reject jobs, has one core
-/// thread, and has a bounded queue with a capacity below `count`.
+/// Returns whether the pool is small for `count` clients. Such a pool must not reject jobs, has one
+/// core thread, and has a bounded queue with a capacity below `count`.
 fn is_small(count: u64, pool: &Pool) -> bool
     ensures { result ≡ spec.is_small count pool.now }
 {
     pool.core == 1 && pool.queue < count && !pool.needs_no_bound()
 }
 
-/// Returns whether the length of a `work` is at least 50 units, and equals a size of a pool or the
-/// count of a client kind.
+/// Returns whether `units`, the length of a `work`, is at least 50 and is also a size of a pool or
+/// the count of a client kind.
 pub(crate) fn looks_like_a_size(plan: &Plan, units: u32) -> bool
     ensures { result ≡ spec.looks_like_a_size plan.now units }
 {
@@ -260,8 +262,8 @@ fn is_size_of_any(pools: &[Pool], number: u64) -> bool
     pools.iter().any(|pool| has_size(pool, number))
 }
 
-/// Returns whether the number is a size of the pool. If the queue is unbounded, only the core size
-/// counts.
+/// Returns whether the number is a size of the pool. If the queue of the pool is unbounded, only
+/// the core size counts.
 fn has_size(pool: &Pool, number: u64) -> bool
     ensures { result ≡ spec.has_size number pool.now }
 {

@@ -13,9 +13,12 @@ use job_bodies::{Action, Class, Client, Part, Plan, Pool};
 use size_search::{Cause, cause_of, submitted_by_clients, submitted_repeatedly};
 use std::alloc::{AllocError, Global};
 
-/// Returns the lints of the plan. `needed` has, for each pool, the maximum number of jobs in its
-/// queue at once, or `None` if this number is not known. `is_safe_at_core` says that a certificate
-/// accepts the plan with each maximum lowered to the core size of its pool.
+/// Returns the lints of the plan, which are the parts of it that are probably mistakes.
+///
+/// - `needed` has, for each pool, the maximum number of jobs in its queue at once, or `None` if
+///   this number is not known.
+/// - `is_safe_at_core` says that a certificate accepts the plan with each maximum lowered to the
+///   core size of its pool.
 pub(crate) fn lints_of(
     alloc: Global,
     plan: &Plan,
@@ -39,10 +42,14 @@ pub(crate) fn lints_of(
     )
 }
 
-/// Returns the lints of the plan. `needed` and `is_safe_at_core` are as in [`lints_of`]. `cause` is
-/// a reason why no certificate accepts the plan, whatever its sizes, or `None` if there is no such
-/// reason. `marks` has, for each class, whether clients submit it, directly or through other jobs,
-/// and `repeated` whether repeating clients do.
+/// Returns the lints of the plan.
+///
+/// - `needed` and `is_safe_at_core` are as in [`lints_of`].
+/// - `cause` is a reason why no certificate accepts the plan with any sizes, or `None` if there is
+///   no such reason.
+/// - `marks` has, for each class, whether clients submit it, directly or through other jobs.
+/// - `repeated` has, for each class, whether repeating clients submit it, directly or through other
+///   jobs.
 fn lints_with(
     alloc: Global,
     plan: &Plan,
@@ -86,7 +93,7 @@ fn push_all(
     push_plan(found, plan, needed, marks)
 }
 
-/// Appends the lint for `cause`, a reason why no certificate accepts the plan, whatever its sizes.
+/// Appends the lint for `cause`, a reason why no certificate accepts the plan with any sizes.
 /// Appends nothing if `cause` is `None`.
 fn push_cause(found: &mut Vec<Lint>, cause: Option<Cause>) -> Result<(), AllocError>
     ensures { OnOk result (found.new.items ≡ found.old.items ++ spec.lints_of_cause cause) }
@@ -107,8 +114,8 @@ fn lint_of_cause(cause: Cause) -> Lint
     }
 }
 
-/// Appends only the lint of the whole plan if one applies, such as [`Lint::NoClients`]. Otherwise
-/// appends the lints of the pools, classes and client kinds.
+/// Appends the lints of the pools, classes and client kinds. If the plan has no clients, or if its
+/// clients submit nothing, appends only one lint, which says this.
 fn push_plan(
     found: &mut Vec<Lint>,
     plan: &Plan,
@@ -127,7 +134,8 @@ fn push_plan(
     }
 }
 
-/// Returns the lint of a plan without clients, which depends on whether the plan has pools.
+/// Returns the lint of a plan without clients: [`Lint::NothingToAsk`] if the plan also has no
+/// pools, and otherwise [`Lint::NoClients`].
 fn without_clients(plan: &Plan) -> Lint
     ensures { result ≡ spec.without_clients plan.now }
 {
@@ -170,8 +178,8 @@ fn push_pools(
     Ok(())
 }
 
-/// Appends a lint if no job is ever submitted to the pool. Otherwise appends the lints of its sizes
-/// and of its key `may_reject`.
+/// Appends a lint if no job is ever submitted to the pool. Otherwise appends the lints of the
+/// pool's sizes and of its key `may_reject`.
 fn push_pool(
     found: &mut Vec<Lint>,
     plan: &Plan,
@@ -191,8 +199,8 @@ fn push_pool(
     }
 }
 
-/// Appends the lints of the pool's sizes and of its key `may_reject`. If its queue is unbounded,
-/// the only possible lint is that the key has no effect.
+/// Appends the lints of the pool's sizes and of its key `may_reject`. If the queue of the pool is
+/// unbounded, the only possible lint is that `may_reject` has no effect.
 fn push_sizes(
     found: &mut Vec<Lint>,
     number: usize,
@@ -209,9 +217,12 @@ fn push_sizes(
     }
 }
 
-/// Appends a lint if the pool's maximum has no effect, and a lint if its key `may_reject` has no
-/// effect. Appends another if its queue capacity is far above `most`, the maximum number of jobs in
-/// the queue at once. Appends nothing if `most` is `None`, because the number is not known.
+/// Appends the lints of a pool with a bounded queue. `most` is the maximum number of jobs in the
+/// queue at once. If it is not known, `most` is `None`, and nothing is appended. The lints are
+///
+/// - that the pool's maximum has no effect,
+/// - that the pool's key `may_reject` has no effect, and
+/// - that the capacity of the queue is far above `most`.
 fn push_bounded(
     found: &mut Vec<Lint>,
     number: usize,
@@ -320,8 +331,8 @@ fn push_client(
     push_body(found, plan, needed, Part::Client, number, &client.body)
 }
 
-/// Appends a lint for each `work` of the body for which [`looks_like_a_size`] returns true, and for
-/// each submit for which [`leaves_a_future`] does.
+/// Appends a lint for each `work` of the body for which [`looks_like_a_size`] returns `true`. Also
+/// appends a lint for each submit of the body for which [`leaves_a_future`] returns `true`.
 fn push_body(
     found: &mut Vec<Lint>,
     plan: &Plan,

@@ -8,10 +8,12 @@ use crate::lint_conditions::may_grow;
 use job_bodies::{Plan, Pool};
 use std::alloc::{AllocError, Global};
 
-/// Returns whether some pool's maximum is above its core size, and no such pool may reject jobs.
+/// Returns whether some pool has a bounded queue and a maximum above its core size, and no such
+/// pool may reject jobs.
 ///
-/// With a lower maximum, a pool that may reject jobs can reject more of them, and clients that wait
-/// for no job do something else. So the plan with lowered maximums says nothing about such a plan.
+/// A pool that may reject jobs can reject more jobs if its maximum is lower. Clients that wait for
+/// no job then do something else. So the plan with lowered maximums would say nothing about the
+/// plan itself.
 pub fn can_be_lowered(plan: &Plan) -> bool
     ensures { result ≡ spec.can_be_lowered plan.now }
 {
@@ -19,18 +21,19 @@ pub fn can_be_lowered(plan: &Plan) -> bool
     pools.iter().any(|pool| may_grow(pool)) && !pools.iter().any(|pool| may_grow_and_reject(pool))
 }
 
-/// Returns whether the pool's maximum is above its core size, and the pool may reject jobs.
+/// Returns whether the pool has a bounded queue and a maximum above its core size, and may reject
+/// jobs.
 fn may_grow_and_reject(pool: &Pool) -> bool
     ensures { result ≡ spec.may_grow_and_reject pool.now }
 {
     may_grow(pool) && pool.may_reject
 }
 
-/// Returns the plan with each maximum lowered to the core size of its pool.
+/// Returns a copy of the plan in which each maximum is lowered to the core size of its pool.
 ///
 /// # Errors
 ///
-/// [`AllocError`] if memory runs out.
+/// Returns [`AllocError`] if memory runs out.
 pub fn at_core(alloc: Global, plan: &Plan) -> Result<Plan, AllocError>
     ensures { IfOk result (λ lowered. lowered ≡ spec.at_core plan.now) }
 {

@@ -14,9 +14,9 @@ struct Submit<'a> {
     class: &'a str,
 }
 
-/// Returns the message for the action with the index `get`, a get of `name`. No earlier action of
-/// the body submits a job under this name. `names` has the names under which earlier actions submit
-/// jobs.
+/// Returns the message for the action with the index `get`, which is a get of `name`. No earlier
+/// action of the body submits a job under this name. `names` has the names under which earlier
+/// actions submit jobs.
 pub(crate) fn missing_submit(
     alloc: Global,
     body: &[Value],
@@ -33,9 +33,14 @@ pub(crate) fn missing_submit(
     format!(in alloc; "nothing was submitted as {name}{right}")
 }
 
-/// Returns the end of the message, which states the likely cause. It names the first of these that
-/// exists: an earlier submit without `as` of a class of this name, a similar name, or the last
-/// earlier submit without `as`. If none exists, it is the end that [`no_submit_before`] returns.
+/// Returns the end of the message for a get of a name under which no earlier action submits a job.
+/// The end states the likely cause, which is the first of these that exists:
+///
+/// 1. An earlier submit without `as` of a class that has this name.
+/// 2. A similar name under which an earlier action submits a job.
+/// 3. The last earlier submit without `as`.
+///
+/// If none exists, returns the result of [`no_submit_before`].
 fn likely_cause(
     alloc: Global,
     body: &[Value],
@@ -58,9 +63,10 @@ fn likely_cause(
     }
 }
 
-/// Returns the end of the message for a body in which each earlier submit has an `as`, and no name
-/// is similar. It lists `names`, the names of the earlier submits. If there are none, it says which
-/// submit to write before the get, and names the first later submit without `as`, if there is one.
+/// Returns the end of the message for a get if each earlier submit has an `as`, and no name is
+/// similar. If there are earlier submits, the end lists `names`, their names. Otherwise it says
+/// which submit to write before the get. It also names the first later submit without `as`, if
+/// there is one.
 fn no_submit_before(
     alloc: Global,
     body: &[Value],
@@ -91,8 +97,8 @@ fn without_name(alloc: Global, submit: Submit<'_>, name: &str) -> Result<String,
     format!(in alloc; ": action {action} \"{text}\" has no as {name}")
 }
 
-/// Returns the first submit under this name after the action with the index `get`, or `None` if
-/// there is none.
+/// Returns the first submit under this name after the action with the index `get`. Returns `None`
+/// if there is no such submit.
 fn named_after<'a>(body: &'a [Value], get: usize, name: &str) -> Option<Submit<'a>> {
     for (action, value) in body.iter().enumerate() {
         if action > get
@@ -110,9 +116,9 @@ fn named_after<'a>(body: &'a [Value], get: usize, name: &str) -> Option<Submit<'
     None
 }
 
-/// Returns a submit without `as` before the action with the index `get`: the first submit of a
-/// class with this name, or otherwise the last submit without `as`. Returns `None` if there is
-/// none.
+/// Returns a submit without `as` that is before the action with the index `get`. This is the first
+/// such submit of the class `name` or, if there is none, the last such submit of any class. Returns
+/// `None` if there is no such submit.
 fn unnamed_before<'a>(body: &'a [Value], get: usize, name: &str) -> Option<Submit<'a>> {
     let mut last = None;
     for (action, value) in body.iter().enumerate() {
@@ -128,8 +134,8 @@ fn unnamed_before<'a>(body: &'a [Value], get: usize, name: &str) -> Option<Submi
     last
 }
 
-/// Returns the first submit without `as` after the action with the index `get`, or `None` if there
-/// is none.
+/// Returns the first submit without `as` after the action with the index `get`. Returns `None` if
+/// there is no such submit.
 fn unnamed_after(body: &[Value], get: usize) -> Option<Submit<'_>> {
     for (action, value) in body.iter().enumerate() {
         if action > get
@@ -141,8 +147,8 @@ fn unnamed_after(body: &[Value], get: usize) -> Option<Submit<'_>> {
     None
 }
 
-/// Returns the action `value`, whose index is `action`, if it is a submit without `as`. Otherwise
-/// returns `None`.
+/// Returns the action as a submit, if it is a submit without `as`. Otherwise returns `None`.
+/// `action` is the index of the action, and `value` is its text.
 fn unnamed(action: usize, value: &Value) -> Option<Submit<'_>> {
     let text = value.as_str()?;
     match parse_action(text) {

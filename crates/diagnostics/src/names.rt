@@ -6,7 +6,8 @@ use job_bodies::is_valid_name;
 use std::alloc::{AllocError, Global};
 use support::number::{BAD_NAME, DOUBLE_NAME};
 
-/// Reports the entry's name if it is malformed, or if an earlier entry of the list has this name.
+/// Reports the entry's name if it is malformed, or if an earlier entry of the same list has the
+/// same name.
 pub(crate) fn name(
     collector: &mut FaultCollector,
     entry: &PlacedEntry<'_>,
@@ -33,7 +34,8 @@ fn malformed_name(
     entry.report(collector, BAD_NAME, entry.value_place("name"), &rule)
 }
 
-/// Reports that an earlier entry of the list, whose name is at this line, has the same name.
+/// Reports that an earlier entry of the same list has the same name. `line` is the line of the
+/// earlier entry's name.
 fn duplicate_name(
     collector: &mut FaultCollector,
     entry: &PlacedEntry<'_>,
@@ -44,8 +46,8 @@ fn duplicate_name(
     entry.report(collector, DOUBLE_NAME, entry.value_place("name"), &words)
 }
 
-/// Returns the message that states the rule for names. If [`well_formed_name`] turns `name` into a
-/// valid name, the message ends with the result.
+/// Returns the message for a malformed name, which states the rule for names. If
+/// [`well_formed_name`] turns `name` into a valid name, the message ends with this valid name.
 pub(crate) fn name_rule(alloc: Global, name: &str) -> Result<String, AllocError> {
     let similar = well_formed_name(alloc, name)?;
     let rule =
@@ -58,7 +60,7 @@ pub(crate) fn name_rule(alloc: Global, name: &str) -> Result<String, AllocError>
 }
 
 /// Returns the name in lowercase, with `_` in place of each character that a name cannot have. The
-/// result can still be malformed: its length and its first character are not checked.
+/// result can still be malformed, because its length and its first character are not checked.
 fn well_formed_name(alloc: Global, name: &str) -> Result<String, AllocError> {
     let mut similar = String::new(alloc);
     for letter in name.chars() {

@@ -11,8 +11,8 @@ use support::number::BAD_NUMBER;
 /// The largest valid size and count.
 const MOST: i64 = MAX_SIZE as i64;
 
-/// Returns the least valid number for the key. This is 1, or 0 for the queue of a pool that may
-/// reject jobs: such a queue can be a `SynchronousQueue`.
+/// Returns the least valid number for the key. The number is 0 for the queue of a pool that may
+/// reject jobs, because such a queue can be a `SynchronousQueue`. Otherwise it is 1.
 fn least(entry: &PlacedEntry<'_>, key: &str) -> u64 {
     if key == "queue" && entry.is_set("may_reject") {
         0
@@ -25,7 +25,7 @@ fn is_in_range(least: u64, number: i64) -> bool {
     number >= 0 && number <= MOST && number.unsigned_abs() >= least
 }
 
-/// Reports the numbers at these keys that are out of range. Returns whether there are any.
+/// Reports the numbers at these keys that are out of range. Returns whether there are such numbers.
 fn out_of_range(
     collector: &mut FaultCollector,
     entry: &PlacedEntry<'_>,
@@ -62,8 +62,9 @@ fn report_number(
     entry.report_with_range(collector, BAD_NUMBER, place, &words, Some(range))
 }
 
-/// Reports the sizes of a pool that are out of range. If there are none, reports the maximum if it
-/// is less than the core size. The maximum `unbounded` is out of range if the queue has a capacity.
+/// Reports the sizes of a pool that are out of range. The maximum `unbounded` is out of range if
+/// the queue has a capacity. If no number is out of range, but the maximum is less than the core
+/// size, reports the maximum.
 pub(crate) fn sizes(
     collector: &mut FaultCollector,
     pool: &PlacedEntry<'_>,
@@ -98,7 +99,8 @@ fn unbounded_max(collector: &mut FaultCollector, pool: &PlacedEntry<'_>) -> Resu
     pool.report_with_range(collector, BAD_NUMBER, place, &words, Some(range))
 }
 
-/// Returns the least valid maximum of the pool: its core size, or 1 if it has no valid core size.
+/// Returns the least valid maximum of the pool. This is its core size, or 1 if the pool has no
+/// valid core size.
 fn least_max(pool: &PlacedEntry<'_>) -> u64 {
     match pool.number("core") {
         Some(core) if is_in_range(1, core) => core.unsigned_abs(),

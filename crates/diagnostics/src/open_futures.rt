@@ -5,16 +5,16 @@ ghost use Rattle.diagnostics.specs.OpenFutures as spec;
 
 use job_bodies::Action;
 
-/// Returns whether a future is open at this position of the body: a job was submitted before the
-/// position, and the get of this job comes after the position.
+/// Returns whether a future is open at this position of the body. A future is open if a job was
+/// submitted before the position, and the get of this job comes after the position.
 pub fn has_open_future(body: &[Action], position: usize) -> bool
     ensures { result ≡ spec.has_open_future body.now position }
 {
     body.iter().enumerate().any(|(number, action)| is_get_around(position, number, *action))
 }
 
-/// Returns whether the action with this number is a get after the position, and the submit that the
-/// get names is before the position.
+/// Returns whether `action` is a get after the position, and the submit that this get names is
+/// before the position. `number` is the position of `action`.
 pub(crate) fn is_get_around(position: usize, number: usize, action: Action) -> bool
     ensures { result ≡ spec.is_get_around position number action }
 {

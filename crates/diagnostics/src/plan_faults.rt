@@ -16,13 +16,13 @@ use plan_text::{Places, TextPlace};
 use std::alloc::{AllocError, Global};
 use toml::Table;
 
-/// Returns the faults of a plan's text that the parser rejects with `fault`: first `fault`, and
-/// then the other faults that can be found. The result has at most 100 faults, `fault` included,
+/// Returns the faults of a plan's text that the plan parser rejects with `fault`. The first is
+/// `fault`, and the others are those that further checks find. The result has at most 100 faults,
 /// and the number of further faults. Each message is a single line.
 ///
 /// # Errors
 ///
-/// [`AllocError`] if memory runs out.
+/// Returns [`AllocError`] if memory runs out.
 pub fn faults_of(alloc: Global, text: &[u8], fault: PlanFault) -> Result<Faults, AllocError>
     ensures first { IfOk result (λ faults. faults.first.fault ≡ fault) }
     ensures single_lines { IfOk result (λ faults. HaveSingleLines faults) }
@@ -40,9 +40,9 @@ pub fn faults_of(alloc: Global, text: &[u8], fault: PlanFault) -> Result<Faults,
     })
 }
 
-/// Returns the diagnostic for the fault that the parser reports. If the checks did not find this
-/// fault, the message is the rule that the plan violates, and the place is the beginning of the
-/// text.
+/// Returns the diagnostic for the fault that the plan parser reports. `found` is the diagnostic of
+/// the checks for this fault. If `found` is `None`, the message is the rule that the plan violates,
+/// and the place is the beginning of the text.
 fn first_of(
     alloc: Global,
     fault: PlanFault,
@@ -57,7 +57,7 @@ fn first_of(
     }
 }
 
-/// Returns copies of these diagnostics in which each message is a single line.
+/// Returns copies of these diagnostics, with each message turned into a single line.
 fn in_single_lines(alloc: Global, found: &[Diagnostic]) -> Result<Vec<Diagnostic>, AllocError>
     ensures single_lines { IfOk result (λ others. All HasSingleLine others.items) }
     ensures each { IfOk result (λ others. length others.items ≡ length found.now) }
@@ -89,8 +89,8 @@ fn in_single_line(
     })
 }
 
-/// Returns the faults that the checks find: those of the plan, or a single fault if the text is not
-/// valid UTF-8 or not TOML.
+/// Returns the faults that the checks find in the plan. If the text is not valid UTF-8 or not TOML,
+/// this is the only fault.
 fn all_faults(
     alloc: Global,
     bytes: &[u8],
@@ -127,8 +127,12 @@ fn check_table(
     document(collector, table, &places)
 }
 
-/// Reports the error of the TOML parser. If the error has no place, it means that memory ran out,
-/// and [`AllocError`] is returned.
+/// Reports the error of the TOML parser.
+///
+/// # Errors
+///
+/// Returns [`AllocError`] if memory runs out. An error without a place also means that memory ran
+/// out.
 fn check_error(
     collector: &mut FaultCollector,
     text: &str,

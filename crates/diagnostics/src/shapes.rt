@@ -20,12 +20,12 @@ enum ValueKind {
     Body,
 }
 
-/// The rule for a key of an entry: the type of its value, and whether the key is required.
+/// The rule for a key of an entry: the type of its value, and a hint for a missing key.
 #[derive(Clone, Copy)]
 struct KeyRule {
     key: &'static str,
     wanted: ValueKind,
-    /// The hint for a missing key. It is empty if the key is optional.
+    /// The hint that is shown if the key is missing. If the key is optional, the hint is empty.
     hint: &'static str,
 }
 
@@ -35,8 +35,8 @@ const CLASS_KEYS: [&str; 3] = ["name", "pool", "body"];
 
 const CLIENT_KEYS: [&str; 4] = ["name", "count", "repeat", "body"];
 
-/// Returns the keys that an entry of this kind can have, or the keys at the top level for
-/// `Part::Text`.
+/// Returns the keys that an entry of this kind can have. For `Part::Text`, returns the keys that
+/// the plan's text can have at the top level.
 pub(crate) fn keys_of(part: Part) -> &'static [&'static str] {
     match part {
         Part::Text => &["pool", "class", "client"],
@@ -79,8 +79,8 @@ fn key_rule(key: &'static str) -> Option<KeyRule> {
     Some(KeyRule { key, wanted, hint })
 }
 
-/// Returns the key of a plan that means the same as this key of Java or of another configuration
-/// format, or `None` if there is none.
+/// Returns the key of a plan with the same meaning as `key`, which is a key of Java or of another
+/// configuration format. Returns `None` if there is no such key of a plan.
 fn plan_key_for(key: &str) -> Option<&'static str> {
     match key {
         "corePoolSize" | "corepoolsize" | "core_pool_size" | "threads" | "size" => Some("core"),
@@ -127,7 +127,8 @@ fn unknown_key(
     entry.report(collector, UNKNOWN_KEY, entry.key_place(key), &words)
 }
 
-/// Returns the end of the message for an unknown key of an entry of this kind.
+/// Returns the end of the message for a key that an entry of this kind cannot have. The end
+/// suggests another key.
 fn key_suggestion(alloc: Global, part: Part, key: &str) -> Result<String, AllocError> {
     match plan_key_for(key) {
         Some(name) if has_key(part, name) => format!(in alloc; "; use {name}"),
@@ -141,7 +142,8 @@ fn similar_key(alloc: Global, key: &str, keys: &[&str]) -> Result<String, AllocE
     suggestion(alloc, key, keys, &otherwise)
 }
 
-/// Reports the required keys that the entry lacks, and its values of the wrong type.
+/// Reports the required keys that the entry does not have, and the values of the entry that have
+/// the wrong type.
 pub(crate) fn values(
     collector: &mut FaultCollector,
     entry: &PlacedEntry<'_>,
@@ -185,7 +187,7 @@ fn missing_key(
     entry.report(collector, MISSING_KEY, entry.place(), &words)
 }
 
-/// Reports a value whose type is not that of the rule.
+/// Reports a value if its type is not the type that the rule requires.
 fn wrong_type(
     collector: &mut FaultCollector,
     entry: &PlacedEntry<'_>,
@@ -220,7 +222,8 @@ fn rule_of(wanted: ValueKind) -> &'static str {
     }
 }
 
-/// Reports a body that is not an array, is too long, or has elements that are not strings.
+/// Reports a body that is not an array or is too long, and the elements of a body that are not
+/// strings.
 fn body(
     collector: &mut FaultCollector,
     entry: &PlacedEntry<'_>,
@@ -244,7 +247,7 @@ fn body(
     Ok(())
 }
 
-/// Reports an element of a body that has the type `found` and is not a string.
+/// Reports an element of a body that is not a string. `found` is the type of the element.
 fn wrong_element(
     collector: &mut FaultCollector,
     entry: &PlacedEntry<'_>,

@@ -3,9 +3,11 @@
 use crate::syntax::line_of;
 use plan_text::TextPlace;
 
-/// Returns the string at this place of the text, without its quotes. Returns `None` if no string is
-/// there, or if it is empty, has a backslash, or does not end in its line. Also returns `None` if
-/// the text is not valid UTF-8.
+/// Returns the string at this place of the text, without its quotes. Returns `None` if
+///
+/// - there is no string at this place,
+/// - the string is empty, has a backslash, or does not end in its line, or
+/// - the text is not valid UTF-8.
 pub(crate) fn string_at(text: &[u8], place: TextPlace) -> Option<&str> {
     let text = std::str::from_utf8(text).ok()?;
     let rest = after_column(line_of(text, place), place.column);
@@ -15,8 +17,8 @@ pub(crate) fn string_at(text: &[u8], place: TextPlace) -> Option<&str> {
     }
 }
 
-/// Returns the part of a line that begins at this column, which is counted in characters, from 1.
-/// The part is empty if the line is shorter.
+/// Returns the part of a line that begins at this column. Columns are counted in characters, from
+/// 1. The part is empty if the line has fewer characters.
 pub(crate) fn after_column(line: &str, column: usize) -> &str {
     let mut letters = line.chars();
     for _ in 1..column {

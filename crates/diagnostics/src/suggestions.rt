@@ -4,10 +4,13 @@ use std::alloc::{AllocError, Global};
 use strsim::osa_distance;
 
 /// Returns a word that is similar to `written`, or `None` if there is none. A word is similar if it
-/// starts with `written` and `written` has at least 3 bytes, or if its edit distance from `written`
-/// is at most 1 or a third of the length of `written`. Prefers the first word that starts with
-/// `written` or has the distance 1, and otherwise the word with the least distance. Skips a word
-/// that equals `written`.
+/// differs from `written` and one of these conditions holds:
+///
+/// - The word starts with `written`, and `written` has at least 3 bytes.
+/// - The edit distance of the two is at most a third of the length of `written`, or at most 1.
+///
+/// Returns the first similar word that starts with `written` or has the distance 1. If there is
+/// none, returns a word with the least distance.
 pub(crate) fn nearest<'w>(
     alloc: Global,
     written: &str,
@@ -31,8 +34,8 @@ pub(crate) fn nearest<'w>(
     Ok(best)
 }
 
-/// Returns a suggestion, such as `; did you mean rows?`, or `otherwise` if no word is similar to
-/// `written`.
+/// Returns a suggestion of a word that is similar to `written`, such as `; did you mean rows?`.
+/// Returns `otherwise` if no word is similar to `written`.
 pub(crate) fn suggestion(
     alloc: Global,
     written: &str,
@@ -45,7 +48,7 @@ pub(crate) fn suggestion(
     }
 }
 
-/// Returns the first 12 words, separated by commas. `, ..` follows if there are more.
+/// Returns the first 12 words, separated by commas. If there are more than 12, `, ..` follows.
 pub(crate) fn comma_list(alloc: Global, words: &[&str]) -> Result<String, AllocError> {
     let mut list = String::new(alloc);
     for (number, word) in words.iter().copied().enumerate() {

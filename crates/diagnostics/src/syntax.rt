@@ -10,7 +10,8 @@ use plan_text::{TextPlace, place_at};
 use std::alloc::{AllocError, Global};
 use support::number::NOT_TOML;
 
-/// Returns the fault of bytes that are not UTF-8. The first `valid` bytes are valid UTF-8.
+/// Returns the fault of a file that is not valid UTF-8. `bytes` is the content of the file, and
+/// `valid` is the number of valid bytes before the first invalid one.
 pub(crate) fn not_text(
     alloc: Global,
     bytes: &[u8],
@@ -30,8 +31,8 @@ pub(crate) fn not_text(
     })
 }
 
-/// Returns the fault of a text that is not TOML. The parser found the error at byte `offset`, and
-/// `words` is its message.
+/// Returns the fault of a text that is not TOML. `offset` is the byte at which the TOML parser
+/// found the error, and `words` is the message of the parser.
 pub(crate) fn not_toml(
     alloc: Global,
     text: &str,
@@ -48,8 +49,9 @@ pub(crate) fn not_toml(
     })
 }
 
-/// Returns the message for the error at byte `offset`, whose place is `place`: the parser's message
-/// `words`, preceded by a hint if the mistake is a common one.
+/// Returns the message for a syntax error. This is the parser's message `words`, preceded by a hint
+/// if the mistake is a common one. The error is at byte `offset`, and `place` is the line and
+/// column of this byte.
 fn message_at(
     alloc: Global,
     text: &str,
@@ -74,8 +76,10 @@ fn with_hint(alloc: Global, hint: &str, words: &str) -> Result<String, AllocErro
     format!(in alloc; "{hint} ({words})")
 }
 
-/// Returns a hint if the line begins a text of another kind, which only line 1 can, or if
-/// [`character_hint`] has one. `number` is the number of the line.
+/// Returns a hint for an error in this line, or `None`. `number` is the number of the line.
+///
+/// - If line 1 shows that the text is not a plan, the hint says what kind of text it is.
+/// - Otherwise the hint is the result of [`character_hint`].
 fn format_hint(line: &str, number: usize) -> Option<&'static str> {
     if number == 1
         && let Some(hint) = kind_hint(line)
@@ -98,8 +102,8 @@ fn value_hint_at(text: &str, offset: usize, place: TextPlace, line: &str) -> Opt
     }
 }
 
-/// Returns whether a list is open at byte `offset` of the text. `place` is the line and the column
-/// of that byte.
+/// Returns whether a list is open at byte `offset` of the text. `place` is the line and column of
+/// this byte.
 fn is_in_list(text: &str, offset: usize, place: TextPlace) -> bool {
     match text.as_bytes().get(..offset) {
         Some(before) => match std::str::from_utf8(before) {
@@ -110,8 +114,8 @@ fn is_in_list(text: &str, offset: usize, place: TextPlace) -> bool {
     }
 }
 
-/// Returns a hint for an error in a list, if an action without quotes or a semicolon is there.
-/// `rest` is the rest of the line, from the error on.
+/// Returns a hint for an error in a list, if there is an action without quotes or a semicolon at
+/// the error. `rest` is the part of the line that begins at the error.
 fn list_hint(rest: &str) -> Option<&'static str> {
     if begins_with_action(rest) {
         Some("write quotes around each action, as in body = [\"work 5\"]")
@@ -126,8 +130,8 @@ fn begins_with_action(rest: &str) -> bool {
     rest.starts_with("work ") || rest.starts_with("submit ") || rest.starts_with("get ")
 }
 
-/// Returns a hint if the rest of a line after a value is a semicolon, with or without a comment
-/// after it.
+/// Returns a hint if `rest` is a semicolon, which only a comment may follow. `rest` is the part of
+/// a line that begins at the error, after a value.
 fn end_hint(rest: &str) -> Option<&'static str> {
     let after = rest.strip_prefix(';')?;
     if after.split('#').next().unwrap_or("").trim().is_empty() {
@@ -137,7 +141,7 @@ fn end_hint(rest: &str) -> Option<&'static str> {
     }
 }
 
-/// Returns the line of this place, or an empty line if the text has fewer lines.
+/// Returns the line in which this place is. Returns an empty line if the text has fewer lines.
 pub(crate) fn line_of(text: &str, place: TextPlace) -> &str {
     let mut number = 1usize;
     for line in text.lines() {
@@ -149,8 +153,8 @@ pub(crate) fn line_of(text: &str, place: TextPlace) -> &str {
     ""
 }
 
-/// Returns a hint if the line begins with `//`, is the separator `%%`, has curly double quotes, or
-/// has an odd number of plain double quotes.
+/// Returns a hint if the line has a common mistake: it begins with `//`, is the separator `%%`, has
+/// curly double quotes, or has an odd number of plain double quotes.
 fn character_hint(line: &str) -> Option<&'static str> {
     let line = line.trim();
     if line.starts_with("//") {
@@ -171,8 +175,8 @@ fn character_hint(line: &str) -> Option<&'static str> {
     None
 }
 
-/// Returns a hint for the header of an entry, for a semicolon after a value, or for a value that is
-/// not TOML. Returns `None` if the mistake is not a known one.
+/// Returns a hint for one of these mistakes, or `None`: a wrong header of an entry, a semicolon at
+/// the end of the line, or a value that is not TOML.
 fn entry_hint(line: &str) -> Option<&'static str> {
     if let Some(hint) = bracket_hint(line) {
         return Some(hint);
@@ -183,8 +187,9 @@ fn entry_hint(line: &str) -> Option<&'static str> {
     value_hint(line)
 }
 
-/// Returns a hint if the line is the header of an entry. A header is a fault if it has one pair of
-/// brackets, or if an earlier line defines its list in another way.
+/// Returns a hint if the line is the header of an entry, such as `[pool]` or `[[pool]]`. A header
+/// with one pair of brackets is a fault. A header with two pairs is a fault if an earlier line
+/// defines its list in another way.
 fn bracket_hint(line: &str) -> Option<&'static str> {
     match line.split('#').next().unwrap_or("").trim() {
         "[pool]" | "[class]" | "[client]" => {
@@ -209,8 +214,9 @@ fn value_hint(line: &str) -> Option<&'static str> {
     }
 }
 
-/// Returns whether the value looks like a word without quotes: ASCII letters, digits, `_` and `-`,
-/// with at least one letter, but not `true` or `false`. Ignores a comment after the value.
+/// Returns whether the value looks like a word without quotes. Such a word has only ASCII letters,
+/// digits, `_` and `-`, has at least one letter, and is not `true` or `false`. Ignores a comment
+/// after the value.
 fn is_word(value: &str) -> bool {
     let word = value.split('#').next().unwrap_or("").trim();
     word.bytes().any(|byte| byte.is_ascii_alphabetic())

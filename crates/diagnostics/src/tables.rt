@@ -12,7 +12,7 @@ use std::alloc::{AllocError, Global};
 use support::number::{NO_SUCH_POOL, UNKNOWN_KEY, WRONG_TYPE};
 use toml::{Table, Value};
 
-/// The entries of a document, without those that are not tables.
+/// The entries of a plan's lists. Entries that are not tables are left out.
 #[derive(Drop)]
 struct Lists<'a> {
     pools: Vec<PlacedEntry<'a>>,
@@ -20,7 +20,7 @@ struct Lists<'a> {
     clients: Vec<PlacedEntry<'a>>,
 }
 
-/// Reports the faults of a document.
+/// Reports the faults of a plan's text, which the TOML parser has turned into `document`.
 pub(crate) fn document(
     collector: &mut FaultCollector,
     document: &Table,
@@ -43,14 +43,17 @@ fn unknown_lists(
     Ok(())
 }
 
-/// Reports invalid sizes and counts, classes whose pool does not exist, and the faults of bodies.
+/// Reports invalid sizes and counts, classes whose pool does not exist, and the faults in bodies.
 fn faults_of_lists(collector: &mut FaultCollector, lists: &Lists<'_>) -> Result<(), AllocError> {
     numbers_and_pools(collector, lists)?;
     all_bodies(collector, lists)
 }
 
-/// Returns the entries of the three lists that are tables. Reports lists that are not arrays,
-/// entries that are not tables, and the faults of the entries' keys and names.
+/// Returns those entries of the three lists that are tables. Reports
+///
+/// - lists that are not arrays,
+/// - entries that are not tables, and
+/// - the faults in the keys and names of the tables.
 fn lists_of<'a>(
     collector: &mut FaultCollector,
     document: &'a Table,
@@ -152,9 +155,12 @@ fn list_suggestion(alloc: Global, key: &str) -> Result<String, AllocError> {
     }
 }
 
-/// Returns the entries of a list that are tables. Reports a list that is not an array, entries that
-/// are not tables, and the faults of the entries' keys and names. The result is empty if the
-/// document has no such list.
+/// Returns those entries of a list that are tables. The result is empty if the document has no such
+/// list. Reports
+///
+/// - a list that is not an array,
+/// - entries that are not tables, and
+/// - the faults in the keys and names of the tables.
 fn entries<'a>(
     collector: &mut FaultCollector,
     document: &'a Table,
@@ -172,8 +178,8 @@ fn entries<'a>(
     Ok(found)
 }
 
-/// Appends the entries of a list that are tables. Reports the other entries, and the faults of the
-/// keys and names of the tables.
+/// Appends those entries of a list that are tables. Reports the other entries, and the faults in
+/// the keys and names of the tables.
 fn push_entries<'a>(
     collector: &mut FaultCollector,
     found: &mut Vec<PlacedEntry<'a>>,
@@ -209,7 +215,8 @@ fn no_list(
     })
 }
 
-/// Reports the faults of an entry's keys and name. `before` has the earlier entries of the list.
+/// Reports the faults in the keys and the name of an entry. `before` has the earlier entries of the
+/// same list.
 fn shape_and_name(
     collector: &mut FaultCollector,
     entry: &PlacedEntry<'_>,
@@ -220,7 +227,7 @@ fn shape_and_name(
     names::name(collector, entry, before)
 }
 
-/// Returns the entry. If the value is not a table, reports this and returns `None`.
+/// Returns the value as an entry. If the value is not a table, reports it and returns `None`.
 fn entry_of<'a>(
     collector: &mut FaultCollector,
     part: Part,
@@ -297,8 +304,8 @@ fn unknown_pool(alloc: Global, pool: &str, pools: &[&str]) -> Result<String, All
     format!(in alloc; "unknown pool {pool}{right}")
 }
 
-/// Returns the end of the message for an unknown pool: a list of the plan's pools, or what to add
-/// if the plan has none.
+/// Returns the end of the message for an unknown pool: a list of the plan's pools. If the plan has
+/// no pools, the end says what to add.
 fn known_pools(alloc: Global, pools: &[&str]) -> Result<String, AllocError> {
     if pools.is_empty() {
         let words = "; the plan has no pools: add a [[pool]] with this name";

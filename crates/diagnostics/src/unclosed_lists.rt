@@ -1,18 +1,19 @@
 //! Lists that are not closed.
 
-/// The list that is open at the end of a line, if there is one.
+/// The list that is open at the end of a line, if there is one. A list is open if its last `]` has
+/// not been reached.
 #[derive(Clone, Copy)]
 struct OpenList {
     /// The line at which the list begins.
     start: usize,
-    /// The number of open brackets. It is 0 outside of a list.
+    /// The number of open brackets. This number is 0 if no list is open.
     depth: usize,
 }
 
-/// Returns the line at which the first list without a `]` begins. Such a list ends at the next
-/// header or key, or at the end of the text. The line of the end is part of the list. Returns
-/// `None` if there is no such list, or if it does not contain the line `error`, at which the parser
-/// found an error.
+/// Returns the line at which the first list without a `]` begins. `error` is the line at which the
+/// parser found an error. Returns `None` if there is no such list, or if the line `error` is not
+/// one of its lines. The last line of such a list is the next line with a header or a key, or the
+/// end of the text.
 pub(crate) fn unclosed_list(text: &str, error: usize) -> Option<usize> {
     let mut open = OpenList { start: 0, depth: 0 };
     let mut number = 0usize;
@@ -26,8 +27,8 @@ pub(crate) fn unclosed_list(text: &str, error: usize) -> Option<usize> {
     start_of(open, error, number.saturating_add(1))
 }
 
-/// Returns the line at which the list begins, if the list is open and the line `error` is one of
-/// the lines from there to the line `end`, which is included. Otherwise returns `None`.
+/// Returns the line at which the list `open` begins. Returns `None` if no list is open, or if the
+/// line `error` is not between this line and the line `end`. Both of these lines count.
 fn start_of(open: OpenList, error: usize, end: usize) -> Option<usize> {
     if open.depth > 0 && (open.start..=end).contains(&error) {
         Some(open.start)
@@ -36,8 +37,9 @@ fn start_of(open: OpenList, error: usize, end: usize) -> Option<usize> {
     }
 }
 
-/// Returns whether the line begins with `[[`, or with a key without quotes and an equals sign. No
-/// list of a plan has such a line, so a list that is open before this line has no `]`.
+/// Returns whether the line begins with `[[`, or with a key without quotes and an equals sign. In a
+/// plan, no line inside a list begins in this way. So if a list is open before the line, its `]` is
+/// missing.
 fn begins_entry(line: &str) -> bool {
     let line = line.trim();
     if line.starts_with("[[") {
@@ -56,8 +58,9 @@ fn is_key(key: &str) -> bool {
             .all(|byte| byte.is_ascii_alphanumeric() || byte == b'_')
 }
 
-/// Returns the list that is open after this line. `open` is the list that is open before it. A new
-/// list can begin only after an equals sign that is not in a comment.
+/// Returns the list that is open after this line. `open` is the list that is open before this line,
+/// if there is one. A new list can begin only after an equals sign that is not in a comment.
+/// `number` is the number of the line.
 fn after_line(open: OpenList, number: usize, line: &str) -> OpenList {
     if open.depth > 0 {
         return OpenList {
@@ -74,8 +77,8 @@ fn after_line(open: OpenList, number: usize, line: &str) -> OpenList {
     }
 }
 
-/// Returns the number of open brackets after this part of a line, if `before` brackets are open
-/// before it. Brackets in strings and comments do not count.
+/// Returns the number of open brackets after this part of a line. `before` is the number of open
+/// brackets before this part. Brackets in strings and comments do not count.
 fn depth_after(before: usize, part: &str) -> usize {
     let mut depth = before;
     let mut quote = None;

@@ -11,12 +11,12 @@ use plan_text::TextPlace;
 use std::alloc::AllocError;
 
 /// Appends a line for each warning, such as `shop.toml:3:1: warning: pool web: may_reject has no
-/// effect: its queue is
-/// unbounded`, with `file` as the file's name. The line of a note has `note` in place of `warning`.
+/// effect: its queue is unbounded`. `file` is the name of the plan's file. The line of a note has
+/// `note` in place of `warning`.
 ///
 /// # Errors
 ///
-/// [`AllocError`] if memory runs out.
+/// Returns [`AllocError`] if memory runs out.
 pub fn push_warnings(
     text: &mut String,
     file: &str,

@@ -6,8 +6,8 @@ use crate::lint_conditions::may_grow;
 use job_bodies::{Part, Plan};
 use plan_text::{Places, TextPlace};
 
-/// Returns the place in the plan's text to which the lint refers. It is the beginning of the text
-/// for a lint of the whole plan, or if no other place is found.
+/// Returns the place in the plan's text to which the lint refers. For a lint of the whole plan, or
+/// if no place is found, this is the beginning of the text.
 pub(crate) fn place_of(places: &Places<'_>, plan: &Plan, lint: Lint) -> TextPlace {
     match lint {
         Lint::NothingToAsk | Lint::NoClients | Lint::NothingSubmitted | Lint::StaleCertificate =>
@@ -33,8 +33,8 @@ pub(crate) fn place_of(places: &Places<'_>, plan: &Plan, lint: Lint) -> TextPlac
     }
 }
 
-/// Returns the place of the first maximum that is above the core size of its pool, or the beginning
-/// of the text if there is none.
+/// Returns the place of the first maximum that is above the core size of its pool, in a pool with a
+/// bounded queue. Returns the beginning of the text if there is none.
 fn first_max_place(places: &Places<'_>, plan: &Plan) -> TextPlace {
     match plan.pools().iter().position(|pool| may_grow(pool)) {
         Some(pool) => value_place(places, Part::Pool, pool, "max"),

@@ -12,9 +12,9 @@ use job_bodies::{Action, Part, Plan, Pool};
 use plan_text::TextPlace;
 use std::alloc::{AllocError, Global};
 
-/// Returns the lint's message: what was found in the plan, and what it means for the answer. The
-/// message can be empty if the plan does not have the pool, class or client kind that the lint
-/// names. `place` is the lint's place in the plan's text.
+/// Returns the lint's message: what was found in the plan, and what this means for the answer. If
+/// the plan does not have the pool, class or client kind that the lint names, the message can be
+/// empty. `place` is the lint's place in the plan's text.
 pub(crate) fn words_of(
     alloc: Global,
     text: &[u8],
@@ -72,8 +72,8 @@ fn words_of_core(alloc: Global, plan: &Plan) -> Result<String, AllocError> {
     Ok(words)
 }
 
-/// Appends the name and the maximum of each pool whose maximum is above its core size. `count` is
-/// the number of these pools.
+/// Appends the name and the maximum of each pool that has a bounded queue and a maximum above its
+/// core size. `count` is the number of these pools.
 fn push_maxes(words: &mut String, plan: &Plan, count: usize) -> Result<(), AllocError> {
     let mut number = 0usize;
     for pool in plan.pools() {
@@ -118,7 +118,7 @@ fn words_of_submit(
 }
 
 /// Returns the word `client` or `class`, and the name and the body of the client kind or class with
-/// this number. Returns `None` if there is none.
+/// this number. Returns `None` if there is no such client kind or class.
 fn entry_of(plan: &Plan, part: Part, number: usize) -> Option<(&'static str, &str, &[Action])> {
     match part {
         Part::Client => {
@@ -168,8 +168,9 @@ fn words_of_growth(
     )
 }
 
-/// Returns the name of the class of the first job whose future is open at this position of the
-/// body, or an empty name if no future is open.
+/// Returns the name of the class of the job whose future is open at this position of the body. If
+/// several futures are open, takes the job whose get comes first. Returns an empty name if no
+/// future is open.
 fn open_class<'a>(plan: &'a Plan, body: &[Action], position: usize) -> &'a str {
     for (number, action) in body.iter().enumerate() {
         if let Action::Get(submit) = *action {
@@ -181,8 +182,9 @@ fn open_class<'a>(plan: &'a Plan, body: &[Action], position: usize) -> &'a str {
     ""
 }
 
-/// Returns the text of a submit, as it is written at this place of the plan's text. If no string is
-/// at this place, returns the text of a submit of the action's class without `as`.
+/// Returns the text of a submit as it is written at this place of the plan's text. If there is no
+/// string at this place, returns the text of a submit without `as` of the class that the action
+/// submits.
 fn submit_text(
     alloc: Global,
     text: &[u8],
@@ -198,8 +200,8 @@ fn submit_text(
     format!(in alloc; "submit {class}")
 }
 
-/// Returns the name of the class that the action submits, or an empty name if the action is no
-/// submit.
+/// Returns the name of the class that the action submits. Returns an empty name if the action is
+/// not a submit.
 fn submitted_name<'a>(plan: &'a Plan, body: &[Action], action: usize) -> &'a str {
     match body.get(action) {
         Some(Action::Submit(class)) => plan.class_name(*class),
@@ -207,8 +209,8 @@ fn submitted_name<'a>(plan: &'a Plan, body: &[Action], action: usize) -> &'a str
     }
 }
 
-/// Returns the name of the pool to which the action submits, or an empty name if the action is no
-/// submit.
+/// Returns the name of the pool to which the action submits a job. Returns an empty name if the
+/// action is not a submit.
 fn pool_submitted_to<'a>(plan: &'a Plan, body: &[Action], action: usize) -> &'a str {
     match body.get(action) {
         Some(Action::Submit(class)) => pool_of_class(plan, *class),
@@ -216,8 +218,8 @@ fn pool_submitted_to<'a>(plan: &'a Plan, body: &[Action], action: usize) -> &'a 
     }
 }
 
-/// Returns the name of the pool that runs the jobs of this class, or an empty name if there is no
-/// such class.
+/// Returns the name of the pool that runs the jobs of this class. Returns an empty name if there is
+/// no such class.
 fn pool_of_class(plan: &Plan, class: usize) -> &str {
     match plan.class_at(class) {
         Some(class) => plan.pool_name(class.pool),

@@ -21,23 +21,28 @@ use std::alloc::{AllocError, Global};
 pub struct Warning {
     /// The lint that the plan has.
     pub lint: Lint,
-    /// The place in the plan's text.
+    /// The place in the plan's text to which the lint refers.
     pub place: TextPlace,
     /// A message that says what was found in the plan, and what it means for the answer.
     pub what: String,
 }
 
-/// Returns a warning for each lint of the plan, in order. `text` is the plan's text. `needed` has,
-/// for each pool, the maximum number of jobs in its queue at once, or `None` if this number is not
-/// known. `is_safe_at_core` says that a certificate accepts the plan that [`at_core`] returns. Each
-/// message is a single line, and the plan has each circle of submits that a message lists. The
-/// contract promises nothing else about places and messages.
+/// Returns a warning for each lint of the plan, in order. A lint is a part of a valid plan that is
+/// probably a mistake.
+///
+/// - `text` is the plan's text.
+/// - `needed` has, for each pool, the maximum number of jobs in its queue at once, or `None` if
+///   this number is not known.
+/// - `is_safe_at_core` says that a certificate accepts the plan that [`at_core`] returns.
+///
+/// Each message is a single line. If a message lists submits by which a class submits itself, the
+/// plan has these submits. The contract promises nothing else about places and messages.
 ///
 /// [`at_core`]: crate::at_core
 ///
 /// # Errors
 ///
-/// [`AllocError`] if memory runs out.
+/// Returns [`AllocError`] if memory runs out.
 pub fn warnings_of(
     alloc: Global,
     text: &[u8],
@@ -55,7 +60,7 @@ pub fn warnings_of(
     warnings_about(alloc, text, &places, plan, &lints)
 }
 
-/// Returns a warning for each of these lints, with its place and its message.
+/// Returns a warning for each of these lints: the lint with its place and its message.
 fn warnings_about(
     alloc: Global,
     text: &[u8],
