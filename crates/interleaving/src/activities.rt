@@ -10,7 +10,7 @@ use crate::plans::pool_of;
 use crate::{Phase, World};
 use job_bodies::{MAX_POOLS, Plan};
 
-/// The activity of a set of jobs in one pool.
+/// The activity of a set of jobs in one pool. The jobs of the set are its members.
 #[derive(Clone, Copy)]
 pub(crate) struct PoolActivity {
     /// Whether a member waits in the pool's queue.
@@ -20,8 +20,13 @@ pub(crate) struct PoolActivity {
 }
 
 impl PoolActivity {
-    /// Returns the activity after a member in this phase is added. A done member changes nothing.
-    /// If `is_new` is `false`, the member was added before, and `at_work` does not change.
+    /// Returns the activity after one more member of the set is counted. `phase` is the phase of
+    /// this member.
+    ///
+    /// - A queued member sets `queued`.
+    /// - A running member adds 1 to `at_work`, unless `is_new` is `false` because it was counted
+    ///   before.
+    /// - A done member changes nothing.
     fn with(self, phase: Phase, is_new: bool) -> PoolActivity
         requires { self.at_work + 1 < 2 ^ 64 }
         ensures { result ≡ activity_with self phase is_new }
@@ -43,8 +48,9 @@ impl PoolActivity {
 impl World {
     ghost use Rattle.interleaving.specs.OfPlan.{IsReachableView};
 
-    /// Returns the activity of the members in each pool, by pool number. A member that occurs more
-    /// than once in the list counts once, and numbers without a live job do not count.
+    /// Returns, for each pool number, the activity of the members in this pool. A member that
+    /// occurs more than once in the list counts once. A number of a job that is not live does not
+    /// count.
     pub(crate) fn activities(&self, plan: &Plan, members: &Members<'_>) -> [PoolActivity; MAX_POOLS]
         requires of_plan { IsReachableView plan.now self.now.view }
         requires well_formed { IsWellFormed plan.now }

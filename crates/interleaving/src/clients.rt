@@ -18,7 +18,7 @@ use written_machine::{ClientState, Parent};
 /// The states of all clients of a world.
 ///
 /// Stores only the clients that have moved. Every other client is at the start of its body, and its
-/// number determines its client kind.
+/// client kind follows from its number.
 #[derive(Drop)]
 pub struct Clients {
     // For each client kind, the number of clients of this kind and of all kinds before it.
@@ -66,8 +66,8 @@ impl Clients {
         }
     }
 
-    /// Reserves memory for the first move of the actor, if the actor is a client at the start of
-    /// its body. `position` is the actor's current position.
+    /// Reserves memory for the first move of the actor. Does nothing unless the actor is a client
+    /// at the start of its body. `position` is the current position of the actor.
     ///
     /// # Errors
     ///

@@ -15,9 +15,11 @@ impl World {
     ghost use Rattle.interleaving.specs.Answers.{MatchesResult};
     ghost use Rattle.interleaving.specs.OfPlan.{IsAtWork, MadeByOther};
 
-    /// Performs the step of an actor at the end of its body. A job finishes. A client whose kind
-    /// repeats starts its body again. A client whose kind does not repeat has no step, and the
-    /// result is `None`.
+    /// Performs the step of an actor at the end of its body, and returns the outcome.
+    ///
+    /// - A job finishes.
+    /// - A client whose kind repeats starts its body again.
+    /// - A client whose kind does not repeat cannot take a step. The result is `None`.
     pub(crate) fn end(&mut self, plan: &Plan, actor: Parent) -> Option<Outcome>
         requires at_work { IsAtWork plan.now self.old.view actor }
         requires asks { may_get_in self.old.view.jobs actor ≡ true }

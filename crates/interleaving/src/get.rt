@@ -12,8 +12,8 @@ use written_machine::{Outcome, Parent};
 impl World {
     ghost use Rattle.interleaving.specs.Answers.{MatchesResult};
 
-    /// Gets the latest job that the actor created by the submit at position `submit`, and moves the
-    /// actor to its next position. If there is no such live job, or if it is not done, changes
+    /// Performs a get: the actor gets the latest live job that it created by the submit at position
+    /// `submit`, and moves to its next position. If there is no such job or it is not done, changes
     /// nothing and returns `None`. `position` is the actor's current position, which must not be 0.
     pub(crate) fn get(&mut self, actor: Parent, position: usize, submit: usize) -> Option<Outcome>
         requires stands { IsClientAt self.old.view.clients actor position }

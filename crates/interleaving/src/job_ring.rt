@@ -16,13 +16,13 @@ use std::marker::Model;
 // is too long, and its first job moves into the map.
 const SPARE_NUMBERS: usize = 16;
 
-/// A sequence with an entry for each job ever created, by number. The entry of a job that is no
-/// longer live is a gap.
+/// A sequence with an entry for each job that was ever created, in the order of the job numbers.
+/// The entry of a job that is no longer live is a gap.
 ///
 /// The entries with numbers from `base` up are in a ring buffer, in which a look-up is an index
 /// operation. The ring never begins with a gap. If the ring is too long for the number of live
-/// jobs, its first job moves into a map, and the gaps after this job are removed. So a long-lived
-/// job does not keep the gaps after it in memory.
+/// jobs, its first job moves into a map. The gaps after this job are then removed. So a job that
+/// stays live for long does not keep these gaps in memory.
 #[derive(Drop)]
 pub(crate) struct JobRing {
     // The number of the first entry of `recent`.
@@ -105,7 +105,7 @@ impl JobRing {
         }
     }
 
-    /// Clears the entry of the job with this number, and returns whether it was occupied.
+    /// Removes the data of the job with this number, and returns whether the job was live.
     pub(crate) fn free(&mut self, number: usize) -> bool
         ensures value { result ≡ is_some (place_at self.old.items number) }
         ensures items { self.new.items ≡ slice_set self.old.items number None }
@@ -121,7 +121,7 @@ impl JobRing {
     }
 
     /// Reserves memory for one more job. `live` is the number of live jobs. If the ring is too long
-    /// for that number, moves the first job of the ring into the map.
+    /// for this number of live jobs, moves the first job of the ring into the map.
     ///
     /// # Errors
     ///
@@ -163,7 +163,8 @@ impl JobRing {
         Ok(())
     }
 
-    /// Appends an entry for a new job. Memory must have been reserved.
+    /// Appends the entry `place` of a new job. [`reserve`](JobRing::reserve) must have reserved
+    /// memory for it.
     pub(crate) fn push(&mut self, place: JobEntry)
         requires { 0 < self.old.room }
         ensures items { self.new.items ≡ self.old.items ++ Some place ∷ [] }

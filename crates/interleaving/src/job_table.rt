@@ -18,8 +18,8 @@ pub(crate) struct JobEntry {
 
 /// A map from job numbers to the data of the live jobs.
 ///
-/// A new job reuses the place of a job that is no longer live. The number of places is therefore
-/// the greatest number of jobs that were live at the same time.
+/// The data of a job occupies a place. A new job reuses the place of a job that is no longer live.
+/// The number of places is therefore the greatest number of jobs that were live at the same time.
 #[derive(Drop)]
 pub(crate) struct JobTable {
     kept: JobRing,
@@ -128,7 +128,8 @@ impl JobTable {
         self.kept.reserve(self.live)
     }
 
-    /// Adds a new job, in a free place if there is one. Memory must have been reserved.
+    /// Adds a new job, in a free place if there is one. [`reserve`](JobTable::reserve) must have
+    /// reserved memory.
     pub(crate) fn push(&mut self, place: JobEntry)
         requires { 0 < self.old.room }
         ensures items { self.new.items ≡ self.old.items ++ Some place ∷ [] }

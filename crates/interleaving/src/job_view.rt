@@ -11,8 +11,8 @@ use written_machine::Parent;
 pub enum Phase {
     /// The job waits in its pool's queue.
     Queued,
-    /// A worker runs the job, which is at this position of its body. At the end of the body, the
-    /// position is the body's length.
+    /// A worker runs the job. The field is the position of the job in its body. At the end of the
+    /// body, the position is the body's length.
     At(usize),
     /// The job is done, and its parent may still get it.
     Done,
@@ -37,16 +37,16 @@ impl JobView {
         matches!(self.phase, Phase::Done)
     }
 
-    /// Returns `true` if the actor created the job by the submit at this position of its body.
+    /// Returns `true` if this actor created the job by the submit at position `submit` of its body.
     pub fn is_child_of(self, actor: Parent, submit: usize) -> bool
         ensures { result ≡ is_live_child actor submit (Some self) }
     {
         actor == self.parent && submit == self.slot
     }
 
-    /// Updates this job when the actor creates another job by the submit at this position. If this
-    /// job is done and the same submit created it, it is no longer live, and the result is `None`.
-    /// Otherwise returns this job unchanged.
+    /// Returns what becomes of this live job when the actor creates another job by the submit at
+    /// position `submit`. If this job is done and the same actor created it by the same submit, it
+    /// is no longer live, and the result is `None`. Otherwise the result is this job, unchanged.
     pub fn drop_if_stale(self, actor: Parent, submit: usize) -> Option<JobView>
         ensures { result ≡ drop_if_stale actor submit (Some self) }
     {
@@ -57,8 +57,9 @@ impl JobView {
         }
     }
 
-    /// Updates this job when job `parent` finishes. If this job is done and `parent` created it, it
-    /// is no longer live, and the result is `None`. Otherwise returns this job unchanged.
+    /// Returns what becomes of this live job when the job `parent` finishes. If this job is done
+    /// and the job `parent` created it, this job is no longer live, and the result is `None`.
+    /// Otherwise the result is this job, unchanged.
     pub fn drop_if_orphan(self, parent: usize) -> Option<JobView>
         ensures { result ≡ drop_if_orphan parent (Some self) }
     {

@@ -10,7 +10,9 @@ use std::alloc::{AllocError, Global};
 use std::marker::Model;
 use written_machine::Parent;
 
-/// A map from submit calls to job numbers. A call's entry is the latest job that the call created.
+/// A map from submit calls to job numbers. A submit call consists of an actor and the position of a
+/// submit in its body. The map has the number of the latest job that the actor created by this
+/// submit.
 #[derive(Drop)]
 pub(crate) struct LatestJobs {
     of_clients: SubmitMap,
@@ -36,8 +38,8 @@ impl LatestJobs {
         }
     }
 
-    /// Returns the number of the latest job that the actor created by the submit at this position,
-    /// or `None` if the map has no entry for this submit.
+    /// Returns the number of the latest job that the actor created by the submit at position
+    /// `submit`. Returns `None` if the map has no entry for this submit.
     #[inline(always)]
     pub(crate) fn get(&self, actor: Parent, submit: usize) -> Option<usize>
         ensures { result ≡ found self.now actor submit }
@@ -49,6 +51,9 @@ impl LatestJobs {
     }
 
     /// Reserves memory for one more job of the actor, which [`set`](LatestJobs::set) then records.
+    ///
+    /// # Errors
+    ///
     /// Returns `AllocError` if there is not enough memory.
     #[inline(always)]
     pub(crate) fn reserve_for(&mut self, actor: Parent) -> Result<(), AllocError>
@@ -61,8 +66,8 @@ impl LatestJobs {
         }
     }
 
-    /// Records the job with this number as the latest job that the actor created by the submit at
-    /// this position. Memory must have been reserved.
+    /// Records the job `number` as the latest job that the actor created by the submit at position
+    /// `submit`. [`reserve_for`](LatestJobs::reserve_for) must have reserved memory.
     #[inline(always)]
     pub(crate) fn set(&mut self, actor: Parent, submit: usize, number: usize)
         requires { 0 < latest_room self.old actor }
@@ -76,7 +81,7 @@ impl LatestJobs {
         }
     }
 
-    /// Removes the entry for the actor and the submit at this position, if there is one.
+    /// Removes the entry for the submit of the actor at position `submit`, if there is one.
     #[inline(always)]
     pub(crate) fn remove(&mut self, actor: Parent, submit: usize)
         ensures found { (a : Parent) (t : ℕ)

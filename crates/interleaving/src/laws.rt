@@ -4,34 +4,41 @@
 
 ghost use Rattle.interleaving.specs.Laws.{StartIsSeen, StepsCommute, UnfinishedJobsAreLive, WaitingSetsAreSeen, DeadJobsStayDead};
 
-/// Proves that the live view of the initial state has no jobs and no refusals. Each prestarted pool
-/// has `core` idle workers, each other pool has no threads, and each client is at the start of its
-/// body.
+/// States what the live view of the initial state is. The live view of a state has its pools, its
+/// clients, its live jobs and its number of refusals. In the live view of the initial state,
+///
+/// - there are no jobs and no refusals,
+/// - each prestarted pool has `core` idle workers, and each other pool has no threads, and
+/// - each client is at the start of its body.
 pub fn start_is_seen()
     ensures { StartIsSeen }
 {}
 
-/// Proves that a live view determines all later events. In every reachable state of a well-formed
-/// plan, an event is possible in the live view exactly when it is possible in the state. If the
-/// event is possible, both have the same outcome, and the next view is the live view of the next
-/// state.
+/// States that the live view of a state determines all later events. The live view has all clients
+/// and pools, but only the jobs that are unfinished or that a get may still return. In every
+/// reachable state of a well-formed plan,
+///
+/// - an event is possible in the live view exactly when it is possible in the state, and
+/// - a possible event has the same outcome in both, and leads from the live view to the live view
+///   of the next state.
 pub fn steps_commute()
     ensures { StepsCommute }
 {}
 
-/// Proves that a state and its live view have the same number of unfinished jobs.
+/// States that a state and its live view have the same number of unfinished jobs.
 pub fn unfinished_jobs_are_live()
     ensures { UnfinishedJobsAreLive }
 {}
 
-/// Proves that a live view determines the waiting sets. In every reachable state of a well-formed
-/// plan, a set of job numbers is a waiting set of the live view exactly when it is a waiting set of
-/// the state.
+/// States that a live view determines the waiting sets. A waiting set is a non-empty set of jobs
+/// that wait only for each other. In every reachable state of a well-formed plan, the live view and
+/// the state have the same waiting sets.
 pub fn waiting_sets_are_seen()
     ensures { WaitingSetsAreSeen }
 {}
 
-/// Proves that no event in a reachable state of a well-formed plan makes a job live again.
+/// States that no event in a reachable state of a well-formed plan makes a job live again that is
+/// no longer live.
 pub fn dead_jobs_stay_dead()
     ensures { DeadJobsStayDead }
 {}

@@ -13,8 +13,9 @@ use std::alloc::{AllocError, Global};
 use std::marker::Model;
 use written_machine::Parent;
 
-/// The live jobs of a world, and an index from submits to the latest live jobs that they created.
-/// The index has the submits of the actors that may still get jobs: clients and unfinished jobs.
+/// The live jobs of a world, and an index of them. The index has, for each submit of an actor, the
+/// latest live job that the actor created by this submit. It covers clients and unfinished jobs,
+/// which are the actors that may still get jobs.
 #[derive(Drop)]
 pub struct LiveJobs {
     kept: JobTable,
@@ -77,9 +78,9 @@ impl LiveJobs {
         self.unfinished
     }
 
-    /// Returns the number of the latest live job that the actor created by the submit at this
-    /// position of its body, or `None` if there is none. The actor must be a client or an
-    /// unfinished job.
+    /// Returns the number of the latest live job that the actor created by the submit at position
+    /// `submit` of its body. Returns `None` if there is no such job. The actor must be a client or
+    /// an unfinished job.
     pub fn latest(&self, actor: Parent, submit: usize) -> Option<usize>
         requires { may_get_in self.now.jobs actor ≡ true }
         ensures { result ≡ live_child self.now.jobs actor submit }
@@ -88,7 +89,7 @@ impl LiveJobs {
     }
 
     /// Moves the unfinished job with this number to this position of its body. If the job was
-    /// queued, it is then running.
+    /// queued, it runs afterwards.
     pub fn go_to(&mut self, number: usize, position: usize)
         requires { may_get_in self.old.jobs (Job number) ≡ true }
         ensures jobs { self.new.jobs ≡ with_phase number (At position) self.old.jobs }
@@ -98,8 +99,8 @@ impl LiveJobs {
         self.kept.set_phase(number, Phase::At(position));
     }
 
-    /// Removes a done job when its parent gets it. `job` is the live job with this number. It must
-    /// be the only live job of its submit.
+    /// Removes a done job when its parent gets it. `number` is the number of this job, and `job` is
+    /// its data. No other live job may come from the same submit of the parent.
     pub fn remove(&mut self, number: usize, job: JobView)
         requires live { live_job self.old.jobs number ≡ Some job }
         requires done { is_done job.phase ≡ true }
@@ -127,9 +128,9 @@ impl LiveJobs {
         self.kept.reserve()
     }
 
-    /// Adds a new job. If the job with number `latest` is a done job of the same submit, removes
-    /// that job. No other job of this submit may be done. [`LiveJobs::reserve_for`] must have
-    /// reserved memory.
+    /// Adds a new job. If the job `latest` is done and comes from the same submit of the same
+    /// actor, removes the job `latest`. No other job of this submit may be done.
+    /// [`LiveJobs::reserve_for`] must have reserved memory.
     pub fn create(&mut self, latest: Option<usize>, job: JobView)
         requires room { 0 < room_for self.old.room job.parent }
         requires parent { WasMade self.old.jobs job.parent }
@@ -151,9 +152,10 @@ impl LiveJobs {
         self.unfinished += usize::from(!job.is_done());
     }
 
-    /// Finishes the job with this number. `job` is that job before it finishes. The job stays live
-    /// only if its parent may still get it and it is the latest job of its submit. Removes the done
-    /// jobs that this job created, since no actor can get them any more.
+    /// Finishes the job with this number. `job` is the data of this job before it finishes. The
+    /// finished job stays live only if its parent may still get it and it is the latest job of its
+    /// submit. Removes the done jobs that the finished job created, because no actor can get them
+    /// any more.
     pub fn finish(&mut self, number: usize, job: JobView)
         requires live { live_job self.old.jobs number ≡ Some job }
         requires going { is_done job.phase ≡ false }

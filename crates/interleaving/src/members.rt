@@ -6,7 +6,7 @@ ghost use Rattle.written_machine.specs.Waiting.{is_member};
 use std::marker::Model;
 
 /// A set of job numbers, given as a list that may contain duplicates. If the list is sorted, a
-/// look-up is a binary search.
+/// look-up is a binary search, and otherwise a scan.
 #[derive(Drop)]
 pub(crate) struct Members<'a> {
     numbers: &'a [usize],
@@ -51,7 +51,7 @@ impl<'a> Members<'a> {
         }
     }
 
-    /// Returns `true` if the number at this index does not occur at a lower index.
+    /// Returns `true` if the number at index `place` of the list does not occur at a lower index.
     pub(crate) fn is_first(&self, place: usize) -> bool
         requires { place < length self.now }
         ensures { result ≡ not (is_member (take place self.now) (slice_index self.now place)) }

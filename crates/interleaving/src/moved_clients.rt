@@ -12,8 +12,9 @@ use written_machine::ClientState;
 
 /// A map from client numbers to the states of the clients that have moved.
 ///
-/// The vector `front` has the clients that made their first moves in the order of their numbers,
-/// starting with client 0. All other clients that have moved are in the map `others`.
+/// The vector `front` has the states of the clients from 0 up to some number. These clients made
+/// their first moves in the order of their numbers. The map `others` has the states of all other
+/// clients that have moved.
 #[derive(Drop)]
 pub(crate) struct MovedClients {
     front: Vec<ClientState>,
@@ -51,8 +52,11 @@ impl MovedClients {
         }
     }
 
-    /// Reserves memory for the first move of one more client. Returns `AllocError` if there is not
-    /// enough memory.
+    /// Reserves memory for the first move of one more client.
+    ///
+    /// # Errors
+    ///
+    /// Returns `AllocError` if there is not enough memory.
     pub(crate) fn reserve(&mut self) -> Result<(), AllocError>
         ensures stay { (q : ℕ) → moved_at self.new q ≡ moved_at self.old q }
         ensures room { OnOk result (0 < self.new.room) }
@@ -61,8 +65,8 @@ impl MovedClients {
         self.others.reserve(1)
     }
 
-    /// If the client with this number has moved before, moves it to this position of its body and
-    /// returns `true`. Otherwise returns `false`.
+    /// Moves the client with this number to this position of its body and returns `true`, if the
+    /// client has moved before. Otherwise changes nothing and returns `false`.
     pub(crate) fn move_again(&mut self, number: usize, position: usize) -> bool
         ensures is_among { result ≡ is_some (moved_at self.old number) }
         ensures moves { (q : ℕ)
@@ -78,7 +82,8 @@ impl MovedClients {
         move_again(&mut self.others, number, position)
     }
 
-    /// Records the first move of the client with this number. Memory must have been reserved.
+    /// Records the first move of the client with this number, which leads to the state `client`.
+    /// [`reserve`](MovedClients::reserve) must have reserved memory.
     pub(crate) fn move_first(&mut self, number: usize, client: ClientState)
         requires room { 0 < self.old.room }
         requires stood { is_some (moved_at self.old number) ≡ false }

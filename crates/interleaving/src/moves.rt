@@ -8,8 +8,8 @@ ghost use Rattle.interleaving.specs.ViewStep.{may_get_in, moved_live_jobs, moved
 use crate::{Clients, LiveJobs};
 use written_machine::Parent;
 
-/// Moves the actor, which is a client or an unfinished job, to this position of its body. For the
-/// first move of a client, `Clients::reserve_for` must have reserved memory.
+/// Moves the actor to this position of its body. The actor must be a client or an unfinished job.
+/// For the first move of a client, [`Clients::reserve_for`] must have reserved memory.
 pub(crate) fn move_actor(jobs: &mut LiveJobs, clients: &mut Clients, actor: Parent, position: usize)
     requires asks { may_get_in jobs.old.jobs actor ≡ true }
     requires room { CanMove clients.old actor }

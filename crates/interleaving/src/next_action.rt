@@ -13,8 +13,8 @@ use crate::{Phase, World};
 use job_bodies::{Action, Plan, has_get_of};
 use written_machine::Parent;
 
-/// The position of an actor in its body, and the action there. At the end of the body there is no
-/// action.
+/// The position of an actor in its body, and the action at this position. At the end of the body
+/// there is no action.
 #[derive(Clone, Copy)]
 pub(crate) struct NextAction {
     pub(crate) position: usize,
@@ -40,8 +40,8 @@ impl NextAction {
 impl World {
     ghost use Rattle.interleaving.specs.NextAction.{next_action_at};
 
-    /// Returns the position and the next action of the actor. Returns `None` if there is no such
-    /// actor, or if it is a job that is not running.
+    /// Returns the position of the actor in its body, and the action at this position. Returns
+    /// `None` if there is no such actor, or if the actor is a job that is not running.
     pub(crate) fn next_action(&self, plan: &Plan, actor: Parent) -> Option<NextAction>
         ensures value { result ≡ option_map next_action_at (point_in plan.now self.now.view actor) }
         ensures can_advance { IfSome result

@@ -11,8 +11,12 @@ use pool_machine::PoolState;
 use std::alloc::{AllocError, Global};
 use written_machine::Outcome;
 
-/// Creates the pools in their initial state: with an empty queue, and with `core` idle workers if
-/// the pool is prestarted.
+/// Creates the pools in their initial state. Each pool has an empty queue. A prestarted pool has
+/// `core` idle workers, and any other pool has no threads.
+///
+/// # Errors
+///
+/// Returns `AllocError` if memory runs out.
 pub(crate) fn new_pools(alloc: Global, pools: &[Pool]) -> Result<Vec<PoolState>, AllocError>
     requires { All (λ pool. IsTrue (has_valid_sizes pool)) pools.now }
     ensures { IfOk result (λ new. new.items ≡ map new_pool pools.now) }
@@ -28,8 +32,8 @@ impl World {
     ghost use Rattle.interleaving.specs.Answers.{MatchesResult};
     ghost use Rattle.interleaving.specs.OfPlan.{IsReachableView};
 
-    /// Lets an idle worker of the pool take the head of the queue. Returns `None` if there is no
-    /// such pool, no idle worker or no queued job.
+    /// Lets an idle worker of the pool take the head of the queue, and returns the outcome. Returns
+    /// `None` if there is no such pool, no idle worker or no queued job.
     pub(crate) fn take(&mut self, plan: &Plan, pool: usize) -> Option<Outcome>
         requires pools { length self.old.view.pools ≡ length plan.now.pools }
         requires of_plan { IsReachableView plan.now self.old.view }
@@ -46,8 +50,8 @@ impl World {
         Some(Outcome::Took(number))
     }
 
-    /// Ends an idle worker of the pool. Returns `None` if there is no such pool or no idle worker,
-    /// or if the pool has no more than `core` threads.
+    /// Ends an idle worker of the pool, and returns the outcome. Returns `None` if there is no such
+    /// pool or [`PoolState::retire`] ends no worker.
     pub(crate) fn retire(&mut self, plan: &Plan, pool: usize) -> Option<Outcome>
         requires { length self.old.view.pools ≡ length plan.now.pools }
         ensures value { MatchesResult (retire_worker_in self.old.view pool (retired (pool_in self.old.view pool)))

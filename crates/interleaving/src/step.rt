@@ -24,14 +24,17 @@ impl World {
     /// Performs the event and returns its outcome. If the event is not possible, changes nothing
     /// and returns `None`.
     ///
-    /// An event belongs to one actor or one pool. An actor performs its next action. At the end of
-    /// its body, a job finishes, and a client whose kind repeats starts again. In a pool, an idle
-    /// worker takes the head of the queue, or an idle worker ends.
+    /// An event belongs to one actor or one pool:
+    ///
+    /// - A client or a running job performs the next action of its body. At the end of its body, a
+    ///   job finishes, and a client starts its body again if its kind repeats.
+    /// - An idle worker of a pool takes the job at the head of the queue, or ends.
     ///
     /// # Errors
     ///
     /// Returns `AllocError` if there is not enough memory for a submit or for a client's first
-    /// action, or if the number of jobs or of refusals would overflow. The world is then unchanged.
+    /// action. Also returns it if the number of jobs or of refusals would overflow. The world is
+    /// then unchanged.
     pub fn step(&mut self, plan: &Plan, event: Event) -> Result<Option<Outcome>, AllocError>
         requires { IsReachableView plan.now self.old.view }
 

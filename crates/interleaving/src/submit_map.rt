@@ -9,17 +9,18 @@ use std::alloc::{AllocError, Global};
 use std::collections::HashMap;
 use std::marker::Model;
 
-/// A submit call: the number of an actor, and the position of the submit in its body.
+/// A submit call: the number of an actor, and the position of a submit in the actor's body.
 pub(crate) type SubmitKey = (usize, usize);
 
 // The length of the table. It is a power of two, so that the index of a call needs no division.
 const TABLE_LEN: usize = 4096;
 
-/// A map from submit calls to job numbers.
+/// A map from submit calls to job numbers. A submit call consists of the number of an actor and the
+/// position of a submit in its body.
 ///
-/// The index of a call in `table` is the actor's number modulo the length of `table`. If another
-/// call occupies the entry at this index when a call is recorded, the call is stored in `others`. A
-/// look-up reads `table` first.
+/// The vector `table` has a place for the call of an actor at the index that is the actor's number
+/// modulo the length of `table`. If another call occupies this place when a call is recorded, the
+/// new call is stored in the map `others`. A look-up reads `table` first.
 #[derive(Drop)]
 pub(crate) struct SubmitMap {
     // The entries of the table, of which there are none before the first call of `reserve`.
@@ -47,7 +48,7 @@ impl SubmitMap {
         }
     }
 
-    /// Returns the number of the job that the call created, or `None` if the map does not contain
+    /// Returns the job number that the map has for this call, or `None` if the map does not contain
     /// the call.
     #[inline(always)]
     pub(crate) fn get(&self, call: SubmitKey) -> Option<usize>
@@ -66,8 +67,11 @@ impl SubmitMap {
         get_other(&self.others, call)
     }
 
-    /// Reserves memory for one more call, which [`set`](SubmitMap::set) then records. Returns
-    /// `AllocError` if there is not enough memory.
+    /// Reserves memory for one more call, which [`set`](SubmitMap::set) then records.
+    ///
+    /// # Errors
+    ///
+    /// Returns `AllocError` if there is not enough memory.
     #[inline(always)]
     pub(crate) fn reserve(&mut self) -> Result<(), AllocError>
         ensures numbers { (q : ℕ × ℕ) → number_at self.new q ≡ number_at self.old q }
@@ -79,8 +83,8 @@ impl SubmitMap {
         self.others.reserve(1)
     }
 
-    /// Records the number of the job that the call created, in place of the call's earlier number.
-    /// Memory must have been reserved.
+    /// Records the number of the job that the call created. Replaces the earlier number of this
+    /// call, if there is one. [`reserve`](SubmitMap::reserve) must have reserved memory.
     #[inline(always)]
     pub(crate) fn set(&mut self, call: SubmitKey, number: usize)
         requires { 0 < self.old.room }

@@ -19,9 +19,12 @@ use std::marker::Model;
 ///
 /// A job is live while it is queued or running, and while it is done and its parent may still get
 /// it. A new job reuses the place of a job that is no longer live, and a client occupies no memory
-/// before its first step. The memory therefore depends on the numbers of pools, client kinds and
-/// clients that have moved, and on the greatest number of jobs that were live at the same time. It
-/// does not depend on the sizes in the plan.
+/// before its first step. So the memory depends only on
+///
+/// - the numbers of pools, of client kinds and of clients that have moved, and
+/// - the greatest number of jobs that were live at the same time.
+///
+/// It does not depend on the sizes in the plan.
 #[derive(Drop)]
 pub struct World {
     pub(crate) jobs: LiveJobs,
@@ -42,9 +45,9 @@ impl World {
     ghost use Rattle.interleaving.specs.OfPlan.{IsReachableView};
     ghost use Rattle.interleaving.specs.World.{live_jobs};
 
-    /// Creates the plan's world before its first event. It has no jobs. Each prestarted pool has
-    /// `core` idle workers, each other pool has no threads, and each client is at the start of its
-    /// body.
+    /// Creates the world of the plan before the first event. The world has no jobs. Each prestarted
+    /// pool has `core` idle workers, each other pool has no threads, and each client is at the
+    /// start of its body.
     ///
     /// # Errors
     ///
@@ -64,8 +67,8 @@ impl World {
         })
     }
 
-    /// Returns the number of refused submits. A submit that a pool rejects as the plan allows is
-    /// not counted.
+    /// Returns the number of refused submits. Does not count a submit that a pool rejects as the
+    /// plan allows.
     pub fn refusals(&self) -> u64
         ensures { result ≡ self.now.view.refusals }
     {
@@ -91,8 +94,8 @@ impl World {
 
     /// Returns the number of places for live jobs, both occupied and free.
     ///
-    /// A step increases this number by at most 1, and only if it creates a job while each place
-    /// holds a live job. The number never decreases.
+    /// This number never decreases. A step increases it by at most 1, and only if the step creates
+    /// a job while each place holds a live job.
     pub fn places(&self) -> usize
         ensures value { result ≡ self.now.places }
         ensures enough { live_jobs self.now.view ≤ result }
@@ -108,7 +111,7 @@ impl World {
         &self.pools[pool]
     }
 
-    /// Returns the position, in its body, of the client with this number, or `None` if there is no
+    /// Returns the position of the client with this number in its body, or `None` if there is no
     /// such client.
     pub fn client(&self, client: usize) -> Option<usize>
         ensures { result
