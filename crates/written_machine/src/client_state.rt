@@ -1,6 +1,6 @@
 //! The state of a client.
 
-/// The state of a client: its client kind, and its position in the body of the kind.
+/// The state of a client: the number of its client kind, and its position in the body of this kind.
 #[derive(Clone, Copy, PartialEq, Eq)]
 pub struct ClientState {
     pub kind: usize,

@@ -3,11 +3,11 @@
 /// An event of the machine of a plan.
 #[derive(Clone, Copy, Debug, PartialEq, Eq)]
 pub enum Event {
-    /// The client with this number performs its next action. Clients are numbered from 0, by client
-    /// kind in plan order: a client kind with count `n` has `n` consecutive numbers.
+    /// The client with this number performs its next action. Clients are numbered from 0: first the
+    /// clients of the plan's first client kind, then those of its second client kind, and so on.
     Client(usize),
-    /// The job with this number performs its next action. Jobs are numbered from 0 in the order in
-    /// which they were created.
+    /// The job with this number performs its next action. Jobs are numbered from 0 in the order of
+    /// their creation.
     Job(usize),
     /// An idle worker of the pool with this index takes the head of the pool's queue.
     Take(usize),
@@ -23,11 +23,11 @@ pub enum Outcome {
     Started(usize),
     /// A submit created the job with this number, and the job was appended to its pool's queue.
     Queued(usize),
-    /// The pool with this index refused the job of a submit. No job was created.
+    /// The pool with this index refused the job of a submit, so no job was created.
     Refused(usize),
-    /// The pool with the first index was full and rejected the job of a submit, as the plan allows.
-    /// The submit is skipped together with its get: a job with the second number was created, and
-    /// is done.
+    /// A pool was full and rejected the job of a submit, as the plan allows. The submit and its get
+    /// are skipped: the job was created, but is already done. The fields are the index of the pool
+    /// and the number of the job.
     Rejected(usize, usize),
     /// The actor performed this number of units of work.
     Worked(u32),
@@ -37,7 +37,7 @@ pub enum Outcome {
     Looped,
     /// The job with this number finished.
     Finished(usize),
-    /// An idle worker took the job with this number from the queue, and begins to run it.
+    /// An idle worker took the job with this number from the queue, and begins to run this job.
     Took(usize),
     /// An idle worker of the pool ended.
     Retired,

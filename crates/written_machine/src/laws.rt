@@ -13,64 +13,78 @@ ghost use Rattle.written_machine.specs.Laws.{
   WaitingSetsAreLoose,
 };
 
-/// Proves that, in every reachable state of a well-formed plan, each pool has at most its maximum
-/// of threads. Unless its queue is unbounded, it has at most as many queued jobs as its capacity,
-/// or as idle workers if the capacity is 0.
+/// States that no pool exceeds its sizes in a reachable state of a well-formed plan:
+///
+/// - A pool has at most its maximum of threads.
+/// - A bounded queue has at most as many jobs as its capacity or, if the capacity is 0, as many as
+///   its pool has idle workers.
 pub fn pools_keep_their_sizes()
     ensures { PoolsKeepTheirSizes }
 {}
 
-/// Proves that, in every reachable state of a well-formed plan, a pool with a queued job has at
-/// least core threads. A pool queues a job only if it has at least core threads, and core threads
-/// never end.
+/// States that, in every reachable state of a well-formed plan, a pool with a queued job has at
+/// least core threads. The reason is that a pool queues a job only if it has at least core threads,
+/// and that core threads never end.
 pub fn queues_only_at_core()
     ensures { QueuesOnlyAtCore }
 {}
 
-/// Proves that, in every reachable state of a well-formed plan, an actor at a get has created the
-/// job for which it waits: the latest job that it created at the submit that the get names. That
-/// job has the class that the submit names, and no get has returned its result yet. If the actor is
-/// itself a job, its number is smaller than the number of that job.
+/// States that, in every reachable state of a well-formed plan, a client or job at a get has
+/// created the job for which it waits. This awaited job is the latest job that the client or job
+/// created at the submit that the get names. It has these properties:
+///
+/// - The awaited job has the class that the submit names.
+/// - No get has returned the result of the awaited job yet.
+/// - If a job waits for it, the number of the waiting job is smaller than the number of the awaited
+///   job.
 pub fn gets_have_children()
     ensures { GetsHaveChildren }
 {}
 
-/// Proves that the test for waiting sets accepts a list of jobs exactly when the list is a waiting
+/// States that the test for waiting sets is right. A waiting set is a non-empty set of jobs that
+/// wait only for each other. The test accepts a list of jobs exactly when the list is a waiting
 /// set.
 pub fn waiting_sets_are_tested()
     ensures { WaitingSetsAreTested }
 {}
 
-/// Proves that, in every reachable state of a well-formed plan, each waiting set is also a loose
-/// waiting set. In a loose waiting set, a running member need not be at a get yet: the set contains
-/// a job that the member created, and the body of the member has a get of a job of that class at
-/// the member's position or later.
+/// States that, in every reachable state of a well-formed plan, each waiting set is also a loose
+/// waiting set. A waiting set is a non-empty set of jobs that wait only for each other. In a loose
+/// waiting set, a running member need not be at a get yet. It is enough that
+///
+/// - the member created another member, and
+/// - the body of the member has, at its position or later, a get of a job of that other member's
+///   class.
 pub fn waiting_sets_are_loose()
     ensures { WaitingSetsAreLoose }
 {}
 
-/// Proves that a waiting set is permanent if each pool with a queued member has its maximum of
-/// threads: after any list of events it is still a waiting set, and its jobs are unchanged.
+/// States that a waiting set is permanent if each pool that has a member in its queue has its
+/// maximum of threads. A waiting set is a non-empty set of jobs that wait only for each other. In a
+/// well-formed plan, it is still such a set after any list of events, and its jobs are unchanged.
 pub fn full_waiting_sets_stay()
     ensures { FullWaitingSetsStay }
 {}
 
-/// Proves that, in every reachable state of a well-formed plan, each pool with a queued member of a
-/// waiting set has its maximum of threads. The assumption is that the core of each of these pools
-/// equals its maximum.
+/// States when the condition of [`full_waiting_sets_stay`] holds. Consider a waiting set in a
+/// reachable state of a well-formed plan, and the pools that have a member of it in their queues.
+/// If the core of each of these pools equals its maximum, then each of these pools has its maximum
+/// of threads.
 pub fn fixed_pools_are_full()
     ensures { FixedPoolsAreFull }
 {}
 
-/// Proves that, in every reachable state of a well-formed plan, the number of threads and queued
-/// jobs of a pool is at most the number of jobs that were created for it, plus its prestarted
-/// threads.
+/// States that the jobs that were created for a pool limit its threads and its queue. Let `n` be
+/// the number of these jobs plus the number of the pool's prestarted threads. In every reachable
+/// state of a well-formed plan, the pool's threads and queued jobs together are at most `n`.
 pub fn threads_have_jobs()
     ensures { ThreadsHaveJobs }
 {}
 
-/// Proves that when a pool refuses a job, the number of jobs that were created for the pool so far,
-/// plus its prestarted threads, is at least its queue capacity plus its maximum.
+/// States that a pool refuses a job only after enough jobs were created for it. Let `n` be the
+/// number of these jobs plus the number of the pool's prestarted threads. If an event in a
+/// reachable state of a well-formed plan is a refusal by the pool, then `n` is at least the pool's
+/// queue capacity plus its maximum.
 pub fn refusals_need_jobs()
     ensures { RefusalsNeedJobs }
 {}
