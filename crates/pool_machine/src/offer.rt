@@ -7,7 +7,7 @@ pub enum Offer {
     Started,
     /// The job is appended to the queue.
     Queued,
-    /// The queue is full and the pool has its maximum of threads, so the job is refused. Java's
-    /// `AbortPolicy` rejects it.
+    /// The queue is full and the pool has its maximum of threads, so the job is refused. In Java,
+    /// `AbortPolicy` rejects such a job.
     Refused,
 }

@@ -12,13 +12,12 @@ use std::alloc::{AllocError, Global};
 use std::collections::VecDeque;
 use std::marker::Model;
 
-/// A thread pool: its sizes, the number of its threads, how many of them are idle, and the
+/// A thread pool: its sizes, the number of its threads, the number of its idle threads, and the
 /// numbers of the jobs in its queue.
 ///
 /// A worker that finished a job is idle until it takes the head of the queue. So the queue can be
-/// full while workers are idle. The rules are those of Java's `ThreadPoolExecutor` with an
-/// `ArrayBlockingQueue`, with a `SynchronousQueue` if the capacity is 0, or with an unbounded
-/// queue.
+/// full while workers are idle. The rules are those of Java's `ThreadPoolExecutor`. Its queue is an
+/// `ArrayBlockingQueue`, a `SynchronousQueue` if the capacity is 0, or an unbounded queue.
 #[derive(Drop)]
 pub struct PoolState {
     core: u64,
@@ -57,11 +56,14 @@ impl Model for PoolState {
 }
 
 impl PoolState {
-    /// Creates a pool of these sizes with an empty queue. A prestarted pool has core idle workers.
-    /// Any other pool has no threads at first.
+    /// Creates a pool of these sizes with an empty queue. A prestarted pool has core idle workers
+    /// at first, and any other pool has no threads. Allocates no memory.
     ///
-    /// The sizes must be valid: core at least 1, the maximum at least core, and the queue capacity
-    /// at least 1, or 0 if the pool may reject jobs, each at most `MAX_SIZE`. Allocates no memory.
+    /// The sizes must be valid:
+    ///
+    /// - The core is at least 1, and the maximum is at least the core.
+    /// - The capacity of the queue is at least 1, or at least 0 if the pool may reject jobs.
+    /// - None of them is above `MAX_SIZE`.
     pub fn new(alloc: Global, pool: &Pool) -> PoolState
         requires { IsTrue (has_valid_sizes pool.now) }
         ensures { result ≡ new_pool pool.now }
@@ -78,15 +80,18 @@ impl PoolState {
         }
     }
 
-    /// Offers the job with this number to the pool, as Java's `execute` does. If the pool has fewer
-    /// than core threads, a new thread starts the job, even if workers are idle. Otherwise the job
-    /// is appended to the queue if there is room. An unbounded queue always has room. A queue of
-    /// capacity 0, as Java's `SynchronousQueue`, has room for one job for each idle worker. If
-    /// there is no room, a new thread starts the job if the pool has fewer threads than its
-    /// maximum. Otherwise the job is refused.
+    /// Offers the job with this number to the pool, as Java's `execute` does. The first of these
+    /// rules that applies decides what happens:
     ///
-    /// A new thread is busy with its job from the start. If the job is refused, the pool is
-    /// unchanged.
+    /// 1. If the pool has fewer than core threads, a new thread starts the job, even if workers are
+    ///    idle.
+    /// 2. If the queue has room, the job is appended to the queue. An unbounded queue always has
+    ///    room. A queue of capacity 0, like Java's `SynchronousQueue`, has room for one job for
+    ///    each idle worker.
+    /// 3. If the pool has fewer threads than its maximum, a new thread starts the job.
+    /// 4. Otherwise the job is refused, and the pool is unchanged.
+    ///
+    /// A new thread is busy with its job from the start.
     ///
     /// # Errors
     ///
@@ -141,7 +146,7 @@ impl PoolState {
         }
     }
 
-    /// Lets an idle worker take the head of the queue. Returns the number of that job.
+    /// Lets an idle worker take the job at the head of the queue. Returns the number of this job.
     ///
     /// Returns `None` if no worker is idle or the queue is empty. The pool is then unchanged.
     /// Allocates no memory.
@@ -158,8 +163,8 @@ impl PoolState {
         Some(job)
     }
 
-    /// Makes a busy worker idle because its job is done. At least one worker must be busy.
-    /// Allocates no memory.
+    /// Makes a busy worker idle, because the job of this worker is done. At least one worker must
+    /// be busy. Allocates no memory.
     pub fn finish(&mut self)
         requires { self.old.idle < self.old.threads }
         ensures { self.new ≡ finished self.old }
@@ -167,10 +172,13 @@ impl PoolState {
         self.idle += 1;
     }
 
-    /// Ends an idle worker if the pool has more than core threads, whether or not jobs are queued.
-    /// In a bounded queue of capacity 0, each job was handed to an idle worker, and these workers
-    /// do not end. Returns whether a worker ended. If none can end, the pool is unchanged.
-    /// Allocates no memory.
+    /// Ends an idle worker, whether or not jobs are queued, and returns `true`. Allocates no
+    /// memory. Returns `false` and leaves the pool unchanged if
+    ///
+    /// - no worker is idle,
+    /// - the pool has at most core threads, or
+    /// - the queue is bounded with capacity 0 and has a job for each idle worker. In such a queue,
+    ///   each job was handed to an idle worker, and a worker with a job does not end.
     pub fn retire(&mut self) -> bool
         ensures ended { OnTrue result (retired self.old ≡ Some self.new) }
         ensures nothing { OnFalse result (retired self.old ≡ None) }
@@ -193,23 +201,23 @@ impl PoolState {
         self.unbounded || 0 < self.capacity || (self.queue.len() as u64) < self.idle
     }
 
-    /// Returns the core pool size: 1 to the maximum. While the pool has fewer threads, each offered
-    /// job starts a new thread.
+    /// Returns the core size, which is from 1 to the maximum. While the pool has fewer than core
+    /// threads, each offered job starts a new thread.
     pub fn core(&self) -> u64
         ensures { result ≡ self.now.core }
     {
         self.core
     }
 
-    /// Returns the maximum number of threads: core to `MAX_SIZE`.
+    /// Returns the maximum number of threads, which is from the core size to `MAX_SIZE`.
     pub fn max(&self) -> u64
         ensures { result ≡ self.now.max }
     {
         self.max
     }
 
-    /// Returns the capacity of the queue: 0 to `MAX_SIZE`. It has no effect if the queue is
-    /// [unbounded](PoolState::is_unbounded).
+    /// Returns the capacity of the queue, which is from 0 to `MAX_SIZE`. The capacity has no effect
+    /// if the queue is [unbounded](PoolState::is_unbounded).
     pub fn capacity(&self) -> u64
         ensures { result ≡ self.now.capacity }
     {
@@ -223,7 +231,7 @@ impl PoolState {
         self.unbounded
     }
 
-    /// Returns the number of threads, busy and idle: 0 to the maximum.
+    /// Returns the number of threads, both busy and idle, which is from 0 to the maximum.
     pub fn threads(&self) -> u64
         ensures value { result ≡ self.now.threads }
         ensures sound { IsSound self.now }
@@ -231,7 +239,7 @@ impl PoolState {
         self.threads
     }
 
-    /// Returns the number of idle workers: 0 to the number of threads.
+    /// Returns the number of idle workers, which is from 0 to the number of threads.
     pub fn idle(&self) -> u64
         ensures value { result ≡ self.now.idle }
         ensures sound { IsSound self.now }
@@ -247,8 +255,8 @@ impl PoolState {
         self.threads - self.idle
     }
 
-    /// Returns the number of jobs in the queue. A bounded queue has at most its capacity of them,
-    /// or as many as workers are idle if its capacity is 0.
+    /// Returns the number of jobs in the queue. A bounded queue has at most as many jobs as its
+    /// capacity or, if the capacity is 0, as many as the pool has idle workers.
     pub fn queued(&self) -> usize
         ensures value { result ≡ length self.now.queue }
         ensures sound { IsSound self.now }
