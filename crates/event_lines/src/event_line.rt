@@ -10,7 +10,8 @@ use job_bodies::Plan;
 use line_words::{leading_number, split_line};
 use written_machine::Event;
 
-/// The content of an event line: an event, or a question about jobs.
+/// The content of an event line: an event, or the question whether some jobs wait only for each
+/// other.
 #[derive(Drop)]
 pub enum EventLine<'a> {
     /// The event to perform.
@@ -41,9 +42,9 @@ pub(crate) fn split_event_line<'a>(plan: &Plan, text: &'a [u8]) -> Option<(Event
     Some((parse_other_line(plan, line)?, behind))
 }
 
-/// Returns the text after the prefix `client `, or `None` if the text does not begin with it.
-/// Compares the prefix in two parts: a comparison of all seven bytes compiles to vector
-/// instructions, which cost twice as much.
+/// Returns the text after the prefix `client `, or `None` if the text does not begin with this
+/// prefix. Compares the prefix in two parts, because a comparison of all seven bytes compiles to
+/// vector instructions, which cost twice as much.
 #[inline(always)]
 fn strip_client(text: &[u8]) -> Option<&[u8]>
     ensures { MatchOption result ((rest : List ℕ) → text.now ≢ codes "client " ++ rest)
@@ -53,7 +54,7 @@ fn strip_client(text: &[u8]) -> Option<&[u8]>
 }
 
 /// Parses the first line of a text as a number. Returns the number and the text after the line, or
-/// `None` if the line is not a number.
+/// `None` if the line is not a number in the form that [`leading_number`] parses.
 fn split_number_line(text: &[u8]) -> Option<(usize, &[u8])>
     ensures { option_map (λ read. (read.0, read.1.now)) result ≡ split_number_line text.now }
 {
@@ -64,8 +65,8 @@ fn split_number_line(text: &[u8]) -> Option<(usize, &[u8])>
     Some((number, behind.strip_prefix(b"\n")?))
 }
 
-/// Parses a line that does not begin with `client ` or `job `. Returns `None` if the line is
-/// malformed.
+/// Parses a line that does not begin with `client ` or `job `. Returns the content of the line, or
+/// `None` if the line is malformed.
 fn parse_other_line<'a>(plan: &Plan, line: &'a [u8]) -> Option<EventLine<'a>>
     requires no_client { (number : List ℕ) → line.now ≢ codes "client " ++ number }
     requires no_job { (number : List ℕ) → line.now ≢ codes "job " ++ number }

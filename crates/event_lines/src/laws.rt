@@ -2,9 +2,9 @@
 
 ghost use Rattle.event_lines.specs.Laws.{EventLinesAreCanonical};
 
-/// Proves that each event line has exactly one spelling. For a well-formed plan, a text parses as a
-/// list of lines exactly when it is the canonical text of these lines. The newline after the last
-/// line may be missing.
+/// States that each event line has exactly one spelling. For a well-formed plan, a text parses as a
+/// list of lines exactly when the lines are valid and the text is their canonical text. The newline
+/// after the last line may be missing.
 pub fn event_lines_are_canonical()
     ensures { EventLinesAreCanonical }
 {}

@@ -8,8 +8,8 @@ use job_bodies::Plan;
 use line_words::split_line;
 use std::marker::Model;
 
-/// A parser of the event lines of a text. Each call of [`next`](EventLines::next) parses one line,
-/// so the parser allocates no memory.
+/// A parser of the event lines of a text. Each call of [`next`](EventLines::next) parses one line.
+/// The parser allocates no memory.
 #[derive(Drop)]
 pub struct EventLines<'a> {
     plan: &'a Plan,
@@ -30,10 +30,13 @@ impl<'a> Model for EventLines<'a> {
 }
 
 impl<'a> EventLines<'a> {
-    /// Creates a parser of the lines of a text. A well-formed line has the form `client N`, `job
-    /// N`, `take POOL`, `retire POOL` or `stuck N N ..`. A number is at most
-    /// [`MAX_LINE_NUMBER`](job_bodies::MAX_LINE_NUMBER) and has no leading zero. `POOL` is the name
-    /// of a pool of the plan. The newline after the last line may be missing.
+    /// Creates a parser of the lines of a text. A well-formed line has one of the forms `client N`,
+    /// `job N`, `take POOL`, `retire POOL` and `stuck N N ..`. The newline after the last line may
+    /// be missing.
+    ///
+    /// - `N` is a number of at most [`MAX_LINE_NUMBER`](job_bodies::MAX_LINE_NUMBER) without
+    ///   leading zeros. `stuck` needs at least one.
+    /// - `POOL` is the name of a pool of the plan.
     pub fn new(plan: &'a Plan, text: &'a [u8]) -> EventLines<'a>
         ensures lines { result ≡ lines_read plan.now text.now }
         ensures few { length result ≤ length text.now }
@@ -45,8 +48,8 @@ impl<'a> EventLines<'a> {
     ///
     /// # Errors
     ///
-    /// Returns [`BadEventLine`] if the line is malformed. The next call continues with the line
-    /// after it.
+    /// Returns [`BadEventLine`] if the line is malformed. The call after that parses the line that
+    /// follows the malformed one.
     #[inline(always)]
     pub fn next(&mut self) -> Option<Result<EventLine<'a>, BadEventLine>>
         ensures { MatchOption result ((self.old ≡ []) × (self.new ≡ []))

@@ -26,8 +26,9 @@ impl<'a> Model for NamedJobs<'a> {
 }
 
 impl<'a> NamedJobs<'a> {
-    /// Parses a text of one or more job numbers that are separated by single spaces. Returns `None`
-    /// if the text is empty or a word is not a number.
+    /// Parses a text of one or more job numbers with a single space between them. Returns `None`
+    /// for any other text. Also returns `None` if [`number_of`] does not accept a number, for
+    /// example because the number has a leading zero.
     pub(crate) fn read(words: &'a [u8]) -> Option<NamedJobs<'a>>
         ensures { result ≡ members_in words.now }
     {
@@ -40,7 +41,7 @@ impl<'a> NamedJobs<'a> {
         Some(NamedJobs { words })
     }
 
-    /// Returns the numbers as a vector.
+    /// Returns the job numbers in the order of the line.
     ///
     /// # Errors
     ///

@@ -20,9 +20,9 @@ pub enum Reply {
     Stuck(bool),
 }
 
-/// Appends the output line that replies to an input line, such as `7: queued job 2`,
-/// `7: not possible` or `7: stuck yes`. The output line begins with the number of the input line,
-/// counted from 1. The plan gives the names of the pools.
+/// Appends the output line that replies to an input line, such as `7: queued job 2`, `7: not
+/// possible` or `7: stuck yes`. The output line begins with `number`, the number of the input line,
+/// counted from 1. `plan` gives the names of the pools.
 ///
 /// # Errors
 ///
@@ -40,8 +40,8 @@ pub fn push_reply(
     text.push('\n')
 }
 
-/// Appends the part of an output line after its line number. This part begins with a colon. Most
-/// calls append several words at once, to keep the number of calls low.
+/// Appends the part of an output line that follows the line number: a colon, a space and the reply.
+/// Does not append the newline.
 fn push_reply_text(text: &mut String, plan: &Plan, reply: Reply) -> Result<(), AllocError>
     ensures { Pushes result text.old text.new (codes ": " ++ reply_text plan.now reply) }
 {
@@ -89,9 +89,9 @@ fn push_named(text: &mut String, words: &str, name: &str) -> Result<(), AllocErr
     text.push_str(name)
 }
 
-/// Appends the last line of a replay: the number of refused submits and the number of unfinished
-/// jobs, such as `refusals 0, unfinished 2`. If `rejected` is `Some`, the line also has this number
-/// of rejected submits, such as `refusals 0, rejected 3, unfinished 2`.
+/// Appends the last line of a replay, such as `refusals 0, unfinished 2`: the number of refused
+/// submits and the number of unfinished jobs. If `rejected` is `Some`, the line also has this
+/// number of rejected submits, such as `refusals 0, rejected 3, unfinished 2`.
 ///
 /// # Errors
 ///
