@@ -5,8 +5,11 @@ ghost use Rattle.line_words.specs.Number as spec;
 
 use job_bodies::MAX_LINE_NUMBER;
 
-/// Parses a text that consists of the decimal digits of a number. Returns `None` for any other
-/// text, for a leading zero (except in `0` itself), and for a number above [`MAX_LINE_NUMBER`].
+/// Returns the number that the text spells in decimal digits. Returns `None` if
+///
+/// - the text is empty or has a byte that is not a digit,
+/// - the first of several digits is `0`, or
+/// - the number is above [`MAX_LINE_NUMBER`].
 pub fn number_of(text: &[u8]) -> Option<usize>
     ensures { result ≡ spec.number_of text.now }
 {
@@ -18,9 +21,12 @@ pub fn number_of(text: &[u8]) -> Option<usize>
     }
 }
 
-/// Parses the decimal digits at the start of a text. Returns their number and the text after them.
-/// Returns `None` if there is no digit, if the first of several digits is `0`, or if the number is
-/// above [`MAX_LINE_NUMBER`].
+/// Parses the number that the decimal digits at the start of a text spell. Returns this number and
+/// the text after the digits. Returns `None` if
+///
+/// - the text does not begin with a digit,
+/// - the first of several digits is `0`, or
+/// - the number is above [`MAX_LINE_NUMBER`].
 pub fn leading_number(text: &[u8]) -> Option<(usize, &[u8])>
     ensures { option_map (λ found. (found.0, found.1.now)) result ≡ spec.leading_number text.now }
 {
