@@ -24,17 +24,20 @@ use job_bodies::Plan;
 use recordings::{Line, Paths, RecordedActor};
 use std::alloc::{AllocError, Global};
 
-/// A classifier for the actors of a recording.
+/// A classifier for the actors of a recording. An actor is a job or a round of a client.
 ///
-/// It classifies an actor once the actor has ended and the jobs of its path are classified. The
-/// actor is then settled. [`finish`](ActorClassifier::finish) classifies the other actors at the
-/// end of the recording. The classifier stores the paths of the unsettled actors, and the classes
-/// of each settled job whose submitter is not settled. A job that was refused, cancelled or removed
-/// and never ran stays open until the recording ends.
+/// An actor becomes settled once it has ended and all jobs that it submitted are settled. The
+/// classifier then classifies the actor: it finds the classes or kinds that the actor can belong
+/// to. A job that was refused, cancelled or removed and never ran stays open until the recording
+/// ends. At the end of the recording, [`finish`](ActorClassifier::finish) classifies all other
+/// actors.
 ///
-/// The path of an ended actor is scanned only once in total: each scan continues at the unsettled
-/// job that stopped the scan before it. No contract states the time for a line, or the order of the
-/// actors that become settled with it.
+/// The classifier stores the paths of the unsettled actors. It also stores the classes of each
+/// settled job whose submitter is unsettled.
+///
+/// After its end, an actor's path is scanned only once in total, because each scan continues at the
+/// unsettled job that stopped the scan before it. No contract states the time for a line, or the
+/// order of the actors that become settled with the same line.
 #[derive(Drop)]
 pub struct ActorClassifier {
     pub(crate) paths: Paths,
@@ -60,12 +63,12 @@ impl ActorClassifier {
         }
     }
 
-    /// Reads the next line of a valid recording. Appends each actor that becomes settled with this
-    /// line to `reported`. `plan` must be the same for all lines.
+    /// Reads the next line of a valid recording, and appends each actor that becomes settled with
+    /// this line to `reported`. The caller must pass the same `plan` for all lines.
     ///
     /// # Errors
     ///
-    /// Returns `AllocError` if memory runs out. The classifier must not be used after that.
+    /// Returns `AllocError` if memory runs out. The classifier must not be used after an error.
     pub fn take(
         &mut self,
         plan: &Plan,
@@ -276,7 +279,7 @@ impl ActorClassifier {
 }
 
 /// The progress of an ended actor: the length of the prefix of its path whose jobs are settled, and
-/// whether that is the whole path.
+/// whether this prefix is the whole path.
 #[derive(Clone, Copy)]
 struct Progress {
     known: usize,

@@ -11,13 +11,14 @@ use std::alloc::{AllocError, Global};
 /// The label of an actor: the names in the line that submits the job or begins the round.
 #[derive(Drop)]
 pub struct ActorLabel {
-    /// The class in the `submit` line of a job, or the kind in the `begin` line of a round.
+    /// The class in the `submit` line of a job, or the client kind in the `begin` line of a round.
     pub name: String,
     /// The pool in the `submit` line of a job. It is empty for a round.
     pub pool: String,
 }
 
-/// Returns the label of an actor. Both names are empty if no line submits or begins the actor.
+/// Returns the label of an actor. Both names of the label are empty if no line submits or begins
+/// the actor.
 ///
 /// # Errors
 ///
@@ -43,8 +44,8 @@ pub(crate) fn label_of(
     }
 }
 
-/// Returns the pool in the first line that meets the condition. Returns an empty name if no line
-/// meets the condition, or if that line has no pool.
+/// Returns the pool in the first line that meets the condition. Returns an empty name if there is
+/// no such line, or if this line has no pool.
 ///
 /// # Errors
 ///

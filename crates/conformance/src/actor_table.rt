@@ -15,7 +15,8 @@ use recordings::{RecordedActor, RecordedStep};
 use std::alloc::{AllocError, Global};
 use support::IdMap;
 
-/// An unsettled actor. It is open, or it has ended and a job of its path is unsettled.
+/// An unsettled actor: an actor that is open, or that has ended but has an unsettled job in its
+/// path.
 #[derive(Drop)]
 pub(crate) struct UnsettledActor {
     /// The class of a job, or the kind of a round.
@@ -24,15 +25,16 @@ pub(crate) struct UnsettledActor {
     pub(crate) pool: String,
     /// The submitter of a job. It is `None` for a refused job and for a round.
     pub(crate) submitter: Option<RecordedActor>,
-    /// The path and its settled prefix if the actor has ended, or `None` if it is open.
+    /// The path of the actor, and how much of the path is settled. It is `None` if the actor is
+    /// open.
     pub(crate) ended_path: Option<EndedPath>,
 }
 
-/// The path of an ended actor that is not settled.
+/// The path of an actor that has ended but is not settled.
 #[derive(Drop)]
 pub(crate) struct EndedPath {
     pub(crate) path: Vec<RecordedStep>,
-    /// The length of a prefix of the path. All jobs in the prefix are settled.
+    /// The length of a prefix of the path in which all jobs are settled.
     pub(crate) known: usize,
 }
 
@@ -85,9 +87,11 @@ impl ActorTable {
         }
     }
 
-    /// Inserts an open actor with this label. Replaces the actor if the table already has it.
-    /// `label` is the class of a job or the kind of a round. A round has an empty `pool` and no
-    /// `submitter`.
+    /// Inserts an open actor. Replaces the actor if the table already has it.
+    ///
+    /// - `label` is the class of a job or the kind of a round.
+    /// - `pool` is the pool of a job. It is empty for a round.
+    /// - `submitter` is the submitter of a job. It is `None` for a round.
     ///
     /// # Errors
     ///
@@ -111,7 +115,7 @@ impl ActorTable {
         self.insert(actor, kept)
     }
 
-    /// Clears the `submitter` field of a refused job, because the job is not part of the
+    /// Sets the `submitter` of a refused job to `None`, because the job is not part of its
     /// submitter's path. Does nothing if the job is not in the table.
     pub(crate) fn clear_submitter(&mut self, job: usize)
         ensures { (one : RecordedActor)
@@ -145,8 +149,8 @@ impl ActorTable {
         }
     }
 
-    /// Returns the path and the length of its settled prefix, or `None` if the actor is not in the
-    /// table or has not ended.
+    /// Returns the path of an ended actor, with the length of the prefix whose jobs are settled.
+    /// Returns `None` if the actor has not ended or is not in the table.
     pub(crate) fn ended_path(&self, actor: RecordedActor) -> Option<&EndedPath>
         ensures { option_copied result
             ≡ option_and_then (λ kept. kept.ended_path) (in_table self.now actor) }
@@ -158,8 +162,8 @@ impl ActorTable {
         kept.ended_path.as_ref()
     }
 
-    /// Sets the length of the settled prefix of the actor's path, if the actor is in the table and
-    /// has ended.
+    /// Sets the length of the prefix of an ended actor's path whose jobs are settled. Does nothing
+    /// if the actor has not ended or is not in the table.
     pub(crate) fn advance(&mut self, actor: RecordedActor, known: usize)
         ensures later { (one : RecordedActor)
             → in_table self.new one

@@ -7,29 +7,32 @@ use crate::body_gets::BodyGet;
 use crate::row::has_submit_at;
 use job_bodies::Action;
 
-/// The way to an index of a body. It starts at the last index, at or before that one, where the
-/// body can be.
+/// The state of the search for a blocking get at an index of the body. The way to the index starts
+/// at the last index, up to this one, where the body can be.
 #[derive(Clone, Copy)]
 enum Way {
-    /// The body can be at no earlier index.
+    /// There is no way: the body cannot be at this index or at an earlier one.
     Unreached,
-    /// The body may pass every get between the two indices.
+    /// The body may pass every get on the way to the index.
     Free,
-    /// There is a get between the two indices that the body may not pass. Consider the first such
-    /// get, and the later gets of its class between the indices. The field is the one of these gets
-    /// that has the smallest limit.
+    /// The body may not pass some get on the way to the index. Let `stop` be the first such get.
+    /// The field is, of `stop` and the later gets of its class on the way, the one with the
+    /// smallest limit.
     Blocked(BodyGet),
 }
 
-/// Returns the get that blocks the body before its next submit of the class, or `None` if there is
-/// no such get. `row` says for each index whether the body can be there, and `passes` says for each
-/// action whether the body may pass it.
+/// Returns the get that blocks the body before its next submit of the class, or `None` if no get
+/// blocks such a submit. `row` says for each index whether the body can be there. `passes` says for
+/// each action whether the body may pass the action.
 ///
-/// Consider a submit and the last index, at or before it, where the body can be. A get blocks the
-/// submit if it is at or after that index and before the submit, and the body may not pass it. The
-/// next submit is the first submit of the class that a get blocks. The result is the get with the
-/// smallest limit among the first get that blocks this submit and the later gets of the same class
-/// before the submit.
+/// The get is found in these steps:
+///
+/// - The way to a submit starts at the last index, up to the submit, where the body can be.
+/// - The next submit is the first submit of the class with a get on its way that the body may not
+///   pass.
+/// - Let `stop` be the first such get on the way to the next submit.
+/// - The result is, of `stop` and the later gets of its class on this way, the get with the
+///   smallest limit.
 pub(crate) fn blocking_get(
     row: &[bool],
     passes: &[bool],
@@ -53,17 +56,17 @@ pub(crate) fn blocking_get(
     None
 }
 
-/// Returns the [`Way`] to an index: [`Way::Free`] if the body can be at the index itself (`is_at`),
-/// and otherwise `before`, the way from the last earlier index where the body can be.
+/// Returns the [`Way`] to an index. This is [`Way::Free`] if the body can be at the index itself
+/// (`is_at`). Otherwise it is `before`, the way that leads from the last earlier index where the
+/// body can be.
 fn way_at(before: Way, is_at: bool) -> Way
     ensures { result ≡ spec.way_at before is_at }
 {
     if is_at { Way::Free } else { before }
 }
 
-/// Returns the get of [`Way::Blocked`] if `is_submit` is true. Otherwise, and for the other
-/// variants, returns `None`. `is_submit` says whether the action at the end of the way submits the
-/// class.
+/// Returns the get of [`Way::Blocked`] if `is_submit` is true, and `None` in all other cases.
+/// `is_submit` says whether the action at the end of the way submits the class.
 fn blocking_at(way: Way, is_submit: bool) -> Option<BodyGet>
     ensures { result ≡ spec.blocking_at way is_submit }
 {
@@ -73,8 +76,8 @@ fn blocking_at(way: Way, is_submit: bool) -> Option<BodyGet>
     }
 }
 
-/// Returns the [`Way`] extended by one action. `get` is the action, or `None` if the action is no
-/// get. `passes` says whether the body may pass the get.
+/// Returns the [`Way`] after it is extended by one action. `get` is the action, or `None` if the
+/// action is no get. `passes` says whether the body may pass the get.
 fn way_after(way: Way, passes: bool, get: Option<BodyGet>) -> Way
     ensures { result ≡ spec.way_after way passes get }
 {
@@ -88,7 +91,8 @@ fn way_after(way: Way, passes: bool, get: Option<BodyGet>) -> Way
     }
 }
 
-/// Returns `get` if it has the class of `least` and a smaller limit. Otherwise returns `least`.
+/// Returns `get` if it has the same class as `least` and a smaller limit. Otherwise returns
+/// `least`.
 fn least_get(least: BodyGet, get: Option<BodyGet>) -> BodyGet
     ensures { result ≡ spec.least_get least get }
 {

@@ -13,14 +13,15 @@ use std::alloc::{AllocError, Global};
 /// A get of a body.
 #[derive(Clone, Copy)]
 pub(crate) struct BodyGet {
-    /// The class of the job that it gets.
+    /// The class of the job that the body gets.
     pub(crate) class: usize,
     /// The number of jobs of the class that are open in the body after the get. The body may pass
-    /// the get while at most this number of them is open in the path.
+    /// the get only while the path has at most this number of open jobs of the class.
     pub(crate) limit: usize,
 }
 
-/// Returns an entry for each action of the body: the get, or `None` if the action is no get.
+/// Returns a list with an entry for each action of the body: the get, or `None` if the action is no
+/// get.
 ///
 /// # Errors
 ///
@@ -37,8 +38,9 @@ pub(crate) fn body_gets(alloc: Global, body: &[Action]) -> Result<Vec<Option<Bod
     Ok(gets)
 }
 
-/// Updates `jobs`, the submits whose jobs are open in the body, for the action at this index.
-/// Returns the action if it is a get, and `None` otherwise.
+/// Adds the action at this index of the body to `jobs`, the list of the submits whose jobs are
+/// open: a submit is added, and a get removes the submit of its job. Returns the action if it is a
+/// get, and `None` otherwise.
 fn pass_action(
     body: &[Action],
     index: usize,
@@ -62,8 +64,8 @@ fn pass_action(
     }
 }
 
-/// Removes the submit at index `submit` from `jobs`, the submits whose jobs are open in the body.
-/// Returns the get of the removed submit's job.
+/// Removes the submit at index `submit` from `jobs`, the list of the submits whose jobs are open in
+/// the body. Returns the get of the removed submit's job.
 fn pass_get(body: &[Action], submit: usize, jobs: &mut Vec<usize>) -> BodyGet
     ensures jobs { jobs.new.items ≡ filter (λ other. not (other == submit)) jobs.old.items }
     ensures class { result.class ≡ submitted_class body.now submit }
@@ -89,9 +91,10 @@ fn submitted_class(body: &[Action], submit: usize) -> usize
     }
 }
 
-/// Returns a bound for the index of the body at which an actor of this kind may get a job of the
-/// class: the index must be less than the bound. For a job, the bound is the index after the last
-/// get of the class in the body, or 0 if there is none. For a round, every index is less than it.
+/// Returns a bound for the indices of the body at which an actor of this kind may get a job of the
+/// class. The actor may get the job at an index exactly if the index is less than the bound. For a
+/// job, the bound is the index after the last get of the class in the body, or 0 if there is no
+/// such get. For a round, the bound is greater than every index.
 pub(crate) fn end_of_gets(kind: ActorKind, gets: &[Option<BodyGet>], class: usize) -> usize
     ensures { (body : List Action)
         → spec.AreGets body gets.now
@@ -105,7 +108,7 @@ pub(crate) fn end_of_gets(kind: ActorKind, gets: &[Option<BodyGet>], class: usiz
     }
 }
 
-/// Returns the index after the last get of the class, or 0 if there is none.
+/// Returns the index after the last get of the class, or 0 if there is no get of the class.
 fn end_of_gets_of(gets: &[Option<BodyGet>], class: usize) -> usize
     ensures bound { result ≤ length gets.now }
     ensures last { 0 < result

@@ -7,18 +7,20 @@ ghost use Rattle.conformance.specs.Candidate.{IsCandidate, next_candidate, with_
 
 use job_bodies::Action;
 
-/// The class of a job, among the classes that a body submits.
+/// The class of a recorded job, as far as the classes that a body submits determine it. The job may
+/// belong to several classes.
 #[derive(Clone, Copy)]
 pub(crate) enum Candidate {
-    /// The body submits no class of the job.
+    /// The body submits none of the job's classes.
     None,
-    /// The body submits only this class of the job.
+    /// The body submits exactly one of the job's classes, which is the field.
     One(usize),
-    /// The body submits several classes of the job.
+    /// The body submits several of the job's classes.
     Several,
 }
 
-/// Returns which of `classes`, the classes of a job, the body submits: none, one or several.
+/// Returns how many of a job's `classes` the body submits: none, one or several. If the body
+/// submits one, the result has this class.
 pub(crate) fn candidate_of(body: &[Action], classes: &Vec<usize>) -> Candidate
     ensures { IsCandidate body.now (Submits classes.now) result }
 {
@@ -29,7 +31,8 @@ pub(crate) fn candidate_of(body: &[Action], classes: &Vec<usize>) -> Candidate
     found
 }
 
-/// Returns `found`, the candidate for the earlier classes of the job, updated for one more class.
+/// Returns the candidate after `class`, one more class of the job. `found` is the candidate for the
+/// classes before it.
 fn next_candidate(body: &[Action], found: Candidate, class: usize) -> Candidate
     ensures { result ≡ next_candidate body.now found class }
 {

@@ -20,7 +20,7 @@ use std::alloc::{AllocError, Global};
 impl ActorClassifier {
     /// Classifies the actor by its path, and appends the result to `reported`. Removes the classes
     /// of the jobs in the path from the classifier. If the actor is a job with a `submitter`,
-    /// stores the classes of this job.
+    /// stores the classes that this actor can belong to.
     ///
     /// # Errors
     ///
@@ -63,7 +63,8 @@ impl ActorClassifier {
         Ok(())
     }
 
-    /// Returns the path of an open actor so far, or an empty path if the actor is not open.
+    /// Returns the path of an open actor up to the lines read so far. Returns an empty path if the
+    /// actor is not open.
     ///
     /// # Errors
     ///
@@ -81,8 +82,8 @@ impl ActorClassifier {
         }
     }
 
-    /// Returns the path of the actor: the whole path, which is in `ended_path`, if the actor has
-    /// ended, and the path so far if it is open.
+    /// Returns the path of the actor. If the actor has ended, this is the whole path, which is in
+    /// `ended_path`. If the actor is open, it is the path up to the lines read so far.
     ///
     /// # Errors
     ///

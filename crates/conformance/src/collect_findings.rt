@@ -24,7 +24,8 @@ use job_bodies::Plan;
 use recordings::{InvalidatingEvent, Invalidation, RecordedActor, RecordedNotes};
 use std::alloc::{AllocError, Global};
 
-/// Returns the findings of the survey and those for `excesses` and `refusals`, unsorted.
+/// Returns the findings of the survey together with those for `excesses` and `refusals`. The list
+/// is not sorted.
 ///
 /// # Errors
 ///
@@ -264,8 +265,9 @@ fn push_invalidations(
     push_refusal(findings, alloc, recording, first_refusal_in(refusals))
 }
 
-/// Returns the first refusal that the plan does not allow. Returns `None` if there is none, or if
-/// no pool of the plan may reject jobs.
+/// Returns the first refusal that the plan does not allow. Returns `None` if there is no such
+/// refusal. Also returns `None` if `refusals` is `None`, because no pool of the plan may reject
+/// jobs.
 fn first_refusal_in(refusals: &Option<Rejections>) -> Option<Invalidation>
     ensures { result ≡ spec.first_refusal_in refusals.now }
 {
@@ -351,9 +353,13 @@ fn push_event(
     Ok(())
 }
 
-/// Returns the class and the pool of the event's job. For a call of `invokeAny`, returns the
-/// actor's class or kind, and the pool of the first such call. For jobs that no line submits,
-/// returns an empty name, and the pool of the first line that reports such jobs.
+/// Returns the class and the pool that a message about the event names:
+///
+/// - for a call of `invokeAny`, the class or kind of the calling actor, and the pool of the first
+///   such call;
+/// - for jobs that no line submits, an empty name, and the pool of the first line that reports such
+///   jobs;
+/// - for any other event, the class and the pool of the event's job.
 fn subject_of(
     alloc: Global,
     recording: &[u8],
@@ -384,8 +390,8 @@ fn subject_of(
     }
 }
 
-/// Returns true if the event invalidates a SAFE answer even if the actor's path matches a body. If
-/// `without_refusals` is true, returns false for a refusal.
+/// Returns true if the event invalidates a SAFE answer whether or not the actor's path matches a
+/// body. If `without_refusals` is true, a refusal is not such an event.
 fn is_counted(without_refusals: bool, invalidation: Invalidation) -> bool
     ensures { result ≡ spec.is_counted without_refusals invalidation }
 {

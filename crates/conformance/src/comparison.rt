@@ -28,15 +28,16 @@ use std::alloc::{AllocError, Global};
 /// The result of comparing a recording with a plan.
 #[derive(Drop)]
 pub enum Conformance {
-    /// The first invalid line of the recording. No comparison was made.
+    /// The first invalid line of the recording. The recording was not compared with the plan.
     Invalid(RecordingFault),
     /// The recording was compared with the plan.
     Compared {
-        /// The findings that [`conform`] lists. They are ordered by line, then by type. Findings
-        /// without a line come last. The recording conforms if the list is empty.
+        /// The findings that [`conform`] lists, ordered by line and, within a line, by type.
+        /// Findings without a line come last. The recording conforms to the plan if the list is
+        /// empty.
         findings: Vec<Finding>,
         /// The number of rejections of each pool that may reject jobs, in the order of the plan.
-        /// Only the rejections that the plan allows count.
+        /// Only rejections that the plan allows are counted.
         rejections: Vec<PoolRejections>,
     },
 }
@@ -44,36 +45,41 @@ pub enum Conformance {
 /// Compares the recording of a service with a plan. If a line of the recording is invalid, returns
 /// the first such line and compares nothing.
 ///
-/// The findings are exactly these, each listed once:
+/// The label of a job is its class and pool in its `submit` line, and that of a round is its client
+/// kind. The path of an actor (a job or a round) is the list of its submits and gets. The findings
+/// are exactly these, each listed once:
 ///
-/// - every difference between a recorded pool and the plan, with the first line that shows it;
+/// - every difference between a recorded pool and the plan, with the first line that shows the
+///   difference;
 /// - if the recording ends with `end`, every pool of the plan that the recording lacks;
-/// - every label that is not in the plan, with the first line that has it;
-/// - for each label of the plan, the actor with the smallest number whose path matches no body,
-///   with its first step that no body explains and the line of that step;
+/// - every label that is not in the plan, with the first line that has the label;
+/// - for each label of the plan, the actor with the smallest number whose path matches no body. The
+///   finding has the first step that no body explains and the line of this step;
 /// - for each label of the plan, the actor with the smallest number for which it is undecided which
-///   bodies its path matches. This does not occur if each label is one class in each pool;
-/// - for each client kind, the first line at which it has more rounds than the plan allows. Each
-///   round counts as the first kind that it can belong to. A round whose kind is undecided counts
-///   in no kind;
+///   bodies its path matches. There is no such actor if each label is one class in each pool;
+/// - for each client kind, the first line at which the kind has more rounds than the plan allows.
+///   Each round counts as the first kind that it can belong to. A round whose kind is undecided is
+///   not counted;
 /// - the first get of a job by an actor other than its submitter, before the submitter got the job;
-/// - for each event type that invalidates a SAFE answer, whatever the paths are, its first line. A
-///   rejection that the plan allows does not count.
+/// - for each event type that invalidates a SAFE answer, whatever the paths are, the first line
+///   with such an event. A rejection that the plan allows is not such an event.
 ///
-/// A `refused` line is a rejection that the plan allows if the pool of the job may reject jobs and
-/// has a bounded queue, and one of these holds:
+/// The plan allows the rejection in a `refused` line if the pool of the job may reject jobs and has
+/// a bounded queue, and one of these holds:
 ///
-/// - In each `pool` line of the pool, the handler is `abort`.
-/// - In each of these lines it is `caller_runs`, and the job submits, gets and cancels no job and
-///   does not call `invokeAny`. If the recording has a `shutdown` of the pool, the job must also
-///   have a `start` line, and no `shutdown` of the pool may precede the `refused` line.
-/// - In each of these lines it is `discard`, and no body of the plan gets a job of the pool.
+/// - The handler is `abort` in each `pool` line of the pool.
+/// - The handler is `caller_runs` in each of these lines, and the job submits, gets and cancels no
+///   job and does not call `invokeAny`. If the recording has a `shutdown` of the pool, the job must
+///   also have a `start` line, and no `shutdown` of the pool may precede the `refused` line.
+/// - The handler is `discard` in each of these lines, and no body of the plan gets a job of the
+///   pool.
 ///
 /// If no finding is about a label, a path or a number of rounds, all jobs and rounds behave as
-/// planned. The other findings do not matter for this.
+/// planned, even if there are other findings.
 ///
-/// A get that timed out or was interrupted is not a finding. If the actor's path without that get
-/// matches a body, the get invalidates nothing. Otherwise the path is a mismatch like any other.
+/// A get that timed out or was interrupted is not a finding. If the actor's path without this get
+/// matches a body, the get invalidates nothing. If it matches no body, the path is a mismatch like
+/// any other.
 ///
 /// # Errors
 ///

@@ -4,33 +4,35 @@
 ghost use Rattle.conformance.specs.ComparisonLaws.{DeviationsAddUp, ExcessesAddUp, PoolsAreAsPlanned, PoolsAreRecorded, RoundsAreWithinPlan};
 ghost use Rattle.conformance.specs.RejectionLaws.{RejectionsNeedTheKey, UnboundedPoolsGetNoKey, UnboundedPoolsRejectNothing, WithoutTheKeyAllCount};
 
-/// Proves that the comparison line by line finds all differences between the pools. If there are
-/// none, each recorded pool is in the plan and as planned in each of its lines. The number of
-/// prestarted threads counts only in a pool's first line. If the recording ends with `end`, each
-/// pool of the plan also has a line.
+/// States that the differences between the pools of a recording and of a plan can be found line by
+/// line. If no line has a difference, each recorded pool is in the plan and as planned in each of
+/// its lines. The number of prestarted threads is compared only in a pool's first line. If the
+/// recording ends with `end`, and the comparison reports no missing pool, each pool of the plan has
+/// a line.
 pub fn pools_are_as_planned()
     ensures adds_up { DeviationsAddUp }
     ensures as_planned { PoolsAreAsPlanned }
     ensures recorded { PoolsAreRecorded }
 {}
 
-/// Proves that the count line by line finds all excesses of rounds. If there are none, no client
-/// kind ever has more rounds than the plan allows.
+/// States that the client kinds with too many rounds can be found line by line. If no line has such
+/// an excess, no client kind ever has more rounds than the plan allows.
 pub fn rounds_are_within_plan()
     ensures adds_up { ExcessesAddUp }
     ensures within { RoundsAreWithinPlan }
 {}
 
-/// Proves that the plan allows only rejections by pools that may reject jobs. If no pool of the
-/// plan may reject jobs, the plan allows no line that invalidates a SAFE answer.
+/// States that the plan allows a rejection only if the rejecting pool may reject jobs. Let each
+/// line of a recording that invalidates a SAFE answer be a rejection that the plan allows. If no
+/// pool of the plan may reject jobs, the recording then has no such line.
 pub fn rejections_need_the_key()
     ensures need { RejectionsNeedTheKey }
     ensures all { WithoutTheKeyAllCount }
 {}
 
-/// Proves that the plan allows no rejection by a pool with an unbounded queue.
-/// [`mark_rejecting_pools`](crate::mark_rejecting_pools) returns such a pool as one that must not
-/// reject jobs, unless its `queue` is 0.
+/// States that the plan allows no rejection by a pool with an unbounded queue. In the result of
+/// [`mark_rejecting_pools`](crate::mark_rejecting_pools), such a pool must not reject jobs, unless
+/// its `queue` is 0.
 pub fn unbounded_pools_reject_nothing()
     ensures none { UnboundedPoolsRejectNothing }
     ensures no_key { UnboundedPoolsGetNoKey }

@@ -20,10 +20,12 @@ use job_bodies::Plan;
 use recordings::{RecordedActor, RecordedStep};
 use std::alloc::{AllocError, Global};
 
-/// Describes the first deviating step of the actor. This is the step after the longest prefix of
-/// the path that a body explains, or the actor's end if that prefix is the whole path. Returns the
-/// line number of this step, or `None` if no line records it, and the description. `classless` has
-/// the jobs whose paths match no class of their labels.
+/// Returns a description of the first step of the actor that no body explains, and the number of
+/// the line that records this step. The step is the one after the longest prefix of the path that a
+/// body explains, or the actor's end if this prefix is the whole path. The line number is `None` if
+/// no line records the step.
+///
+/// `classless` has the jobs whose paths match no class of their labels.
 ///
 /// # Errors
 ///
@@ -63,7 +65,7 @@ pub(crate) fn describe_mismatch(
     Ok((number_of(&line), mismatch))
 }
 
-/// Returns the number of the line, if one was found.
+/// Returns the number of the line, or `None` if there is no line.
 fn number_of(found: &Option<FoundLine>) -> Option<usize>
     ensures { result ≡ option_map (λ found. found.number) found.now }
 {
@@ -75,8 +77,8 @@ fn number_of(found: &Option<FoundLine>) -> Option<usize>
 
 /// Appends the conditions of the lines that [`describe_mismatch`] looks up for this actor.
 ///
-/// A missing condition costs only time, because the line is then searched for in the text. So no
-/// contract states which conditions are appended.
+/// No contract states which conditions are appended. If a condition is missing, the look-up takes
+/// longer, because it then searches the text for the line.
 ///
 /// # Errors
 ///
@@ -120,8 +122,8 @@ enum JobStep {
     Gets(usize),
 }
 
-/// Returns the step at an index of a path. Returns `None` past the end, and for a get that names no
-/// submit of the path.
+/// Returns the step at this index of the path. Returns `None` if the index is past the end of the
+/// path, or if the step is a get of a job that the path does not submit.
 fn step_at(path: &[RecordedStep], place: usize) -> Option<JobStep>
     ensures { result ≡ spec.step_at path.now place }
 {
@@ -140,8 +142,8 @@ fn got_at(path: &[RecordedStep], submit: usize) -> Option<JobStep>
     }
 }
 
-/// Returns the condition for the line of the step. Without a step, returns the condition for the
-/// line that ends the actor.
+/// Returns the condition for the line of the step. If `step` is `None`, returns the condition for
+/// the line that ends the actor.
 fn line_query_of(actor: RecordedActor, step: Option<JobStep>) -> LineQuery
     ensures { result ≡ spec.line_query_of actor step }
 {
@@ -190,8 +192,8 @@ fn deviating_step(
     }
 }
 
-/// Returns the deviation of an actor that ended too early. `job` is its first open job, if there is
-/// one.
+/// Returns the deviation of an actor that ended too early. `job` is the actor's first open job, or
+/// `None` if it got all its jobs.
 fn deviating_end(
     alloc: Global,
     first: &FirstLines<'_>,
@@ -208,7 +210,7 @@ fn deviating_end(
     }
 }
 
-/// Returns the first job that the path submits and does not get, or `None` if there is none.
+/// Returns the first job that the path submits and does not get, or `None` if there is no such job.
 fn open_job(path: &[RecordedStep]) -> Option<usize>
     ensures { result ≡ spec.first_open path.now }
 {
@@ -224,8 +226,8 @@ fn open_job(path: &[RecordedStep]) -> Option<usize>
     None
 }
 
-/// Returns the job of the step at this index of the path, if the step is a submit and the path does
-/// not get the job. Otherwise returns `None`.
+/// Returns the job of `step`, the step at this index of the path, if it is a submit whose job the
+/// path does not get. Otherwise returns `None`.
 fn open_job_at(path: &[RecordedStep], place: usize, step: RecordedStep) -> Option<usize>
     ensures { option_to_list result ≡ spec.open_job_at path.now (place, step) }
 {
@@ -262,8 +264,8 @@ fn deviating_submit(
     }
 }
 
-/// Returns the deviation for a submit of a job whose path matches a class. `excess` has the jobs
-/// that block the submit, or is `None` if the body has no such submit left.
+/// Returns the deviation for a submit of a job whose path matches a class. `excess` has the open
+/// jobs that block the submit. It is `None` if the body has no such submit left.
 fn submit_of_body(label: ActorLabel, excess: Option<OpenExcess>) -> DeviatingStep
     ensures { result ≡ spec.submit_of_body label excess }
 {

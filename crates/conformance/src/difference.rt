@@ -7,7 +7,7 @@ ghost use Rattle.conformance.specs.Difference as spec;
 use recordings::QueueKind;
 use std::fmt;
 
-/// A difference between a recorded pool and the plan's pool.
+/// A difference between a recorded pool and the pool of the plan with the same name.
 ///
 /// It formats as a short phrase without the pool's name, such as `max 20, plan 10`.
 #[derive(Clone, Copy, PartialEq, Eq, Hash)]
@@ -16,17 +16,18 @@ pub enum Difference {
     Core { recorded: u64, planned: u64 },
     /// The maximum pool size, in threads.
     Max { recorded: u64, planned: u64 },
-    /// The kind of the queue, which is not that of the plan. A plan's unbounded queue is linked,
-    /// its queue of 0 is synchronous, and any other queue is an array queue or a linked one.
+    /// The kind of the recorded queue, if it is not the kind of the plan's queue. In a plan, an
+    /// unbounded queue is linked, and a queue with capacity 0 is synchronous. Any other queue is an
+    /// array queue or a linked queue.
     KindOfQueue(QueueKind),
     /// The capacity of the queue, in jobs.
     Capacity { recorded: u64, planned: u64 },
-    /// A queue of this capacity, in jobs. The plan's queue is unbounded.
+    /// The recorded queue has this capacity, in jobs, but the plan's queue is unbounded.
     BoundedQueue { recorded: u64 },
-    /// Core threads may time out. In a plan they never do.
+    /// The recorded core threads may time out. In a plan, core threads never time out.
     CoreTimeout,
-    /// The number of threads when the recording began. In a plan, a pool with `prestart` has all
-    /// core threads then, and any other pool has none.
+    /// The number of threads when the recording began. In a plan, a pool with `prestart` then has
+    /// all core threads, and any other pool has no threads.
     Prestarted { recorded: u64, planned: u64 },
 }
 

@@ -17,7 +17,7 @@ use job_bodies::Plan;
 use recordings::Line;
 use std::alloc::{AllocError, Global};
 
-/// A tracker that reads a recording line by line. For each client kind, it finds the first line at
+/// A tracker that reads a recording line by line. It finds, for each client kind, the first line at
 /// which the kind has more rounds than the plan allows.
 #[derive(Drop)]
 pub(crate) struct ExcessTracker {
@@ -43,9 +43,9 @@ impl ExcessTracker {
         })
     }
 
-    /// Reads line `number` of a valid recording, and counts the round that it begins or ends. A
-    /// round counts as its kind in `others`. If `others` does not have the round, it counts as the
-    /// first kind of its label.
+    /// Reads line `number` of a valid recording. If the line begins or ends a round, counts the
+    /// begin or the end for the kind of the round. This is its kind in `others`, or the first kind
+    /// of its label if `others` does not have the round.
     ///
     /// # Errors
     ///
@@ -73,9 +73,9 @@ impl ExcessTracker {
     }
 }
 
-/// Returns, for each kind, the first line at which it has more rounds than the plan allows, if
-/// there is one. The recording must be valid. A round counts as its kind in `others`. If `others`
-/// does not have the round, it counts as the first kind of its label.
+/// Returns a list with the first line at which a client kind has more rounds than the plan allows,
+/// for each client kind that has such a line. The recording must be valid. The kind of a round is
+/// its kind in `others`, or the first kind of its label if `others` does not have the round.
 ///
 /// # Errors
 ///

@@ -5,20 +5,23 @@ ghost use Rattle.conformance.specs.PathMatch as spec;
 
 use crate::open_excess::OpenExcess;
 
-/// The longest prefix of a path that a body explains. A body explains a prefix if a path that
-/// matches the body begins with the prefix.
+/// The longest prefix of a path that a body explains. A body explains a prefix if some path that
+/// matches the body begins with this prefix.
 #[derive(Clone, Copy, PartialEq, Eq)]
 pub struct ExplainedPrefix {
     /// The number of steps in the prefix.
     pub length: usize,
-    /// The open jobs that block the body, if the next step is a submit that the body still has.
-    /// `None` if the next step is a get, if the body has no such submit left, or if there is no
-    /// next step.
+    /// The open jobs that block the body, if the step after the prefix is a submit that the body
+    /// still has. It is `None` in these cases:
+    ///
+    /// - The step after the prefix is a get.
+    /// - The body has no such submit left.
+    /// - There is no step after the prefix.
     pub excess: Option<OpenExcess>,
 }
 
-/// Returns the longer of two prefixes. If they have the same length, returns `one` if it has an
-/// `excess`, and `other` otherwise.
+/// Returns the longer of two prefixes. If both have the same length, returns `one` if it has an
+/// `excess`, and `other` if not.
 pub(crate) fn longer(one: ExplainedPrefix, other: ExplainedPrefix) -> ExplainedPrefix
     ensures { result ≡ spec.longer one other }
 {

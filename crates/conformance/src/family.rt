@@ -9,10 +9,13 @@ use job_bodies::Plan;
 use line_words::number_of;
 use std::alloc::{AllocError, Global};
 
-/// Returns true if a class or a client kind of this name belongs to the family of the label. It
-/// does if the name is the label itself, or the label, `_` and a number from 2 to 1,000,000,000 in
-/// decimal digits without leading zeros. For example, `query`, `query_2` and `query_17` are of the
-/// family of `query`.
+/// Returns true if a class or a client kind with the name `name` belongs to the family of `label`.
+/// The label is the name of a class or client kind in a recording. The name must be one of these:
+///
+/// - the label itself;
+/// - the label, `_` and a decimal number from 2 to 1,000,000,000 without leading zeros.
+///
+/// For example, `query`, `query_2` and `query_17` are of the family of `query`.
 #[tactic(auto, unfolding(crate::specs::Family::is_of_family))]
 pub fn is_of_family(label: &str, name: &str) -> bool
     ensures value { result ≡ spec.is_of_family label.now name.now }
@@ -81,8 +84,8 @@ pub(crate) fn is_class_in_family(plan: &Plan, label: &str, pool: &str, class: us
     is_of_family(label, plan.class_name(class)) && pool_of_class(plan, class) == pool
 }
 
-/// Returns the name of the pool that runs the jobs of the class. For a number without a class,
-/// returns the name of the first pool, or an empty name if the plan has no pool.
+/// Returns the name of the pool that runs the jobs of the class. If the plan has no class with this
+/// number, returns the name of the first pool, or an empty name if there is no pool.
 fn pool_of_class(plan: &Plan, class: usize) -> &str
     ensures { result.now ≡ (pool_at plan.now (class_at plan.now class).pool).name }
 {

@@ -19,10 +19,10 @@ pub struct FamilyMatch {
     /// order.
     pub members: Vec<usize>,
     /// The longest prefix of the path that a body of the family explains. It is the whole path if
-    /// there is a member, and it is empty if the family is empty.
+    /// the path matches a body, and empty if the family is empty.
     pub explained: ExplainedPrefix,
-    /// True if each match with a body of the family was decided. Otherwise there may be more
-    /// members, and a longer prefix may be explained.
+    /// True if it was decided for each body of the family whether the path matches the body.
+    /// Otherwise the path may match more bodies, and a body may explain a longer prefix.
     pub is_decided: bool,
 }
 
@@ -42,7 +42,8 @@ impl FamilyMatch {
         }
     }
 
-    /// Matches the path against the body of class or client kind `number`, and adds the result.
+    /// Matches the path against `body`, the body of the class or client kind `number`, and adds the
+    /// result to this one.
     ///
     /// # Errors
     ///

@@ -9,7 +9,7 @@ use crate::unplanned::NotPlanned;
 use crate::{Difference, PoolDeviation, RoundExcess};
 use recordings::{ForeignGet, Invalidation, RecordedActor};
 
-/// The number of sort keys for one line. A sort key ends with a rank of 4 bits and a number of 60
+/// The number of sort keys for one line: a sort key ends with a rank of 4 bits and a number of 60
 /// bits.
 const RANKS: u128 = 1 << 64;
 
@@ -23,22 +23,25 @@ const LAST_NUMBER: usize = (1 << 60) - 1;
 pub enum Finding {
     /// A pool that differs from the plan.
     Pool(PoolDeviation),
-    /// A label that is not in the plan.
+    /// A label that is not in the plan. A label is a class with its pool, or a client kind.
     NotPlanned(NotPlanned),
     /// The first actor of a label, by number, whose path matches no body, and the line of its first
-    /// deviating step. The label is in the plan.
+    /// step that no body explains. The label, which is a class with its pool or a client kind, is
+    /// in the plan.
     PathMismatch {
         line: Option<usize>,
         mismatch: PathMismatch,
     },
     /// The first actor of a label, by number, for which it is undecided which bodies its path
-    /// matches. The label is in the plan. So the comparison has no complete result for this label.
+    /// matches. The label, which is a class with its pool or a client kind, is in the plan. For
+    /// this label, the comparison has no complete result.
     NotDecided {
         actor: RecordedActor,
         label: ActorLabel,
     },
-    /// The first line at which a kind has more rounds than the plan allows. Each round counts as
-    /// the first kind that it can belong to. A round whose kind is undecided counts in no kind.
+    /// The first line at which a client kind has more rounds than the plan allows. Each round
+    /// counts as the first kind that it can belong to. A round whose kind is undecided is not
+    /// counted.
     TooMany(RoundExcess),
     /// The first get of a job by an actor other than its submitter, before the submitter got the
     /// job. The fields have the labels of the actor and of the job.
@@ -47,19 +50,26 @@ pub enum Finding {
         label: ActorLabel,
         job: ActorLabel,
     },
-    /// The first line of an event type that invalidates a SAFE answer.
+    /// The first line with an event of a type that invalidates a SAFE answer.
     Invalidation {
         invalidation: Invalidation,
-        /// The class and the pool of the job. For a call of `invokeAny`, the class or kind of the
-        /// actor, and the pool of the call. For jobs that no line submits, an empty name and the
-        /// pool.
+        /// The class and the pool that a message names:
+        ///
+        /// - for a call of `invokeAny`, the class or kind of the calling actor, and the pool of the
+        ///   call;
+        /// - for jobs that no line submits, an empty name, and the pool of the line;
+        /// - for any other event, the class and the pool of the job.
         label: ActorLabel,
     },
 }
 
 impl Finding {
-    /// Returns the line number of the finding. Returns `None` for a pool that is not recorded, for
-    /// an actor that is not decided, and for a path mismatch without a line.
+    /// Returns the line number of the finding. Returns `None` for these findings, which have no
+    /// line:
+    ///
+    /// - a pool that is not recorded;
+    /// - an actor that is not decided;
+    /// - a path mismatch whose deviating step no line records.
     pub fn line(&self) -> Option<usize>
         ensures { result ≡ spec.line_of self.now }
     {
@@ -74,8 +84,8 @@ impl Finding {
         }
     }
 
-    /// Returns the sort key. It orders findings by line, then by type, and then by the number that
-    /// [`number`](Finding::number) returns. Findings without a line come last.
+    /// Returns the sort key of the finding. It orders findings by line, then by the rank of their
+    /// type, and then by [`number`](Finding::number). Findings without a line come last.
     pub(crate) fn sort_key(&self) -> u128
         ensures { result ≡ spec.sort_key self.now }
     {
@@ -89,8 +99,9 @@ impl Finding {
         self.line().unwrap_or(usize::MAX)
     }
 
-    /// Returns the rank of the finding's type: pools come first, then labels, path mismatches,
-    /// undecided jobs, undecided rounds, numbers of rounds, foreign gets and events.
+    /// Returns the rank of the finding's type. The types in ascending order of rank are: pools,
+    /// labels, path mismatches, undecided jobs, undecided rounds, numbers of rounds, foreign gets
+    /// and events.
     fn rank(&self) -> usize
         ensures value { result ≡ spec.rank_of self.now }
         ensures few { result < 8 }
@@ -113,11 +124,14 @@ impl Finding {
         }
     }
 
-    /// Returns the number that orders findings of the same line and type. For a difference, it is
-    /// the position of its variant in [`Difference`], where the two variants about a capacity have
-    /// the same position. For a pool that is not recorded, an undecided actor or an excess of
-    /// rounds, it is the number of the pool, the actor or the client kind. It is 0 for all other
-    /// findings.
+    /// Returns the number that orders findings of the same line and type:
+    ///
+    /// - for a difference, the position of its variant in [`Difference`], where the two variants
+    ///   about a capacity have the same position;
+    /// - for a pool that is not recorded, the number of the pool;
+    /// - for an undecided actor, the number of the actor;
+    /// - for an excess of rounds, the number of the client kind;
+    /// - for any other finding, 0.
     fn number(&self) -> usize
         ensures { result ≡ spec.number_of self.now }
     {

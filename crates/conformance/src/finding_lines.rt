@@ -14,8 +14,7 @@ use job_bodies::Plan;
 use recordings::{ForeignGet, InvalidatingEvent, Invalidation, RecordedActor};
 use std::alloc::AllocError;
 
-/// Appends each finding as a line, such as `line 3: pool db: max 20, plan 10`. Appends nothing if
-/// there are no findings.
+/// Appends a line for each finding, such as `line 3: pool db: max 20, plan 10`.
 ///
 /// # Errors
 ///
@@ -158,7 +157,8 @@ fn push_invalidation(
     push_event(text, invalidation.event, &label.name, &label.pool)
 }
 
-/// Appends an event. `name` and `pool` are the names in the label of [`Finding::Invalidation`].
+/// Appends an event. `name` and `pool` are the two names in the label of the finding
+/// ([`Finding::Invalidation`]).
 fn push_event(
     text: &mut String,
     event: InvalidatingEvent,

@@ -21,8 +21,9 @@ use recordings::RecordedActor;
 use std::alloc::AllocError;
 
 impl ActorClassifier {
-    /// Classifies each actor that is still unsettled at the end of the recording. Appends the jobs
-    /// to `reported` in descending order of their numbers, then the rounds.
+    /// Classifies each actor that is not yet classified at the end of the recording, and appends
+    /// the results to `reported`. The jobs come first, in descending order of their numbers, and
+    /// then the rounds.
     ///
     /// # Errors
     ///

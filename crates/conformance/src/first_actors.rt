@@ -8,7 +8,7 @@ use crate::ClassifiedActor;
 use recordings::RecordedActor;
 use std::alloc::{AllocError, Global};
 
-/// A set that keeps, for each label, the actor with the smallest number.
+/// A set of classified actors that has, for each label, only the actor with the smallest number.
 #[derive(Drop)]
 pub(crate) struct FirstActors {
     pub(crate) actors: Vec<ClassifiedActor>,
@@ -24,8 +24,8 @@ impl FirstActors {
         }
     }
 
-    /// Adds an actor if the set has none of the same label. If it has one with a larger number,
-    /// replaces that one. Otherwise does nothing.
+    /// Adds the actor unless the set has an actor of the same label with a smaller or equal number.
+    /// An actor of this label with a larger number is replaced.
     ///
     /// # Errors
     ///
@@ -61,7 +61,8 @@ impl FirstActors {
     }
 }
 
-/// Returns true if both are jobs of the same class and pool, or rounds of the same kind.
+/// Returns true if both actors are jobs of the same class and pool, or both are rounds of the same
+/// kind.
 fn is_same_label(one: &ClassifiedActor, other: &ClassifiedActor) -> bool
     ensures { result ≡ spec.is_same_label one.now other.now }
 {

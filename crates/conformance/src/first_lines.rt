@@ -26,12 +26,13 @@ pub(crate) struct FoundLine {
     pool: String,
 }
 
-/// A map from conditions to the first lines that meet them, or to `None` if no line does.
+/// A map from conditions to the first lines that meet them. The value is `None` if no line meets
+/// the condition.
 pub(crate) type LineTable = HashMap<LineQuery, Option<FoundLine>>;
 
 /// The text of a recording, and the first lines that meet some conditions.
 ///
-/// In contracts, its value is the text.
+/// In contracts, the value of this type is the text.
 #[derive(Drop)]
 pub(crate) struct FirstLines<'a> {
     text: &'a [u8],
@@ -51,7 +52,8 @@ impl<'a> Model for FirstLines<'a> {
 }
 
 impl<'a> FirstLines<'a> {
-    /// Finds the first lines of the text that meet these conditions.
+    /// Creates the value for this text, and finds the first line that meets each of these
+    /// conditions.
     ///
     /// # Errors
     ///
@@ -71,9 +73,9 @@ impl<'a> FirstLines<'a> {
         Ok(FirstLines { text, table })
     }
 
-    /// Returns the first line that meets the condition, or `None` if no line does. This takes a
-    /// look-up if the condition was passed to [`new`](FirstLines::new). Otherwise it takes a search
-    /// in the text.
+    /// Returns the first line that meets the condition, or `None` if no line does. If the condition
+    /// was passed to [`new`](FirstLines::new), this is only a look-up. Otherwise this call searches
+    /// the text.
     ///
     /// # Errors
     ///
@@ -91,7 +93,7 @@ impl<'a> FirstLines<'a> {
         }
     }
 
-    /// Returns the label of a job. Both names are empty if no line submits the job.
+    /// Returns the label of a job. Both names of the label are empty if no line submits the job.
     ///
     /// # Errors
     ///
@@ -110,7 +112,7 @@ impl<'a> FirstLines<'a> {
     }
 }
 
-/// Adds the condition to the table, with no line that meets it.
+/// Adds the condition to the table, with `None` as its line.
 fn seek(table: &mut LineTable, query: LineQuery) -> Result<(), AllocError>
     ensures { spec.AreFirst [] table.old → OnOk result (spec.AreFirst [] table.new) }
 {
@@ -118,8 +120,8 @@ fn seek(table: &mut LineTable, query: LineQuery) -> Result<(), AllocError>
     Ok(())
 }
 
-/// Reads all lines, and stores the first line for each condition. Reads no lines if there are no
-/// conditions.
+/// Reads all lines, and stores the first line that meets each condition of the table. Reads no
+/// lines if the table has no conditions.
 fn note_lines(alloc: Global, text: &[u8], table: &mut LineTable) -> Result<(), AllocError>
     ensures { spec.AreFirst [] table.old → OnOk result (spec.AreFirst (lines_of text.now) table.new) }
 {
@@ -135,7 +137,8 @@ fn note_lines(alloc: Global, text: &[u8], table: &mut LineTable) -> Result<(), A
     Ok(())
 }
 
-/// Stores line `number` for the condition that it meets, if no earlier line meets this condition.
+/// Stores line `number` for the condition that the line meets, if the table has this condition and
+/// no line for it yet.
 fn note_line(
     alloc: Global,
     number: usize,

@@ -14,8 +14,8 @@ use job_bodies::Plan;
 use recordings::Line;
 use std::alloc::{AllocError, Global};
 
-/// For each of the handlers `abort`, `caller_runs` and `discard`, the pools that have another
-/// handler in some line. Also the pools that are shut down.
+/// The pools that have a handler other than `abort` in some line, the same for `caller_runs` and
+/// `discard`, and the pools that are shut down.
 #[derive(Drop)]
 pub(crate) struct Handlers {
     not_abort: PoolNames,
@@ -37,7 +37,7 @@ impl Handlers {
         }
     }
 
-    /// Reads a line.
+    /// Updates the state for the next line of the recording.
     ///
     /// # Errors
     ///
@@ -68,7 +68,7 @@ impl Handlers {
         }
     }
 
-    /// Returns the rule of each pool of the plan, in the order of the plan.
+    /// Returns the rejection rule of each pool of the plan, in the order of the plan.
     ///
     /// # Errors
     ///

@@ -22,8 +22,8 @@ pub(crate) struct JobClasses {
     pub(crate) is_decided: bool,
 }
 
-/// A map from jobs to the classes that they can belong to. It has the settled jobs whose submitters
-/// are not settled.
+/// A map from job numbers to the classes that the jobs can belong to. It has the jobs that are
+/// already classified, but whose submitters are not yet classified.
 #[derive(Drop)]
 pub(crate) struct ClassTable {
     jobs: IdMap<JobClasses>,
@@ -41,7 +41,7 @@ impl ClassTable {
         }
     }
 
-    /// Stores the classes of a settled job.
+    /// Stores the classes of a classified job.
     ///
     /// # Errors
     ///
@@ -55,8 +55,8 @@ impl ClassTable {
         self.jobs.insert(job, classes)
     }
 
-    /// Stores the classes of the actor, if it is a job in the path of its submitter. Does nothing
-    /// for a refused job and for a round, since they are in no path.
+    /// Stores the classes of the actor if it is a job in the path of its submitter. Refused jobs
+    /// and rounds are in no path, so nothing is stored for them.
     ///
     /// # Errors
     ///
@@ -81,8 +81,8 @@ impl ClassTable {
         Ok(())
     }
 
-    /// Returns the index of the first submit of an unsettled job in the path, starting at `from`.
-    /// Returns the length of the path if there is no such submit.
+    /// Returns the index of the first submit in the path, at or after index `from`, whose job is
+    /// not in the table. Returns the length of the path if there is no such submit.
     pub(crate) fn first_unsettled(&self, path: &[RecordedStep], from: usize) -> usize
         ensures within { from ≤ length path.now → result ≤ length path.now }
         ensures before { AreSettledBefore self.now path.now from
@@ -106,10 +106,10 @@ impl ClassTable {
         }
     }
 
-    /// Replaces the contents of `steps` with the steps of the path. Each submit has the classes of
-    /// its job, and the job is removed from the table. A job that is not in the table has no
-    /// classes, and they are undecided. Returns true if the classes of all jobs of the path are
-    /// decided.
+    /// Replaces the contents of `steps` with the steps of the path, in which each submit has the
+    /// classes of its job. Removes the jobs of the path from the table. If a job is not in the
+    /// table, its submit has no classes, and its classes count as undecided. Returns true if the
+    /// classes of all jobs of the path are decided.
     ///
     /// # Errors
     ///

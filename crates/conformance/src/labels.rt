@@ -7,7 +7,7 @@ ghost use Rattle.conformance.specs.LabelSet.{has_label, pair_text};
 use std::alloc::{AllocError, Global};
 use std::collections::HashSet;
 
-/// A set of labels.
+/// A set of labels, which are texts such as the name of a client kind, or a class with its pool.
 #[derive(Drop)]
 pub(crate) struct LabelSet {
     labels: HashSet<String>,
@@ -48,7 +48,7 @@ impl LabelSet {
     }
 }
 
-/// Returns a class and its pool as one label. A space separates them, as in a `submit` line.
+/// Returns a class and its pool as one text, separated by a space as in a `submit` line.
 pub(crate) fn pair(alloc: Global, class: &str, pool: &str) -> Result<String, AllocError>
     ensures { IfOk result (λ text. string_bytes text ≡ pair_text class.now pool.now) }
 {

@@ -2,8 +2,9 @@
 
 ghost use Rattle.conformance.specs.Laws.{PathsStay, JobsAreLater, ClassesStay, KindsStay, ClassesAreDetermined, KindsAreDetermined};
 
-/// Proves that later lines do not change the path of an ended actor or the classes of a settled
-/// actor.
+/// States that later lines change neither the path of an ended actor, nor the classes of a settled
+/// job, nor the kinds of a settled round. Also states that a job submits only jobs with larger
+/// numbers.
 pub fn settled_actors_stay()
     ensures paths { PathsStay }
     ensures later { JobsAreLater }
@@ -11,7 +12,8 @@ pub fn settled_actors_stay()
     ensures kinds { KindsStay }
 {}
 
-/// Proves that the lines determine the classes that a job can belong to, and the kinds of a round.
+/// States that the lines of a recording determine the classes that a job can belong to, and the
+/// kinds that a round can belong to.
 pub fn classes_are_determined()
     ensures classes { ClassesAreDetermined }
     ensures kinds { KindsAreDetermined }

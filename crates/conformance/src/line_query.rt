@@ -62,7 +62,8 @@ impl LineQuery {
     }
 }
 
-/// Returns the condition that the line meets, if any. A line meets at most one.
+/// Returns the condition that the line meets, or `None` if the line meets none. A line meets at
+/// most one condition.
 pub(crate) fn query_of(line: &Line<'_>) -> Option<LineQuery>
     ensures { result ≡ spec.query_of (line_view line.now) }
 {
@@ -90,7 +91,7 @@ fn is_same_actor(one: RecordedActor, other: RecordedActor) -> bool
     }
 }
 
-/// Returns the first line of the text that meets the condition, and the number of this line, from
+/// Returns the first line of the text that meets the condition, with the number of the line, from
 /// 1. Returns `None` if no line meets the condition.
 pub(crate) fn first_line(text: &[u8], line_query: LineQuery) -> Option<(usize, Line<'_>)>
     ensures { spec.IsFirstLine (lines_of text.now) line_query (spec.found_seen result) }

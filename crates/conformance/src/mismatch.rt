@@ -11,50 +11,53 @@ use recordings::RecordedActor;
 use std::alloc::AllocError;
 use support::push_number;
 
-/// An actor whose path matches no body of its label. The label is in the plan.
+/// An actor whose path matches no body of its label, which is its class and pool, or its client
+/// kind. The label is in the plan.
 #[derive(Drop)]
 pub struct PathMismatch {
     pub actor: RecordedActor,
     pub label: ActorLabel,
     /// The step after the longest prefix of the path that a body explains, or the actor's end if
-    /// that prefix is the whole path.
+    /// this prefix is the whole path.
     pub step: DeviatingStep,
-    /// The last step of that prefix, or `None` if the prefix is empty.
+    /// The last step of the longest prefix of the path that a body explains, or `None` if this
+    /// prefix is empty.
     pub after: Option<NamedStep>,
 }
 
-/// The first step of an actor that no body of its label explains, or the actor's end if it came too
-/// early.
+/// The first step of an actor that no body of its label explains, or the actor's end if the actor
+/// ended too early.
 #[derive(Drop)]
 pub enum DeviatingStep {
-    /// The actor submitted a job of this class to this pool. Its body has no such submit left.
+    /// The actor submitted a job of this class to this pool. The actor's body has no such submit
+    /// left.
     Submits(ActorLabel),
-    /// The actor submitted a job of this class to this pool while too many jobs of the actor were
-    /// open. Its body has such a submit left.
+    /// The actor submitted a job of this class to this pool while too many of its jobs were open.
+    /// The actor's body has such a submit left.
     SubmitsWhileOpen {
         label: ActorLabel,
         excess: OpenExcess,
     },
-    /// The actor got a job of this class and pool. Its body has no such get left.
+    /// The actor got a job of this class and pool. The actor's body has no such get left.
     Gets(ActorLabel),
-    /// The actor submitted this job. The path of the job matches no class of its label, although
-    /// the plan has such a class in the pool.
+    /// The actor submitted this job. The path of the job matches no class of the job's label,
+    /// although the plan has at least one class of this label.
     SubmitsMismatched {
         job: usize,
         label: ActorLabel,
     },
-    /// The actor submitted this job, and the plan has no class of its label in the pool.
+    /// The actor submitted this job. The plan has no class of the job's label.
     SubmitsUnplanned {
         job: usize,
         label: ActorLabel,
     },
-    /// The actor ended before a get of its body. `job` is the first job that it submitted and did
-    /// not get, and `label` is the label of this job.
+    /// The actor ended, although its body still has a get. `job` is the first job that the actor
+    /// submitted and did not get, and `label` is the label of this job.
     EndsOpen {
         job: usize,
         label: ActorLabel,
     },
-    /// The actor got all its jobs, and ended before a get of its body.
+    /// The actor got all its jobs and ended, although its body still has a get.
     Ends,
 }
 

@@ -9,22 +9,22 @@ use crate::step::PathStep;
 use job_bodies::Action;
 use std::alloc::{AllocError, Global};
 
-/// A rule that picks one of the classes of each job in a path. It picks only classes that a body
-/// submits.
+/// A rule that picks one class for each job in a path, among the classes that the job may belong
+/// to. It picks only classes that the body submits.
 #[derive(Clone, Copy)]
 pub(crate) enum Pick {
     /// The first of the job's classes that the body submits.
     First,
     /// The last of the job's classes that the body submits.
     Last,
-    /// The class of the next submit in the body that has a class of the job. The search begins
-    /// after the submit that was last found for an earlier job of the path. For the first job, it
-    /// begins at the start of the body.
+    /// The class of the first submit in a part of the body that submits one of the job's classes.
+    /// The part begins after the submit that was found in this way for an earlier job of the path.
+    /// For the first job, the part is the whole body.
     InOrder,
 }
 
-/// Returns the path with one class for each job, picked by the rule `pick`. A job for which the
-/// rule picks no class has no classes in the result.
+/// Returns the path with at most one class for each job: the class that the rule `pick` picks. If
+/// the rule picks no class for a job, the job has no classes in the result.
 ///
 /// # Errors
 ///
@@ -46,7 +46,7 @@ pub(crate) fn narrowed(
     Ok(fewer)
 }
 
-/// Returns a submit with the class that `pick` selects, or with no class if it selects none.
+/// Returns a submit with only the class that `pick` picks, or with no class if the rule picks none.
 /// Returns a get unchanged. [`Pick::InOrder`] searches the body from index `from`, and moves `from`
 /// past the submit that it finds.
 fn narrowed_step(
@@ -68,7 +68,7 @@ fn narrowed_step(
     }
 }
 
-/// Returns a list of the picked class, or an empty list if no class was picked.
+/// Returns a list with only the picked class, or an empty list if no class was picked.
 fn one_class(alloc: Global, picked: Option<usize>) -> Result<Vec<usize>, AllocError>
     ensures { IfOk result (λ fewer. fewer.items ≡ option_to_list picked) }
 {
@@ -79,9 +79,9 @@ fn one_class(alloc: Global, picked: Option<usize>) -> Result<Vec<usize>, AllocEr
     Ok(fewer)
 }
 
-/// Returns the class that the rule `pick` picks from the `classes` of a job, or `None` if it picks
-/// none of them. [`Pick::InOrder`] searches the body only from index `from`, and moves `from` past
-/// the submit that it finds. The other rules do not use `from`.
+/// Returns the class that the rule `pick` picks from `classes`, the classes of a job. Returns
+/// `None` if the rule picks none. [`Pick::InOrder`] searches the body from index `from`, and moves
+/// `from` past the submit that it finds. The other rules do not use `from`.
 fn picked_class(body: &[Action], from: &mut usize, classes: &[usize], pick: Pick) -> Option<usize>
     ensures { IfSome result (λ class. Contains classes.now class) }
 {
@@ -92,8 +92,8 @@ fn picked_class(body: &[Action], from: &mut usize, classes: &[usize], pick: Pick
     }
 }
 
-/// Returns the first class in `classes` that the body submits, or `None` if it submits none of
-/// them.
+/// Returns the first class in `classes` that the body submits, or `None` if the body submits none
+/// of the classes.
 fn first_class(body: &[Action], classes: &[usize]) -> Option<usize>
     ensures { IfSome result (λ class. Contains classes.now class) }
 {
@@ -105,7 +105,8 @@ fn first_class(body: &[Action], classes: &[usize]) -> Option<usize>
     None
 }
 
-/// Returns the last class in `classes` that the body submits, or `None` if it submits none of them.
+/// Returns the last class in `classes` that the body submits, or `None` if the body submits none of
+/// the classes.
 fn last_class(body: &[Action], classes: &[usize]) -> Option<usize>
     ensures { IfSome result (λ class. Contains classes.now class) }
 {
@@ -118,8 +119,8 @@ fn last_class(body: &[Action], classes: &[usize]) -> Option<usize>
     last
 }
 
-/// Finds the first submit of one of the classes at or after index `from` of the body. Returns its
-/// class, and moves `from` past the submit. Returns `None` if there is no such submit.
+/// Returns the class of the first submit, at or after index `from` of the body, that submits one of
+/// the classes. Moves `from` past this submit. Returns `None` if there is no such submit.
 fn next_class(body: &[Action], from: &mut usize, classes: &[usize]) -> Option<usize>
     ensures { IfSome result (λ class. Contains classes.now class) }
 {

@@ -14,8 +14,8 @@ use recordings::Line;
 use std::alloc::{AllocError, Global};
 use support::IdMap;
 
-/// A map from open rounds to the kinds that they count as, or to `None` if a round counts as no
-/// kind of the plan.
+/// A map from open rounds to the client kinds that they count as. The value is `None` if the round
+/// counts as no kind of the plan.
 #[derive(Drop)]
 pub(crate) struct OpenRounds {
     kinds: IdMap<Option<usize>>,
@@ -32,9 +32,11 @@ impl OpenRounds {
     }
 
     /// Reads the next line of a valid recording. If the line begins or ends a round, returns the
-    /// kind that the round counts as, or `None` if it counts as no kind of the plan. Returns `None`
-    /// for any other line. A round counts as its kind in `others` when it begins, or as the first
-    /// kind of its label if `others` does not have the round.
+    /// client kind that the round counts as, or `None` if it counts as no kind of the plan. Returns
+    /// `None` for any other line.
+    ///
+    /// At its begin, a round gets its kind in `others`, or the first kind of its label if `others`
+    /// does not have the round. At its end, it still counts as this kind.
     ///
     /// # Errors
     ///

@@ -12,8 +12,9 @@ use recordings::RecordedActor;
 use std::alloc::{AllocError, Global};
 use support::IdMap;
 
-/// A map from rounds to the kinds that they count as. It has only the rounds that do not count as
-/// the first kind of their label. A round whose kind is undecided counts as no kind.
+/// A map from rounds to the client kinds that they count as, or to `None` for a round that counts
+/// as no kind. It has only the rounds that do not count as the first kind of their label. A round
+/// whose kind is undecided counts as no kind.
 #[derive(Drop)]
 pub(crate) struct OtherKinds {
     kinds: IdMap<Option<usize>>,
@@ -50,8 +51,8 @@ impl OtherKinds {
         Ok(())
     }
 
-    /// Returns the kind that a round counts as, or `None` if it counts as no kind of the plan. This
-    /// is the first kind of `label` if the map does not have the round.
+    /// Returns the client kind that a round counts as, or `None` if the round counts as no kind of
+    /// the plan. If the map does not have the round, it counts as the first kind of `label`.
     pub(crate) fn kind_of(&self, plan: &Plan, round: usize, label: &str) -> Option<usize>
         ensures { result ≡ spec.kind_by plan.now self.now round label.now }
     {

@@ -15,21 +15,26 @@ use crate::walk_state::{Progress, WalkState};
 use job_bodies::Action;
 use std::alloc::{AllocError, Global};
 
-/// Matches the path of an actor against a body.
+/// Matches the path of an actor against a body. `path_state` says whether the path is whole or the
+/// actor may continue.
 ///
-/// The path matches if it and the body can be walked together, each in its own order. At each
-/// moment, for each class, the path must have at most as many open jobs as the body. Each submit of
-/// the path goes together with a submit of the same class in the body. The body may submit more.
-/// The path may get its jobs in any order, and sooner than the body. A job gets only jobs of
-/// classes that its body still gets. If `path_state` is [`PathState::Whole`], the body must be able
-/// to reach its end with the path.
+/// The path matches if there is a joint walk over the path and the body, each in its own order, for
+/// which these conditions hold:
+///
+/// - At each moment, for each class, the path has at most as many open jobs as the body.
+/// - Each submit of the path is made at the same time as a submit of the same class in the body.
+///   The body may have more submits.
+/// - The path may get its jobs in any order, and earlier than the body. A job may get only jobs of
+///   classes that its body still gets.
+/// - If `path_state` is [`PathState::Whole`], the walk can reach the end of the body.
 ///
 /// The result is [`PathMatch::Undecided`] only if a job of the path may belong to several classes
-/// that the body submits, and none of the assignments that were tried matches. Three assignments
-/// are tried. Among the classes of a job that the body submits, they choose the first class, the
-/// last class, or the class of the next submit that fits.
+/// that the body submits, and none of three assignments of classes to jobs matches. Among the
+/// classes of a job that the body submits, the assignments choose the first class, the last class,
+/// and the class of the next submit that fits.
 ///
-/// The number of steps is at most proportional to the length of the body times that of the path.
+/// The number of steps is at most proportional to the length of the body times the length of the
+/// path.
 ///
 /// # Errors
 ///
@@ -70,8 +75,8 @@ pub fn match_path(
     }
 }
 
-/// Matches the path against the body, one step of the path after the other. The path deviates at
-/// the first step that cannot be walked together with the body. If the walk first reaches the
+/// Matches the path against the body in a joint walk, one step of the path after the other. The
+/// path deviates at the first step that the walk cannot make. If the walk comes before that to the
 /// submit of a job that may belong to several classes that the body submits, the result is
 /// undecided.
 ///
@@ -116,8 +121,8 @@ fn match_exactly(
     Ok(match_at_end(&state, body, path, path_state))
 }
 
-/// Returns true if the path matches the body when one of the rules of [`Pick`] selects the classes
-/// of its jobs.
+/// Returns true if the path matches the body for at least one rule of [`Pick`], which picks the
+/// classes of the path's jobs.
 ///
 /// # Errors
 ///
@@ -142,7 +147,8 @@ fn fits_narrowed(
     Ok(fits)
 }
 
-/// Returns true if the path matches the body when the rule `pick` selects the classes of its jobs.
+/// Returns true if the path matches the body when the rule `pick` picks the classes of the path's
+/// jobs.
 ///
 /// # Errors
 ///
@@ -166,8 +172,8 @@ fn fits_with(
     }
 }
 
-/// Returns the result for a path whose steps could all be walked together with the body. `state` is
-/// the state after the last step. A whole path matches only if the body can be at its end.
+/// Returns the result for a path all of whose steps the walk could make. `state` is the state after
+/// the last step. A whole path matches only if the body can be at its end.
 fn match_at_end(
     state: &WalkState,
     body: &[Action],

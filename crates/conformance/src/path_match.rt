@@ -7,10 +7,11 @@ use crate::explained_prefix::ExplainedPrefix;
 pub enum PathMatch {
     /// The path matches the body.
     Fits,
-    /// The path does not match. The field is the longest prefix that the body explains. The step
-    /// after the prefix deviates. If there is no such step, the actor ended too early.
+    /// The path does not match the body. The field is the longest prefix of the path that the body
+    /// explains. The step after the prefix deviates, or, if there is no such step, the actor ended
+    /// too early.
     Deviates(ExplainedPrefix),
-    /// A job of the path may belong to several classes that the body submits, and none of the
-    /// assignments that were tried matches.
+    /// A job of the path may belong to several classes that the body submits. None of the
+    /// assignments of classes to jobs that were tried matches.
     Undecided,
 }

@@ -23,20 +23,21 @@ pub enum PoolDeviation {
         line: usize,
         pool: String,
     },
-    /// A line in which a pool differs from the plan. `pool` is the number of the pool in the plan.
+    /// A difference from the plan in a line of a pool. `pool` is the number of the pool in the
+    /// plan.
     Differs {
         line: usize,
         pool: usize,
         difference: Difference,
     },
-    /// A pool of the plan has no line, although the recording ends with `end`. `pool` is its number
-    /// in the plan.
+    /// A pool of the plan that has no line, although the recording ends with `end`. `pool` is the
+    /// number of the pool in the plan.
     NotRecorded {
         pool: usize,
     },
 }
 
-/// A comparison of the pools of a recording with those of a plan, line by line.
+/// A comparison of the pools of a recording with the pools of a plan, line by line.
 ///
 /// It stores the name of each recorded pool, and the differences that were reported for each pool
 /// of the plan.
@@ -61,13 +62,15 @@ impl PoolComparison {
         }
     }
 
-    /// Reads line `number`. Appends the pool if the plan lacks it and this is the first line of the
-    /// pool. Appends each [`Difference`] between the pool and the plan that no earlier line had.
-    /// The number of prestarted threads is compared only in the first line of a pool.
+    /// Reads line `number`. If it is a line of a pool, appends these deviations to `found`:
+    ///
+    /// - the pool, if the plan lacks it and this is the first line of the pool;
+    /// - each [`Difference`] between the pool and the plan that no earlier line had. The number of
+    ///   prestarted threads is compared only in the first line of a pool.
     ///
     /// # Errors
     ///
-    /// Returns `AllocError` if memory runs out. The comparison must not be used after that.
+    /// Returns `AllocError` if memory runs out. The comparison must not be used after an error.
     pub fn take(
         &mut self,
         plan: &Plan,
@@ -209,7 +212,7 @@ impl PoolComparison {
     }
 }
 
-/// Returns the number of the plan's pool with this name, if there is one.
+/// Returns the number of the plan's pool with this name, or `None` if there is no such pool.
 pub(crate) fn pool_named(plan: &Plan, name: &str) -> Option<usize>
     ensures is { result ≡ spec.pool_named plan.now name.now }
     ensures within { IfSome result (λ pool. pool < length plan.now.pools) }

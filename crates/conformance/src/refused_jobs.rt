@@ -22,7 +22,7 @@ use recordings::{Line, RecordedActor};
 use std::alloc::{AllocError, Global};
 use support::IdMap;
 
-/// Returns the jobs that a line refuses.
+/// Returns the set of the jobs that have a `refused` line.
 ///
 /// # Errors
 ///
@@ -50,7 +50,7 @@ fn note_refusal(jobs: &mut JobSet, line: &Line<'_>) -> Result<(), AllocError>
     }
 }
 
-/// The facts about some jobs in the lines read so far.
+/// The facts about a set of jobs that the lines read so far show.
 #[derive(Drop)]
 pub(crate) struct RefusedJobs {
     refused: JobSet,
@@ -78,7 +78,7 @@ impl RefusedJobs {
         }
     }
 
-    /// Reads a line.
+    /// Updates the facts for the next line of the recording.
     ///
     /// # Errors
     ///
@@ -94,8 +94,9 @@ impl RefusedJobs {
         note_start(&mut self.started, &self.refused, line)
     }
 
-    /// Returns the pool of the plan that the first `submit` line of the job names, if there is one.
-    /// The job must be one of those given to `new`.
+    /// Returns the number of the plan's pool that the first `submit` line of the job names. Returns
+    /// `None` if there is no such line or no such pool. The job must be one of those given to
+    /// `new`.
     pub(crate) fn pool_of(&self, job: usize) -> Option<usize>
         ensures { (plan : plans.Plan) (lines : List RecordedLine)
             → spec.AreFactsOf plan lines self.now
@@ -108,7 +109,7 @@ impl RefusedJobs {
         }
     }
 
-    /// Returns whether the job submits, gets or cancels a job, or calls `invokeAny`. The job must
+    /// Returns true if the job submits, gets or cancels a job, or calls `invokeAny`. The job must
     /// be one of those given to `new`.
     pub(crate) fn has_acted(&self, job: usize) -> bool
         ensures { (plan : plans.Plan) (lines : List RecordedLine)
@@ -119,7 +120,7 @@ impl RefusedJobs {
         self.acted.contains(job)
     }
 
-    /// Returns whether the job has a `start` line. The job must be one of those given to `new`.
+    /// Returns true if the job has a `start` line. The job must be one of those given to `new`.
     pub(crate) fn has_started(&self, job: usize) -> bool
         ensures { (plan : plans.Plan) (lines : List RecordedLine)
             → spec.AreFactsOf plan lines self.now
@@ -192,7 +193,7 @@ fn note_start(started: &mut JobSet, refused: &JobSet, line: &Line<'_>) -> Result
     }
 }
 
-/// Adds the job, if it is refused.
+/// Adds the job to `jobs` if it is in `refused`.
 fn insert_if(jobs: &mut JobSet, refused: &JobSet, job: usize) -> Result<(), AllocError>
     ensures { OnOk result
         ((one : ℕ)
@@ -205,8 +206,8 @@ fn insert_if(jobs: &mut JobSet, refused: &JobSet, job: usize) -> Result<(), Allo
     Ok(())
 }
 
-/// Returns the job that does something in this line: it submits, gets or cancels a job, or calls
-/// `invokeAny`.
+/// Returns the job that submits, gets or cancels a job, or calls `invokeAny`, in this line. Returns
+/// `None` if no job does so.
 fn acting_job(line: &Line<'_>) -> Option<usize>
     ensures { result ≡ rule.acting_job (line_view line.now) }
 {

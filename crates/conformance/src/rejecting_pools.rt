@@ -9,12 +9,16 @@ use crate::rejections::{Rejections, rejections_in};
 use job_bodies::{Plan, Pool};
 use std::alloc::{AllocError, Global};
 
-/// Returns the plan in which a pool may reject jobs exactly if it rejects jobs in the recording, or
-/// has a queue of 0. Nothing else of the plan changes.
+/// Returns the plan with a new value of the key `may_reject` for each pool, and no other change. In
+/// the result, a pool may reject jobs exactly if it rejects jobs in the recording or has a queue of
+/// 0.
 ///
-/// A pool rejects jobs in the recording if at least one of its jobs was refused, and the plan with
-/// `may_reject` for every pool allows each refusal of its jobs. [`conform`](crate::conform) lists
-/// when a plan allows a rejection. No plan allows a rejection by a pool with an unbounded queue.
+/// A pool rejects jobs in the recording if these conditions hold:
+///
+/// - At least one job of the pool was refused.
+/// - Each refusal of a job of the pool is allowed by the plan in which every pool may reject jobs.
+///   [`conform`](crate::conform) lists when a plan allows a rejection. No plan allows a rejection
+///   by a pool with an unbounded queue.
 ///
 /// Reads the recording three times. The memory grows with the number of refused jobs.
 ///
@@ -53,8 +57,8 @@ fn pools_with_key(alloc: Global, pools: &[Pool]) -> Result<Vec<Pool>, AllocError
     Ok(keyed)
 }
 
-/// Returns copies of the pools. A copy may reject jobs exactly if `rejections.only_rejects` returns
-/// true for the pool, or if its queue is 0.
+/// Returns copies of the pools with a new value of `may_reject`. A copy may reject jobs exactly if
+/// `rejections.only_rejects` returns true for the pool, or if its queue is 0.
 fn with_keys(
     alloc: Global,
     pools: &[Pool],

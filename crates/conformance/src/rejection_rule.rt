@@ -8,27 +8,29 @@ ghost use Rattle.conformance.specs.RejectionRule as spec;
 use job_bodies::{Action, Plan};
 use recordings::HandlerKind;
 
-/// The refusals by a pool that invalidate nothing.
+/// The rule that says which refusals by a pool do not invalidate a SAFE answer.
 #[derive(Clone, Copy)]
 pub(crate) enum RejectionRule {
-    /// No refusal.
+    /// No refusal is allowed: each invalidates a SAFE answer.
     Never,
-    /// Every refusal.
+    /// Every refusal is allowed.
     Always,
-    /// The refusal of a job that submits, gets and cancels no job and does not call `invokeAny`. If
-    /// `closes` is true, the job must also have a `start` line, and no `shutdown` of the pool may
-    /// precede the refusal.
+    /// The refusal of a job is allowed if the job submits, gets and cancels no job and does not
+    /// call `invokeAny`. If `closes` is true, the job must also have a `start` line, and no
+    /// `shutdown` of the pool may precede the refusal.
     IfCallerRuns {
-        /// Whether the recording has a `shutdown` of the pool. The handler may then have dropped
-        /// the job.
+        /// Whether the recording has a `shutdown` of the pool. If it has, the handler may have
+        /// dropped a job instead of running it.
         closes: bool,
     },
 }
 
 impl RejectionRule {
-    /// Returns whether the refusal of a job invalidates nothing. `acted` says whether the job
-    /// submits, gets or cancels a job or calls `invokeAny`, `started` whether it has a `start`
-    /// line, and `closed` whether a `shutdown` of the pool precedes the refusal.
+    /// Returns true if the rule allows the refusal of a job.
+    ///
+    /// - `acted` says whether the job submits, gets or cancels a job or calls `invokeAny`.
+    /// - `started` says whether the job has a `start` line.
+    /// - `closed` says whether a `shutdown` of the pool precedes the refusal.
     pub(crate) fn allows(self, acted: bool, started: bool, closed: bool) -> bool
         ensures { result ≡ spec.is_allowed_by self acted started closed }
     {
@@ -40,7 +42,7 @@ impl RejectionRule {
     }
 }
 
-/// Returns whether some pool of the plan may reject jobs.
+/// Returns true if at least one pool of the plan may reject jobs.
 #[tactic(auto, unfolding(crate::specs::RejectionRule::has_rejecting_pool))]
 pub(crate) fn has_rejecting_pool(plan: &Plan) -> bool
     ensures { result ≡ spec.has_rejecting_pool plan.now }
@@ -48,7 +50,7 @@ pub(crate) fn has_rejecting_pool(plan: &Plan) -> bool
     plan.pools().iter().any(|pool| pool.may_reject)
 }
 
-/// Returns whether some body of the plan gets a job of the pool.
+/// Returns true if at least one body of the plan gets a job of the pool.
 #[tactic(auto, unfolding(crate::specs::RejectionRule::is_got))]
 pub(crate) fn is_got(plan: &Plan, pool: usize) -> bool
     ensures { result ≡ spec.is_got plan.now pool }
@@ -109,22 +111,22 @@ fn class_of_submit(body: &[Action], submit: usize) -> usize
     }
 }
 
-/// Returns whether the handler throws an exception.
+/// Returns true if the handler throws an exception.
 pub(crate) fn is_abort(handler: HandlerKind) -> bool
     ensures { result ≡ spec.is_abort handler }
 {
     matches!(handler, HandlerKind::Abort)
 }
 
-/// Returns whether the handler runs the job in the thread of its submitter.
+/// Returns true if the handler runs the job in the thread of its submitter.
 pub(crate) fn is_caller_runs(handler: HandlerKind) -> bool
     ensures { result ≡ spec.is_caller_runs handler }
 {
     matches!(handler, HandlerKind::CallerRuns)
 }
 
-/// Returns whether the handler drops the new job without an exception. A handler that drops the
-/// oldest job of the queue instead accepts the new one, so it is not one of these.
+/// Returns true if the handler drops the new job without an exception. Returns false for a handler
+/// that accepts the new job and drops the oldest job of the queue instead.
 pub(crate) fn is_discard(handler: HandlerKind) -> bool
     ensures { result ≡ spec.is_discard handler }
 {

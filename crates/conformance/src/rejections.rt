@@ -21,7 +21,7 @@ use job_bodies::{Plan, Pool};
 use recordings::{InvalidatingEvent, Invalidation, Line, RecordedActor};
 use std::alloc::{AllocError, Global};
 
-/// The number of jobs that the pool with the number `pool` rejected.
+/// The number of jobs that a pool rejected, with the number of the pool in the plan.
 #[derive(Clone, Copy, PartialEq, Eq)]
 pub struct PoolRejections {
     pub pool: usize,
@@ -31,11 +31,11 @@ pub struct PoolRejections {
 /// The refusals in the lines read so far.
 #[derive(Drop)]
 pub(crate) struct Rejections {
-    /// The pools of the rejections that the plan allows, in the order of their lines.
+    /// The pool of each rejection that the plan allows, in the order of the lines.
     pools: Vec<usize>,
-    /// The pools of the other refusals, in the order of their lines.
+    /// The pool of each refusal that the plan does not allow, in the order of the lines.
     refusing: Vec<usize>,
-    /// The first other refusal.
+    /// The first refusal that the plan does not allow.
     pub(crate) first_refusal: Option<Invalidation>,
     // The pools that are shut down.
     shut: PoolNames,
@@ -165,15 +165,16 @@ impl Rejections {
         }
     }
 
-    /// Returns whether the pool refused a job, and the plan allows each refusal by the pool.
+    /// Returns true if the pool refused at least one job and the plan allows all refusals by the
+    /// pool.
     pub(crate) fn only_rejects(&self, pool: usize) -> bool
         ensures { result ≡ spec.only_rejected_by self.now pool }
     {
         is_among(pool, &self.pools) && !is_among(pool, &self.refusing)
     }
 
-    /// Returns the number of rejections of each pool that may reject jobs, in the order of the
-    /// plan.
+    /// Returns the number of allowed rejections for each pool that may reject jobs, in the order of
+    /// the plan.
     ///
     /// # Errors
     ///

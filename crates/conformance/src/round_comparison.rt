@@ -24,7 +24,7 @@ pub struct RoundExcess {
     pub excess: Excess,
 }
 
-/// The number of rounds of one client kind, and whether it has exceeded the plan's limits.
+/// The number of rounds of one client kind, and whether the kind has exceeded the plan's limits.
 #[derive(Drop)]
 struct KindRounds {
     rounds: RoundCount,
@@ -113,14 +113,14 @@ impl RoundComparison {
     /// Reads line `number` of a valid recording. If this is the first line at which a client kind
     /// has more rounds than the plan allows, appends the excess to `found`.
     ///
-    /// If the line begins or ends a round, `kind` is the number of the round's kind in the plan. It
-    /// must be the same in both lines. Rounds whose kind is `None` or out of range are not counted.
-    /// For any other line, `kind` is `None`.
+    /// If the line begins or ends a round, `kind` is the number of the round's client kind in the
+    /// plan. It must be the same in both lines of the round. The round is not counted if `kind` is
+    /// `None` or out of range. If the line neither begins nor ends a round, `kind` must be `None`.
     ///
     /// # Errors
     ///
     /// Returns `AllocError` if memory runs out, or if more than `MAX_RECORDED_ROUNDS` rounds of a
-    /// kind begin. The comparison must not be used after that.
+    /// kind begin. The comparison must not be used after an error.
     pub fn take(
         &mut self,
         kind: Option<usize>,

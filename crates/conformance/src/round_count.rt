@@ -9,8 +9,8 @@ use std::marker::Model;
 
 /// A counter for the rounds of one client kind, with the limits of the plan.
 ///
-/// In contracts, its value is the plan's `count` and `repeat`, and the numbers of rounds that began
-/// and ended.
+/// In contracts, the value of this type is the kind's `count` and `repeat` in the plan, and the
+/// numbers of rounds that began and ended.
 #[derive(Drop)]
 pub struct RoundCount {
     count: u64,
@@ -44,11 +44,11 @@ impl RoundCount {
         }
     }
 
-    /// Counts the begin of a round, and returns [`excess`](RoundCount::excess) after it.
+    /// Counts the begin of a round, and then returns [`excess`](RoundCount::excess).
     ///
     /// Fewer than [`MAX_RECORDED_ROUNDS`] rounds must have begun before, which
-    /// [`can_begin`](RoundCount::can_begin) tests. This is the case in any recording that numbers
-    /// its rounds in order.
+    /// [`can_begin`](RoundCount::can_begin) tests. This holds in any recording that numbers its
+    /// rounds in order.
     pub fn begin(&mut self) -> Option<Excess>
         requires { self.old.begun < MAX_RECORDED_ROUNDS }
         ensures excess_tracker { self.new ≡ record self.old { begun = self.old.begun + 1 } }
@@ -82,9 +82,11 @@ impl RoundCount {
         self.ended < self.begun
     }
 
-    /// Returns how the rounds exceed the plan: more than `count` are open at once or, if the kind
-    /// does not repeat, more than `count` began in all. If both hold, returns
-    /// [`Excess::Concurrent`]. Returns `None` if the rounds are within the plan.
+    /// Returns how the rounds exceed the plan, or `None` if they are within the plan:
+    ///
+    /// - [`Excess::Concurrent`] if more than `count` rounds are open at the same time;
+    /// - otherwise [`Excess::InAll`] if the kind does not repeat and more than `count` rounds began
+    ///   in all.
     pub fn excess(&self) -> Option<Excess>
         ensures exact { result ≡ spec.excess_of self.now }
         ensures none { IsNone result ↔ spec.IsWithinPlan self.now }

@@ -9,8 +9,8 @@ ghost use Rattle.conformance.specs.Path as spec;
 use crate::body_gets::BodyGet;
 use job_bodies::Action;
 
-/// Updates the row for a submit of the class in the path. The new row has the index after each
-/// submit of the class at which the body could be before. It has no other index.
+/// Updates `row`, the set of indices where the body can be, for a submit of the class in the path.
+/// The new row has exactly the index after each submit of the class that was in the old row.
 pub(crate) fn shift_row(row: &mut [bool], body: &[Action], class: usize)
     requires { length row.old ≡ length body.now + 1 }
     ensures first { slice_index_or row.new 0 false ≡ false }
@@ -43,7 +43,8 @@ fn is_submit_of(class: usize, action: Option<&Action>) -> bool
     }
 }
 
-/// Removes `end` and all later indices from the row.
+/// Removes the index `end` and all larger indices from `row`, the set of indices where the body can
+/// be.
 pub(crate) fn cut_row(row: &mut [bool], end: usize)
     ensures { (index : ℕ) → slice_index_or row.new index false
         ≡ (slice_index_or row.old index false && nat_lt index end) }
@@ -55,8 +56,8 @@ pub(crate) fn cut_row(row: &mut [bool], end: usize)
     }
 }
 
-/// Adds the indices that the body can reach without a step of the path. `passes` says for each
-/// action whether the body may pass it.
+/// Adds to `row` the indices that the body can reach from an index in `row` by passing actions.
+/// `passes` says for each action whether the body may pass the action.
 pub(crate) fn close_row(row: &mut [bool], passes: &[bool])
     requires { length row.old ≡ length passes.now + 1 }
     ensures first { slice_index_or row.new 0 false ≡ slice_index_or row.old 0 false }
@@ -73,8 +74,9 @@ pub(crate) fn close_row(row: &mut [bool], passes: &[bool])
     }
 }
 
-/// Updates `passes` for each get of the class. The body may pass the get if `count`, the number of
-/// jobs of the class that are open in the path, is at most the limit of the get.
+/// Updates `passes`, which says for each action whether the body may pass it, for the gets of the
+/// class. The body may pass such a get if `count` is at most the limit of the get. `count` is the
+/// number of jobs of the class that are open in the path.
 pub(crate) fn update_passes(
     passes: &mut [bool],
     gets: &[Option<BodyGet>],

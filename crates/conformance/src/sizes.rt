@@ -9,11 +9,12 @@ use recordings::{PoolSizes, QueueKind, UNBOUNDED_CAPACITY};
 use std::alloc::{AllocError, Global};
 
 /// Returns all differences between a `pool` line and the plan's pool, in the order of the variants
-/// of [`Difference`]. The list is empty exactly when the pool is as planned.
+/// of [`Difference`]. The list is empty exactly if the pool is as planned. These values are not
+/// always compared:
 ///
-/// The number of prestarted threads is compared only if this is the first line of the pool
-/// (`is_first`). The maximum is not compared if the plan's queue is unbounded, because it then has
-/// no effect. The handler is not compared, because a plan has none.
+/// - The number of prestarted threads is compared only in the first line of the pool (`is_first`).
+/// - The maximum is not compared if the plan's queue is unbounded, because it then has no effect.
+/// - The handler is never compared, because a plan has no handlers.
 ///
 /// # Errors
 ///
@@ -63,8 +64,9 @@ pub fn differences(
     Ok(found)
 }
 
-/// Returns whether the kind of the queue is that of the plan's pool: a `LinkedBlockingQueue` if the
-/// queue of the plan is unbounded.
+/// Returns true if the kind of the recorded queue fits the plan's queue. If the plan's queue is
+/// unbounded, only `LinkedBlockingQueue` fits. Otherwise, the kinds that fit depend on its capacity
+/// ([`is_kind_of`]).
 fn is_planned_kind(pool: &Pool, kind: QueueKind) -> bool
     ensures { result ≡ spec.is_planned_kind pool.now kind }
 {
@@ -86,7 +88,7 @@ fn planned_capacity(pool: &Pool) -> u64
     }
 }
 
-/// Returns the difference if the queue has this capacity, which is not that of the plan.
+/// Returns the difference for a recorded queue whose capacity is not that of the plan.
 fn capacity_difference(recorded: u64, pool: &Pool) -> Difference
     ensures { result ≡ spec.capacity_difference recorded pool.now }
 {
@@ -98,8 +100,9 @@ fn capacity_difference(recorded: u64, pool: &Pool) -> Difference
     }
 }
 
-/// Returns whether the kind of the queue is one that a plan describes by this capacity: a
-/// `SynchronousQueue` by 0, and one of the two bounded queues by any other number.
+/// Returns true if a plan can describe a queue of this kind by this capacity. A capacity of 0
+/// describes a `SynchronousQueue`. Any other capacity describes a bounded queue of one of the two
+/// kinds `ArrayBlockingQueue` and `LinkedBlockingQueue`.
 fn is_kind_of(capacity: u64, kind: QueueKind) -> bool
     ensures { result ≡ spec.is_kind_of capacity kind }
 {
@@ -122,7 +125,7 @@ fn is_array_or_linked(kind: QueueKind) -> bool
     matches!(kind, QueueKind::Array | QueueKind::Linked)
 }
 
-/// Appends the difference, unless `agree` is true.
+/// Appends the difference to the list, unless `agree` is true.
 fn push_unless(
     found: &mut Vec<Difference>,
     agree: bool,

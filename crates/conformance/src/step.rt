@@ -6,22 +6,23 @@ ghost use Rattle.conformance.specs.PathStep as spec;
 /// A step of an actor: a submit or a get.
 #[derive(Drop)]
 pub enum PathStep {
-    /// A submit of a job that may belong to any of these classes, by their numbers in the plan.
+    /// A submit of a job. The field has the numbers, in the plan, of the classes that the job may
+    /// belong to.
     Submits(Vec<usize>),
     /// A get of the job that is submitted at this index of the path.
     Gets(usize),
 }
 
-/// The kind of an actor. It decides which of its jobs the actor may get.
+/// The kind of an actor. It determines which of its own jobs the actor may get.
 #[derive(Clone, Copy, PartialEq, Eq)]
 pub enum ActorKind {
-    /// A job. It may get only jobs of classes that its body still gets.
+    /// A job. It may get only jobs of classes that the rest of its body gets.
     Job,
-    /// A round of a client. It may get any of its jobs, even one that its body does not get.
+    /// A round of a client. It may get any of its own jobs, even a job that its body does not get.
     Round,
 }
 
-/// The state of a path: whole, or only begun.
+/// Whether a path is whole or only a prefix.
 #[derive(Clone, Copy, PartialEq, Eq)]
 pub enum PathState {
     /// The whole path: the actor has ended.

@@ -72,7 +72,8 @@ impl LineSurvey {
         self.unplanned.take(plan, number, line)
     }
 
-    /// Adds the pools of the plan that the recording lacks, if the recording ends with `end`.
+    /// Adds a finding for each pool of the plan that the recording lacks, if the recording ends
+    /// with `end`.
     ///
     /// # Errors
     ///
@@ -105,7 +106,7 @@ impl ActorSurvey {
         ActorSurvey { verdicts, others }
     }
 
-    /// Records the classified actors and empties the list.
+    /// Adds the classified actors to the survey and empties the list.
     ///
     /// # Errors
     ///
@@ -166,7 +167,7 @@ impl Survey {
     }
 }
 
-/// Surveys a recording, or returns its first invalid line.
+/// Returns the survey of a recording, or the first invalid line of the recording.
 ///
 /// # Errors
 ///

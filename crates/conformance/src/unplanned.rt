@@ -11,7 +11,8 @@ use job_bodies::Plan;
 use recordings::Line;
 use std::alloc::{AllocError, Global};
 
-/// A label that is not in the plan, with the number of the first line that has it.
+/// A label that is not in the plan, with the number of the first line that has it. A label is a
+/// class with its pool, or a client kind.
 #[derive(Drop)]
 pub enum NotPlanned {
     /// A job of this class was submitted to this pool. The plan has no such class in the pool.
@@ -49,7 +50,8 @@ impl UnplannedLabels {
         }
     }
 
-    /// Reads line `number`. Records its label if the plan lacks it and no earlier line has it.
+    /// Reads line `number`. Adds the label of the line if the plan lacks the label and no earlier
+    /// line has it.
     ///
     /// # Errors
     ///

@@ -16,13 +16,15 @@ use job_bodies::Plan;
 use recordings::RecordedActor;
 use std::alloc::{AllocError, Global};
 
-/// For each label of the plan, the first actor, by number, whose path matches no body, and the
-/// first actor for which this is undecided.
+/// For each label of the plan, two actors:
+///
+/// - the first actor, by number, whose path matches no body;
+/// - the first actor, by number, for which it is undecided whether its path matches a body.
 #[derive(Drop)]
 pub(crate) struct Verdicts {
     pub(crate) mismatches: FirstActors,
     pub(crate) undecided: FirstActors,
-    /// The jobs whose path matches no class of their label, whether or not the plan has the label.
+    /// The jobs whose path matches no class of their label. The label need not be in the plan.
     pub(crate) classless: JobSet,
 }
 
@@ -38,9 +40,9 @@ impl Verdicts {
         }
     }
 
-    /// Records an actor whose path matches no body, or for which this is undecided, if the plan has
-    /// its label. Adds each job whose path matches no body to `classless`, even if the plan lacks
-    /// its label. Ignores any other actor.
+    /// Records the actor if the plan has its label, and the actor's path matches no body or the
+    /// match is undecided. Adds a job whose path matches no body to `classless`, even if the plan
+    /// lacks its label. Ignores any other actor.
     ///
     /// # Errors
     ///

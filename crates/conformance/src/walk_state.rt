@@ -21,25 +21,25 @@ use crate::step::{ActorKind, PathStep};
 use job_bodies::Action;
 use std::alloc::{AllocError, Global};
 
-/// The state of all walks of a body and a path, up to an index of the path.
+/// The state of all joint walks over a body and a path, up to an index of the path.
 #[derive(Drop)]
 pub(crate) struct WalkState {
     /// The open jobs of the path.
     jobs: Vec<OpenJob>,
-    /// For each action of the body, true if the body may pass it while these jobs are open in the
-    /// path.
+    /// For each action of the body, true if the body may pass the action while the jobs in `jobs`
+    /// are open in the path.
     passes: Vec<bool>,
-    /// For each index of the body and its end, true if the body can be there.
+    /// For each index of the body, including the index of its end, true if the body can be there.
     row: Vec<bool>,
 }
 
-/// The result of a step of the path.
+/// The result of trying a step of the path.
 #[derive(Clone, Copy)]
 pub(crate) enum Progress {
-    /// The path and the body can be walked together up to this step.
+    /// At least one joint walk over the path and the body makes this step.
     Advanced,
-    /// The path and the body cannot be walked together up to this step. If the step is a submit
-    /// that the body still has, the field has the open jobs that block it.
+    /// No joint walk over the path and the body makes this step. If the step is a submit that the
+    /// body still has, the field has the open jobs that block it.
     Stops(Option<OpenExcess>),
     /// The job of the step may belong to several classes that the body submits.
     Undecided,
@@ -64,8 +64,8 @@ impl WalkState {
         })
     }
 
-    /// Updates the state for `step`, which is at index `place` of the path. `gets` has the gets of
-    /// the body, and `kind` is the kind of the actor.
+    /// Updates the state for `step`, which is at index `place` of the path, and returns the result
+    /// of the step. `gets` has the gets of the body, and `kind` is the kind of the actor.
     ///
     /// # Errors
     ///
@@ -106,7 +106,7 @@ impl WalkState {
         }
     }
 
-    /// Returns true if the body can be at an index with a submit of the class.
+    /// Returns true if the body has a submit of the class at an index where the body can be.
     fn can_submit(&self, body: &[Action], class: usize) -> bool
         ensures can { IsTrue result → spec.CanSubmit body.now class self.now }
         ensures cannot { result ≡ false → ¬ spec.CanSubmit body.now class self.now }
@@ -119,8 +119,8 @@ impl WalkState {
         false
     }
 
-    /// Returns the open jobs that block the body before its next submit of the class. Returns
-    /// `None` if the body has no such submit left.
+    /// Returns the open jobs of the path that block the body before its next submit of the class.
+    /// Returns `None` if the body has no such submit left.
     fn open_excess(
         &self,
         body: &[Action],
@@ -146,7 +146,7 @@ impl WalkState {
         }
     }
 
-    /// Updates the state for a submit of the class, at index `job` of the path.
+    /// Updates the state for a submit of the class. The submit is at index `job` of the path.
     fn submit(
         &mut self,
         body: &[Action],
@@ -166,8 +166,8 @@ impl WalkState {
         Ok(())
     }
 
-    /// Updates the state for a get of the job that was submitted at index `job` of the path. No
-    /// walk is left if this job is not open.
+    /// Updates the state for a get of the job that was submitted at index `job` of the path. If
+    /// this job is not open, the body can be at no index afterwards.
     fn get(&mut self, kind: ActorKind, body: &[Action], gets: &[Option<BodyGet>], job: usize)
         requires gets { AreGets body.now gets.now }
         requires tables { spec.HasTables body.now self.old }
@@ -184,8 +184,8 @@ impl WalkState {
         }
     }
 
-    /// Returns [`Progress::Advanced`] if a walk is left, and otherwise [`Progress::Stops`] without
-    /// open jobs.
+    /// Returns [`Progress::Advanced`] if a walk is left, and otherwise [`Progress::Stops`] with
+    /// `None`.
     fn progress(&self) -> Progress
         ensures { result ≡ spec.progress_of self.now }
     {
@@ -196,7 +196,7 @@ impl WalkState {
         }
     }
 
-    /// Returns true if a walk is left: the body can be at some index.
+    /// Returns true if a walk is left, which means that the body can be at some index.
     fn is_begun(&self) -> bool
         ensures { result ≡ list_any (λ at. at) self.now.row.items }
     {
