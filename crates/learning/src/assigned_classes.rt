@@ -9,9 +9,9 @@ use std::collections::{HashMap, HashSet};
 /// The classes assigned to the classified jobs whose submitters are not yet classified.
 #[derive(Drop)]
 pub(crate) struct AssignedClasses {
-    /// The class of each job, by job number. It is `None` if no class was found.
+    /// The class of each job, by job number. The class is `None` if no class was found for the job.
     jobs: HashMap<usize, Option<usize>>,
-    /// The refused jobs that are not yet classified. A refused job is no part of its submitter's
+    /// The refused jobs that are not yet classified. A refused job is not part of its submitter's
     /// path.
     refused: HashSet<usize>,
 }
@@ -35,8 +35,8 @@ impl AssignedClasses {
         Ok(())
     }
 
-    /// Assigns the class to a job that was classified, or records that no class was found for it if
-    /// `class` is `None`. Drops the job instead if it was refused.
+    /// Stores the class of a job that was just classified. `class` is `None` if no class was found.
+    /// If the job was refused, stores nothing and removes the job from the refused jobs.
     ///
     /// # Errors
     ///
@@ -48,8 +48,8 @@ impl AssignedClasses {
         Ok(())
     }
 
-    /// Removes the jobs that this path submits. They are no longer needed once their submitter is
-    /// classified.
+    /// Removes the jobs that this path submits. Once the submitter of a job is classified, the
+    /// class of the job is no longer needed.
     pub(crate) fn forget(&mut self, path: &[RecordedStep]) {
         for step in path {
             if let RecordedStep::Submits(job) = *step {
@@ -58,8 +58,8 @@ impl AssignedClasses {
         }
     }
 
-    /// Returns the path with the class that is assigned to the job of each submit. Returns `None`
-    /// if a job has no class.
+    /// Returns the steps of the path, in which each submit has the class that is assigned to its
+    /// job. Returns `None` if a submitted job has no class.
     ///
     /// # Errors
     ///

@@ -2,9 +2,9 @@
 
 use job_bodies::Action;
 
-/// Returns true if the body costs less than the other body, or costs the same and has fewer
-/// actions. The cost of a class is the maximum number of its jobs that are open at once. The cost
-/// of a body is the sum over its classes.
+/// Returns true if `body` costs less than `other`, or if it costs the same and has fewer actions.
+/// The cost of a body is the sum, over the classes that it submits, of the maximum number of jobs
+/// of the class that are open at the same time.
 pub(crate) fn is_preferred(body: &[Action], other: &[Action]) -> bool {
     let peaks = sum_of_peaks(body);
     let other_peaks = sum_of_peaks(other);
@@ -31,8 +31,8 @@ fn is_first_submit(body: &[Action], position: usize, class: usize) -> bool {
         .any(|action| submits(action, class))
 }
 
-/// Returns the maximum number of jobs of the class that are open at once. A job is open from its
-/// submit to its get.
+/// Returns the maximum number of jobs of the class that are open in the body at the same time. A
+/// job is open from its submit to its get.
 fn peak_of(body: &[Action], class: usize) -> usize {
     let mut open: usize = 0;
     let mut peak: usize = 0;

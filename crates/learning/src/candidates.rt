@@ -7,24 +7,25 @@ use conformance::PathStep;
 use job_bodies::Action;
 use std::alloc::{AllocError, Global};
 
-/// The number of different [`Choices`], and so of candidates.
+/// The number of different values of [`Choices`]. For each of them there is one candidate.
 pub(crate) const CANDIDATES: usize = 8;
 
-/// The options for making a candidate.
+/// The options for making a candidate, which is a body that may match all paths.
 #[derive(Clone, Copy)]
 pub(crate) struct Choices {
-    /// True if each submit of the candidate is matched only with jobs that their paths get, or only
-    /// with jobs that their paths do not get.
+    /// True if no submit of the candidate is matched both with a job that its path gets and with a
+    /// job that its path does not get.
     pub(crate) marks_gets: bool,
-    /// True if the submits of the paths are merged from the last path to the first.
+    /// True if the submits of the paths are merged from the last path to the first, and false if
+    /// they are merged from the first path to the last.
     pub(crate) is_reversed: bool,
-    /// True if each path is matched with the last possible submits of the candidate instead of the
-    /// first.
+    /// True if each path is matched with the last possible submits of the candidate, and false if
+    /// it is matched with the first possible submits.
     pub(crate) is_late: bool,
 }
 
 impl Choices {
-    /// Returns the choices with this number, which is from 0 to [`CANDIDATES`] - 1.
+    /// Returns the choices with this number. The number is from 0 to [`CANDIDATES`] - 1.
     pub(crate) fn with_number(number: usize) -> Choices {
         Choices {
             marks_gets: number % 8 >= 4,
@@ -35,9 +36,10 @@ impl Choices {
 }
 
 /// Returns a body that has the submits of all paths and gets each job as soon as the paths allow.
-/// The choices select one of several such bodies. Returns `None` if [`job_steps`] returns `None`
-/// for a path, or if the body would have more submits than a body may have actions. The result need
-/// not cover the paths.
+/// Some path may still not match the body. `choices` selects one of several such bodies.
+///
+/// Returns `None` if [`job_steps`] returns `None` for a path, or if the body would have more
+/// submits than a body may have actions.
 ///
 /// # Errors
 ///
@@ -72,8 +74,9 @@ fn all_job_steps(
     Ok(Some(all))
 }
 
-/// Returns the body that submits these jobs in this order. `times` has, for each job, the index of
-/// the submit after which the body gets the job, or `None` if it does not get the job.
+/// Returns the body that submits the jobs in `common`, in this order. `times` has, for each job,
+/// the number of the submit after which the body gets the job, or `None` if the body does not get
+/// it.
 fn body_with_gets(
     alloc: Global,
     common: &[PathJob],
@@ -89,9 +92,12 @@ fn body_with_gets(
     Ok(body)
 }
 
-/// Appends the gets that come directly after submit number `time`, in the order of the submits
-/// whose jobs they get. `submits` has the index of each submit in the body. For each submit,
-/// `times` has the number of the submit after which the body gets its job, or `None`.
+/// Appends the gets that come directly after submit number `time`. They are in the order of the
+/// submits of the jobs that they get.
+///
+/// - `submits` has, for each submit so far, its index in the body.
+/// - `times` has, for each submit, the number of the submit after which the body gets its job, or
+///   `None` if the body does not get it.
 fn push_gets(
     body: &mut Vec<Action>,
     submits: &[usize],

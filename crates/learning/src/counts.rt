@@ -20,7 +20,7 @@ use std::alloc::{AllocError, Global};
 pub(crate) struct KindCount {
     pub(crate) begun: u64,
     pub(crate) ended: u64,
-    /// The maximum number of rounds that were open at once.
+    /// The maximum number of rounds that were open at the same time.
     pub(crate) most: u64,
 }
 
@@ -52,12 +52,13 @@ impl KindCount {
     }
 }
 
-/// Counts the rounds of each client kind. `kinds` has the kind of each round, by round number.
+/// Returns the counters for the rounds of each client kind. `kinds` has the kind of each round, by
+/// round number.
 ///
 /// # Errors
 ///
-/// - [`LearnError::InferenceLimit`] if a round has no kind, or if the name of its kind is not of
-///   the family of its label ([`is_of_family`]).
+/// - [`LearnError::InferenceLimit`] if a round has no kind, or if the name of the round's kind is
+///   not of the family of the round's label ([`is_of_family`]).
 /// - [`LearnError::Memory`] if memory runs out.
 pub(crate) fn kind_counts(
     alloc: Global,

@@ -21,18 +21,26 @@ use conformance::{ActorKind, PathMatch, PathState, PathStep, match_path};
 use job_bodies::{Action, MAX_ACTIONS};
 use std::alloc::{AllocError, Global};
 
-/// Returns a body that each of the paths matches. The paths belong to actors of this kind.
+/// Returns a body that each of the paths matches. The paths belong to actors of the kind `kind`.
+/// The result is found in these steps:
 ///
-/// If `body` is valid in a plan and all paths match it, returns `body`. Otherwise, for a single
-/// path, returns the body whose actions are the steps of the path. For several paths, makes several
-/// candidates and returns the best that covers the paths. A candidate has a common supersequence of
-/// the submits of the paths, and gets each job as soon as the paths allow. The best candidate has
-/// the smallest sum, over its classes, of the maximum number of jobs of the class that are open at
-/// once. Among equals, it has the fewest actions.
+/// - If `body` is valid in a plan and all paths match it, the result is `body`.
+/// - Otherwise, if `body` has `work`, the result is `None`.
+/// - Otherwise, if there is a single path, the result is the body whose actions are the steps of
+///   the path.
+/// - Otherwise, the result is the best of several candidates that all paths match. A candidate has
+///   all submits of each path, in the path's order, and gets each job as soon as the paths allow.
 ///
-/// Returns `None` if no body with at most [`MAX_ACTIONS`] actions is found. No body is found if the
-/// job of a submit cannot belong to any class, if a get names no earlier submit, or if two gets
-/// name the same submit. If `body` has `work`, the result is `body` or `None`.
+/// The best candidate has the smallest sum, over its classes, of the maximum number of jobs of the
+/// class that are open at the same time. Among candidates with the same sum, it has the fewest
+/// actions.
+///
+/// Returns `None` if no body with at most [`MAX_ACTIONS`] actions is found. Except for the first
+/// step, no body is found if one of these holds:
+///
+/// - The job of a submit cannot belong to any class.
+/// - A get names no earlier submit.
+/// - Two gets name the same submit.
 ///
 /// # Errors
 ///
@@ -70,7 +78,8 @@ pub fn covering_body(
     new_body(alloc, kind, paths)
 }
 
-/// Returns a body without `work` that each of the paths matches, or `None` if none is found.
+/// Returns a body without `work` that each of the paths matches, or `None` if no such body is
+/// found.
 fn new_body(
     alloc: Global,
     kind: ActorKind,
@@ -89,7 +98,7 @@ fn new_body(
     }
 }
 
-/// Returns the best candidate that all paths match, if there is one.
+/// Returns the best candidate that all paths match, or `None` if there is no such candidate.
 fn best_candidate(
     alloc: Global,
     kind: ActorKind,
@@ -115,7 +124,7 @@ fn is_better(body: &[Action], best: &Option<Vec<Action>>) -> bool {
     }
 }
 
-/// Returns true if the body has no `work`, is valid in a plan, and each of the paths matches it.
+/// Returns true if the body has no `work` and is valid in a plan, and each of the paths matches it.
 fn is_covering(
     alloc: Global,
     kind: ActorKind,
@@ -145,8 +154,8 @@ fn is_work(action: Action) -> bool
     }
 }
 
-/// Returns true if the body is valid in a plan that has its classes: it is not too long, and its
-/// gets are valid.
+/// Returns true if the body is not too long and its gets are valid. Such a body is valid in any
+/// plan that has its classes.
 fn is_valid(body: &[Action]) -> bool
     ensures short { IsTrue result → length body.now ≤ MAX_ACTIONS }
     ensures valid_gets { IsTrue result → HasValidGets body.now }
@@ -173,8 +182,8 @@ fn covers(
     Ok(true)
 }
 
-/// Returns true if the path matches the body. Returns false if it does not match, or if the search
-/// for a match ended without a decision.
+/// Returns true if the path matches the body. Returns false if it does not match, or if the match
+/// is undecided.
 fn is_path_of(
     alloc: Global,
     kind: ActorKind,

@@ -14,18 +14,18 @@ use crate::pass::run_pass;
 use job_bodies::Pool;
 use std::alloc::Global;
 
-/// The maximum number of passes. Two passes are typical: bodies change in the first, and every
-/// actor matches a body in the second.
+/// The maximum number of passes over the part of the recording. Two passes are typical: bodies
+/// change in the first pass, and every actor matches a body in the second.
 const MAX_PASSES: usize = 600;
 
-/// Changes the bodies until every actor of the part matches a body. Returns the client kind of each
-/// round, by round number.
+/// Changes the bodies until every actor in the part of the recording matches a body. Returns the
+/// client kind of each round, by round number.
 ///
 /// # Errors
 ///
-/// - [`LearnError::InferenceLimit`] if an actor matches no body after a pass that changed no body,
-///   or after [`MAX_PASSES`] passes. Also if the actors need more classes or client kinds than a
-///   plan may have, if a name would be too long, or if the draft does not form a valid plan.
+/// - [`LearnError::InferenceLimit`] in these cases: an actor matches no body after a pass that
+///   changed no body, or after [`MAX_PASSES`] passes; the actors need more classes or client kinds
+///   than a plan may have; a name would be too long; the draft does not form a valid plan.
 /// - [`LearnError::Memory`] if memory runs out.
 pub(crate) fn cover_all(
     alloc: Global,

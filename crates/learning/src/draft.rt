@@ -44,13 +44,13 @@ impl PlanDraft {
         }
     }
 
-    /// Adds the class or client kind that the line names, unless the draft already has it. Ignores
-    /// a class whose pool is not in `pools`.
+    /// Adds the class or client kind that the line names, unless the draft already has it. Does not
+    /// add a class whose pool is not in `pools`.
     ///
     /// # Errors
     ///
     /// - [`LearnError::InferenceLimit`] if a plan cannot have one more class or client kind, or if
-    ///   its name would be too long.
+    ///   the name of the new one would be too long.
     /// - [`LearnError::Memory`] if memory runs out.
     pub(crate) fn note(&mut self, pools: &[Pool], line: &Line<'_>) -> Result<(), LearnError>
         ensures ok { (lines : List RecordedLine)
@@ -74,7 +74,7 @@ impl PlanDraft {
         }
     }
 
-    /// Returns true if there are no classes and no client kinds.
+    /// Returns true if the draft has no classes and no client kinds.
     pub(crate) fn is_empty(&self) -> bool
         ensures { result
             ≡ (length self.now.classes.entries.items == 0
@@ -83,8 +83,8 @@ impl PlanDraft {
         self.classes.entries.is_empty() && self.kinds.entries.is_empty()
     }
 
-    /// Returns a plan with the bodies learned so far. Each client kind has one client, which does
-    /// not repeat.
+    /// Returns a plan with the bodies learned so far. In this plan, each client kind has a count of
+    /// 1 and does not repeat.
     ///
     /// # Errors
     ///
@@ -124,13 +124,15 @@ impl PlanDraft {
     }
 
     /// Returns the class of a job with this label, pool and path. If the path matches no body of
-    /// the label's classes, replaces one of these bodies or adds a class. Returns `None` if no body
-    /// was found that covers the path, or if the draft has no class of this label in the pool.
+    /// the label's classes, changes one of these bodies or adds a class.
+    ///
+    /// Returns `None` if no body is found that the path matches, or if the draft has no class of
+    /// this label in the pool.
     ///
     /// # Errors
     ///
-    /// - [`LearnError::InferenceLimit`] if a plan cannot have one more class, or if its name would
-    ///   be too long.
+    /// - [`LearnError::InferenceLimit`] if a plan cannot have one more class, or if the name of the
+    ///   new class would be too long.
     /// - [`LearnError::Memory`] if memory runs out.
     pub(crate) fn learn_job(
         &mut self,
@@ -153,13 +155,15 @@ impl PlanDraft {
     }
 
     /// Returns the client kind of a round with this label and path. If the path matches no body of
-    /// the label's kinds, replaces one of these bodies or adds a kind. Returns `None` if no body
-    /// was found that covers the path, or if the draft has no kind of this label.
+    /// the label's kinds, changes one of these bodies or adds a kind.
+    ///
+    /// Returns `None` if no body is found that the path matches, or if the draft has no kind of
+    /// this label.
     ///
     /// # Errors
     ///
-    /// - [`LearnError::InferenceLimit`] if a plan cannot have one more client kind, or if its name
-    ///   would be too long.
+    /// - [`LearnError::InferenceLimit`] if a plan cannot have one more client kind, or if the name
+    ///   of the new kind would be too long.
     /// - [`LearnError::Memory`] if memory runs out.
     pub(crate) fn learn_round(
         &mut self,
@@ -200,7 +204,8 @@ fn class_of(alloc: Global, entry: &Entry) -> Result<Class, AllocError>
     })
 }
 
-/// Returns the client kind of an entry, with this count and this value of `repeat`.
+/// Returns a client kind with the name and the body of an entry, and with this `count` and
+/// `repeat`.
 ///
 /// # Errors
 ///

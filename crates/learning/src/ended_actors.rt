@@ -20,7 +20,7 @@ impl EndedActors {
         }
     }
 
-    /// If the line ends an actor, adds this actor.
+    /// Adds the actor that the line ends, if the line ends an actor.
     ///
     /// # Errors
     ///

@@ -15,27 +15,29 @@ use conformance::{ActorKind, PathStep};
 use job_bodies::Action;
 use std::alloc::{AllocError, Global};
 
-/// A class or client kind, while its body is learned.
+/// A class or client kind whose body is being learned.
 #[derive(Drop)]
 pub(crate) struct Entry {
-    /// The name in the recording.
+    /// The name of the class or client kind in the recording.
     pub(crate) label: String,
     /// The number of the class's pool, or 0 for a client kind.
     pub(crate) pool: usize,
-    /// The name in the plan: the label, or the label followed by `_` and a number.
+    /// The name in the learned plan: the label, or the label followed by `_` and a number.
     pub(crate) name: String,
     pub(crate) body: Vec<Action>,
-    /// The paths that changed the body. All of them match it.
+    /// The paths for which the body was changed. All of them match the body.
     pub(crate) paths: Vec<Vec<PathStep>>,
 }
 
-/// The classes or the client kinds, in the order of the plan.
+/// The classes or the client kinds of a plan that is being learned, in the order of the plan.
 #[derive(Drop)]
 pub(crate) struct Entries {
     pub(crate) entries: Vec<Entry>,
-    /// The kind of the actors: jobs for classes, and rounds for client kinds.
+    /// The kind of the actors whose paths match the bodies: jobs for classes, and rounds for client
+    /// kinds.
     pub(crate) kind: ActorKind,
-    /// The maximum number of entries in a plan. `beyond` is the reason to report if there are more.
+    /// The maximum number of entries that a plan may have. If there are more, `beyond` is the
+    /// reason to report.
     limit: usize,
     beyond: InferenceLimit,
     pub(crate) alloc: Global,
@@ -93,8 +95,8 @@ impl Entries {
         self.entries.iter().any(|entry| entry.is_of(label, pool))
     }
 
-    /// Adds an entry with an empty body. Its name is the first of LABEL, LABEL_2, LABEL_3 and so on
-    /// that no entry has.
+    /// Adds an entry with an empty body. The name of the entry is the first of LABEL, LABEL_2,
+    /// LABEL_3 and so on that no other entry has.
     ///
     /// # Errors
     ///

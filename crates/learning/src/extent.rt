@@ -12,16 +12,16 @@ pub enum Extent {
 }
 
 /// The maximum size of the start of a recording, in bytes. A start of this size usually contains
-/// each path of the recording several times. A few passes over the start cost little compared with
-/// one pass over a long recording.
+/// each path of the recording several times. A few passes over this start take little time compared
+/// with one pass over a long recording.
 pub const START_BYTES: usize = 65_536;
 
-/// A prefix of a recording. If it ends within a line, this line is not read.
+/// A prefix of a recording. If the prefix ends within a line, this last line is not read.
 #[derive(Clone, Copy)]
 pub(crate) struct RecordingPart<'a> {
     pub(crate) text: &'a [u8],
-    /// True if the recording continues after the part. Actors open at the end of the part may then
-    /// continue.
+    /// True if the recording continues after the part. An actor that is open at the end of the part
+    /// may then have further steps.
     pub(crate) is_cut: bool,
 }
 

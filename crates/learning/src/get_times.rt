@@ -3,13 +3,17 @@
 use crate::path_jobs::{JobStep, PathJob, submitted_jobs};
 use std::alloc::{AllocError, Global};
 
-/// Returns the earliest time at which a body may get each of its jobs. A time is the index of the
-/// submit after which the get may come, or `None` if the body must not get the job. `common` has
-/// the jobs that the body submits, in order. The jobs that a path submits are a subsequence of it.
+/// Returns, for each job that a body submits, the earliest time at which the body may get the job.
+/// A time is the number of the submit after which the get may come. It is `None` if the body must
+/// not get the job.
 ///
-/// Each path is matched with the first possible submits of the body, or with the last possible
-/// submits if `is_late`. If the body's gets are at the returned times, the body has at each moment
-/// at least as many open jobs as each path. Equal jobs are got in the order of their submits.
+/// - `common` has the jobs that the body submits, in order. The jobs that each path submits are a
+///   subsequence of `common`.
+/// - Each path is matched with the last possible submits of the body if `is_late` is true, and with
+///   the first possible submits otherwise.
+///
+/// If the body gets its jobs at the returned times, the body has at each moment at least as many
+/// open jobs as each path. Equal jobs are got in the order of their submits.
 ///
 /// # Errors
 ///
@@ -30,7 +34,8 @@ pub(crate) fn get_times(
     Ok(times)
 }
 
-/// Replaces each time by the time in `others` if that is later. `None` is later than any time.
+/// Replaces each time by the time in `others` if the latter is later. `None` is later than any
+/// time.
 fn delay(times: &mut [Option<usize>], others: &[Option<usize>]) {
     for (time, other) in times.iter_mut().zip(others) {
         *time = later(*time, *other);
@@ -44,8 +49,8 @@ fn later(time: Option<usize>, other: Option<usize>) -> Option<usize> {
     }
 }
 
-/// Returns, for each submit of the body, whether a path is matched with it. `common` has the jobs
-/// that the body submits, and `jobs` those that the path submits.
+/// Returns, for each submit of the body, whether a submit of the path is matched with it. `common`
+/// has the jobs that the body submits, and `jobs` has the jobs that the path submits.
 fn made_submits(
     alloc: Global,
     common: &[PathJob],
@@ -87,10 +92,14 @@ fn mark(made: &mut [bool], index: usize) {
     }
 }
 
-/// Returns the times of [`get_times`] for a single path. `made` says for each submit of the body
-/// whether the path is matched with it. The body may get a job at once if the path does not submit
-/// it, and otherwise when the path gets it. It must not get a job whose `is_got` is false, or which
-/// the path submits and does not get.
+/// Returns the times of [`get_times`] for a single path. `made` says, for each submit of the body,
+/// whether a submit of the path is matched with it. The time of a job is found by these rules:
+///
+/// - It is `None` if `is_got` of the job is false, or if the path submits the job and does not get
+///   it.
+/// - Otherwise, if the path does not submit the job, it is the number of the job's own submit, so
+///   the body may get the job at once.
+/// - Otherwise, it is the number of the last matched submit before the path's get of the job.
 fn times_of_path(
     alloc: Global,
     common: &[PathJob],
@@ -109,8 +118,8 @@ fn times_of_path(
     Ok(times)
 }
 
-/// Records `time` as the time of each get of the path from index `from` to the next submit of the
-/// path. Returns the index of that submit, or the length of the path if there is none.
+/// Records `time` as the time of each get of the path from index `from` to the path's next submit.
+/// Returns the index of this submit, or the length of the path if there is no further submit.
 fn record_gets(
     common: &[PathJob],
     path: &[JobStep],
@@ -129,8 +138,8 @@ fn record_gets(
     place
 }
 
-/// Records the time of a get for the first job in `common` that equals `job` and has no time yet.
-/// Does nothing if `job.is_got` is false.
+/// Records `time` as the time of the get of a job. The job is the first one in `common` that equals
+/// `job` and has no time yet. Does nothing if `job.is_got` is false.
 fn record_get(common: &[PathJob], job: PathJob, time: usize, times: &mut [Option<usize>]) {
     if !job.is_got {
         return;

@@ -12,8 +12,8 @@ use conformance::{ActorKind, PathMatch, PathState, PathStep, match_path};
 use job_bodies::Action;
 use std::alloc::{AllocError, Global};
 
-/// The maximum number of paths that change one body. Paths that already match the body do not
-/// count.
+/// The maximum number of paths for which one body is changed. A path that already matches the body
+/// does not count.
 const MAX_PATHS: usize = 256;
 
 /// An observed path, with the class assigned to each of its jobs.
@@ -33,8 +33,8 @@ pub(crate) struct Assignment {
 }
 
 impl Entries {
-    /// Returns the assignment of the path to the first entry of this label and pool whose body it
-    /// matches, or `None` if there is none.
+    /// Returns the assignment of the path to the first entry of this label and pool whose body the
+    /// path matches. Returns `None` if there is no such entry.
     ///
     /// # Errors
     ///
@@ -58,14 +58,17 @@ impl Entries {
         Ok(None)
     }
 
-    /// Changes the body of an entry with this label and pool, so that the path and the entry's
-    /// earlier paths match it. Takes the first entry for which such a body is found. If there is
-    /// none, adds an entry for the path alone.
+    /// Changes the body of an entry with this label and pool so that the path and the entry's
+    /// earlier paths match it. Returns the assignment of the path to this entry.
     ///
-    /// `reachable` marks the classes to which the path leads, as [`reachable_classes`] returns
-    /// them. Entries of these classes are skipped: with the path as its body, a job of the class
-    /// would lead to jobs of its own class without end. Returns `None` if no body was found for the
-    /// path, or if no entry has this label and pool. In the first case the added entry remains.
+    /// - Uses the first entry for which such a body is found. If there is no such entry, adds an
+    ///   entry for this path alone.
+    /// - Skips the entries of the classes that `reachable` marks. These are the classes to which
+    ///   the path leads, as [`reachable_classes`] returns them. With the path as its body, a job of
+    ///   such a class would lead to jobs of its own class without end.
+    ///
+    /// Returns `None` if no entry has this label and pool. Also returns `None` if no body is found
+    /// for the path alone, and then the added entry remains.
     ///
     /// # Errors
     ///
@@ -185,8 +188,8 @@ fn is_path_of(
     Ok(path_match == PathMatch::Fits)
 }
 
-/// Returns, for each class, whether these steps lead to a job of the class: a step submits such a
-/// job, or the body of a submitted job leads to it.
+/// Returns, for each class, whether these steps lead to a job of the class. Steps lead to a job if
+/// a step submits such a job, or if the body of a submitted job leads to it.
 ///
 /// # Errors
 ///
@@ -216,8 +219,8 @@ fn mark_step(reachable: &mut [bool], step: &PathStep) {
     }
 }
 
-/// Marks each class that the body of a marked class submits. Returns true if a class was newly
-/// marked.
+/// Marks each class that the body of a marked class submits. Returns true if this marked a class
+/// that was not marked before.
 fn propagate(classes: &Entries, reachable: &mut [bool]) -> bool {
     let mut is_more = false;
     for number in 0..classes.entries.len() {
@@ -244,8 +247,8 @@ fn is_marked(reachable: &[bool], number: usize) -> bool {
     reachable.get(number).copied().unwrap_or(false)
 }
 
-/// Marks the class. Returns true if it was not marked before, and false if it was marked or there
-/// is no such class.
+/// Marks the class. Returns true if the class was not marked before. Returns false if it was
+/// already marked or does not exist.
 fn mark(reachable: &mut [bool], class: usize) -> bool {
     match reachable.get_mut(class) {
         Some(slot) => {

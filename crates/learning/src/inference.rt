@@ -27,20 +27,25 @@ use crate::recorded_names::{RecordedNames, recorded_names};
 use job_bodies::{Client, MAX_SIZE, Plan};
 use std::alloc::{AllocError, Global};
 
-/// Derives a plan from a recording.
-///
-/// `extent` selects the part of the recording from which bodies are learned.
+/// Returns a plan that is learned from a recording. `extent` selects the part of the recording from
+/// which bodies are learned.
 ///
 /// The whole recording is read once, for its names, its counts and its first invalid line. The
 /// selected part is read a few more times, usually twice, while the bodies change. If a label has
-/// several client kinds, one more pass counts the rounds of each kind. In this case the selected
-/// part must be the whole recording: otherwise the result is an [`InferenceLimit`]. The memory
-/// grows with the number of open actors, the size of the plan, the paths that changed a body (at
-/// most 256 for each body), and the number of rounds in the selected part.
+/// several client kinds, one more pass counts the rounds of each kind. In this case, the result is
+/// an [`InferenceLimit`] unless the selected part is the whole recording.
 ///
-/// The contract promises that the bodies form a plan. It does not promise that the recording
-/// matches them: the caller compares the recording with the plan. It does not promise that a plan
-/// is found whenever one exists.
+/// The memory grows with these numbers:
+///
+/// - the number of open actors;
+/// - the size of the plan;
+/// - the number and the length of the paths for which a body was changed, at most 256 for each
+///   body;
+/// - the number of rounds in the selected part.
+///
+/// The contract promises that the bodies form a plan. It promises neither that the recording
+/// matches the bodies, nor that a plan is found whenever one exists. The caller must compare the
+/// recording with the plan.
 ///
 /// # Errors
 ///

@@ -17,9 +17,9 @@ pub enum InferenceLimit {
     Kinds,
     /// A class or client kind whose name would be too long.
     Names,
-    /// More rounds of a kind at once than a plan may have clients.
+    /// More rounds of a client kind that are open at the same time than a plan may have clients.
     Rounds,
-    /// Paths of jobs or rounds for which no body was found. This is also the reason in these cases:
+    /// Jobs or rounds for whose paths no body was found. This is also the reason in these cases:
     ///
     /// - The bodies were learned from the start of a longer recording, and a label has several
     ///   client kinds.

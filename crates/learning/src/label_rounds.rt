@@ -20,8 +20,8 @@ use recordings::Line;
 use std::alloc::{AllocError, Global};
 use support::IdMap;
 
-/// Counters for the rounds of each label. If each label has one client kind, the counters of a
-/// label are also those of its kind.
+/// Counters for the rounds of each label. If a label has only one client kind, the counters of the
+/// label are also the counters of this kind.
 #[derive(Drop)]
 pub(crate) struct LabelRounds {
     labels: Vec<String>,
@@ -58,8 +58,9 @@ impl LabelRounds {
     ///
     /// # Errors
     ///
-    /// - [`LearnError::InferenceLimit`] if a round begins with a number other than the number of
-    ///   earlier rounds, or if a round ends that is not open. A valid recording has no such line.
+    /// - [`LearnError::InferenceLimit`] in two cases, which do not occur in a valid recording: a
+    ///   round begins with a number other than the number of earlier rounds, or a round ends that
+    ///   is not open.
     /// - [`LearnError::Memory`] if memory runs out.
     pub(crate) fn take(&mut self, line: &Line<'_>) -> Result<(), LearnError>
         ensures ok { (before : List RecordedLine)
@@ -157,8 +158,8 @@ impl LabelRounds {
         Ok(())
     }
 
-    /// Returns true if each label has one client kind, and the entries are these kinds in the order
-    /// of the labels.
+    /// Returns true if the entries are exactly one client kind for each label, in the order of the
+    /// labels.
     pub(crate) fn are_of(&self, entries: &[Entry]) -> bool
         ensures { IsTrue result → names_of entries.now ≡ labels_of self.now }
     {

@@ -15,7 +15,7 @@ use std::alloc::{AllocError, Global};
 ///
 /// # Errors
 ///
-/// - [`LearnError::InferenceLimit`] if that name is too long for a plan.
+/// - [`LearnError::InferenceLimit`] if the first free name is too long for a plan.
 /// - [`LearnError::Memory`] if memory runs out.
 pub(crate) fn free_name(alloc: Global, entries: &[Entry], label: &str) -> Result<String, LearnError>
     ensures ok { length entries.now < MAX_CLASSES

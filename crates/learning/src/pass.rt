@@ -19,8 +19,8 @@ use std::alloc::{AllocError, Global};
 /// The state of a pass over a part of a recording.
 #[derive(Drop)]
 pub(crate) struct Pass {
-    /// The first client kind of the plan that each round can belong to, by round number. It is
-    /// `None` if the round matches none, and until the round is classified.
+    /// For each round, by round number, the first client kind of the plan that the round can belong
+    /// to. It is `None` if the round matches no kind, and until the round is classified.
     pub(crate) kinds: Vec<Option<usize>>,
     /// True if the pass changed a body.
     pub(crate) is_changed: bool,
@@ -33,18 +33,20 @@ pub(crate) struct Pass {
     alloc: Global,
 }
 
-/// Runs one pass over the part of the recording.
+/// Runs one pass over the part of the recording. If an actor matches no class or client kind of the
+/// plan, the pass tries to change a body so that the actor's path matches it. The pass changes no
+/// body for the actor in these cases:
 ///
-/// If an actor matches no class or client kind of the plan, and each job that it submitted has a
-/// class, the pass tries to change a body so that the actor's path matches it. It does not do so if
-/// the match of the actor is undecided. The path of an actor that has not ended may be incomplete.
-/// For such an actor, the pass changes a body only if no path of an ended actor changed a body in
-/// this pass, and the recording does not continue after the part.
+/// - A job that the actor submitted has no class.
+/// - The match of the actor is undecided.
+/// - The actor has not ended, so its path may be incomplete, and the recording continues after the
+///   part.
+/// - The actor has not ended, and a path of an ended actor changed a body in this pass.
 ///
 /// # Errors
 ///
 /// - [`LearnError::InferenceLimit`] if the actors need more classes or client kinds than a plan may
-///   have, or if the name of a new one would be too long.
+///   have, or if the name of a new class or client kind would be too long.
 /// - [`LearnError::Memory`] if memory runs out.
 pub(crate) fn run_pass(
     alloc: Global,

@@ -14,11 +14,15 @@ use conformance::PathStep;
 use job_bodies::{Action, MAX_ACTIONS};
 use std::alloc::{AllocError, Global};
 
-/// Returns the body whose actions are the steps of the path. Each submit has the first class that
-/// its job can belong to.
+/// Returns the body whose actions are the steps of the path. The class of each submit is the first
+/// class that the submitted job can belong to.
 ///
-/// Returns `None` if the path is longer than a body may be, if the job of a submit cannot belong to
-/// any class, if a get names no earlier submit, or if two gets name the same submit.
+/// Returns `None` in these cases:
+///
+/// - The path is longer than a body may be.
+/// - The job of a submit cannot belong to any class.
+/// - A get names no earlier submit.
+/// - Two gets name the same submit.
 ///
 /// # Errors
 ///

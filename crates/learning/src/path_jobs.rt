@@ -4,16 +4,16 @@ use conformance::PathStep;
 use job_bodies::MAX_ACTIONS;
 use std::alloc::{AllocError, Global};
 
-/// The maximum length of a path that a body can cover. Each submit of the path is matched with a
+/// The maximum length of a path that can match a body. Each submit of the path is matched with a
 /// different submit of the body, and each submit has at most one get.
 const MAX_STEPS: usize = 2 * MAX_ACTIONS;
 
-/// A job of a path, without its position. Equal jobs of different paths can be matched with the
-/// same submit of a body.
+/// A job of a path, without its position in the path. Equal jobs of different paths can be matched
+/// with the same submit of a body.
 #[derive(Clone, Copy, PartialEq, Eq)]
 pub(crate) struct PathJob {
     pub(crate) class: usize,
-    /// True if a body may have a get of the job.
+    /// True if the body that is being made may have a get of the job.
     pub(crate) is_got: bool,
 }
 
@@ -24,12 +24,15 @@ pub(crate) enum JobStep {
     Gets(PathJob),
 }
 
-/// Returns the steps of the path, each with its job. Each job has the first class that it can
-/// belong to. If `marks_gets` is true, `is_got` is true only for the jobs that the path gets.
-/// Otherwise it is true for all jobs.
+/// Returns the steps of the path, each with its job. The class of each job is the first class that
+/// the job can belong to. If `marks_gets` is true, `is_got` is true for exactly the jobs that the
+/// path gets. If `marks_gets` is false, `is_got` is true for all jobs.
 ///
-/// Returns `None` if the job of a submit cannot belong to any class, if a get names no submit, or
-/// if the path is too long for any body.
+/// Returns `None` in these cases:
+///
+/// - The job of a submit cannot belong to any class.
+/// - A get names no submit.
+/// - The path is too long for any body.
 ///
 /// # Errors
 ///
@@ -59,8 +62,9 @@ fn job_step(path: &[PathStep], place: usize, marks_gets: bool) -> Option<JobStep
     }
 }
 
-/// Returns the job of the submit at this index. Returns `None` if there is no submit, or if its job
-/// cannot belong to any class. `marks_gets` is the parameter of [`job_steps`].
+/// Returns the job of the submit at this index of the path. Returns `None` if there is no submit at
+/// this index, or if its job cannot belong to any class. `marks_gets` has the meaning that
+/// [`job_steps`] gives it.
 fn job_at(path: &[PathStep], place: usize, marks_gets: bool) -> Option<PathJob> {
     match path.get(place)? {
         PathStep::Submits(classes) => Some(PathJob {

@@ -14,11 +14,13 @@ use job_bodies::{MAX_POOLS, MAX_SIZE, Pool};
 use recordings::{Line, PoolSizes, QueueKind};
 use std::alloc::{AllocError, Global};
 
-/// Returns the pool of a `pool` line, with each size clamped to its range in a plan. If the queue
-/// is unbounded, it stays so, the maximum is core, and the capacity is the largest size. `prestart`
-/// is true if all core threads were prestarted and there is at least one. `may_reject` is true if
-/// the queue is a `SynchronousQueue`, because in a plan only a pool that may reject jobs can have
-/// this queue.
+/// Returns the pool of a `pool` line, with each size clamped to its range in a plan.
+///
+/// - If the queue is unbounded, the pool's queue is unbounded. The pool's maximum is then its core
+///   size, and its capacity is the largest capacity of a plan.
+/// - `prestart` is true if all core threads were prestarted and there is at least one core thread.
+/// - `may_reject` is true if the queue is a `SynchronousQueue`. In a plan, only a pool that may
+///   reject jobs can have this queue.
 ///
 /// # Errors
 ///
@@ -146,7 +148,7 @@ fn has_name(pools: &[Pool], name: &str) -> bool
     pools.iter().any(|pool| pool.name.as_str() == name)
 }
 
-/// Returns the number of the pool with this name, or `None` if there is none.
+/// Returns the number of the pool with this name, or `None` if there is no such pool.
 pub(crate) fn pool_number(pools: &[Pool], name: &str) -> Option<usize>
     ensures { result ≡ position (λ pool. bytes_eq pool.name name.now) pools.now }
 {

@@ -17,7 +17,8 @@ use job_bodies::Pool;
 use recordings::{CheckedLines, Line, RecordingFault, first_fault};
 use std::alloc::{AllocError, Global};
 
-/// The pools, classes and client kinds that the lines name, and the numbers of rounds and jobs.
+/// The pools, classes and client kinds that the lines of a recording name, and the numbers of
+/// rounds and jobs.
 #[derive(Drop)]
 pub(crate) struct RecordedNames {
     pub(crate) pools: Vec<Pool>,
@@ -33,13 +34,13 @@ pub(crate) struct RecordedNames {
     alloc: Global,
 }
 
-/// Collects the names in all lines and counts the rounds and jobs. Each class and client kind has
-/// an empty body. If a line is invalid, returns the fault of the first invalid line instead.
+/// Collects the names in all lines, and counts the rounds and jobs. In the result, each class and
+/// client kind has an empty body. If a line is invalid, returns the fault of the first invalid line
+/// instead.
 ///
 /// # Errors
 ///
-/// - [`LearnError::InferenceLimit`] if all lines are valid, but their names exceed a limit of
-///   plans.
+/// - [`LearnError::InferenceLimit`] if all lines are valid, but the names exceed a limit of plans.
 /// - [`LearnError::Memory`] if memory runs out.
 pub(crate) fn recorded_names(
     alloc: Global,

@@ -5,8 +5,10 @@ use job_bodies::MAX_ACTIONS;
 use std::alloc::{AllocError, Global};
 
 /// Returns a list of jobs that has the submitted jobs of each path as a subsequence. Returns `None`
-/// if the list would be longer than a body may be. The paths are merged one by one, from the last
-/// to the first if `is_reversed`.
+/// if the list would be longer than a body may be.
+///
+/// The paths are merged one by one: from the last to the first if `is_reversed` is true, and from
+/// the first to the last otherwise.
 ///
 /// # Errors
 ///
@@ -32,8 +34,8 @@ pub(crate) fn common_supersequence(
     Ok(Some(common))
 }
 
-/// Returns the path with this number, counted from the end if `is_reversed`. Returns an empty path
-/// if there is none.
+/// Returns the path with this number. The number counts from the last path if `is_reversed` is
+/// true. Returns an empty path if no path has this number.
 fn path_at(paths: &[Vec<JobStep>], number: usize, is_reversed: bool) -> &[JobStep] {
     let index = if is_reversed {
         paths.len().saturating_sub(number).saturating_sub(1)
@@ -56,8 +58,8 @@ fn is_subsequence(jobs: &[PathJob], of: &[PathJob]) -> bool {
     found >= jobs.len()
 }
 
-/// Returns a shortest common supersequence of two lists. If the next job may come from either list,
-/// takes it from the first list.
+/// Returns a shortest common supersequence of two lists. If either list may give the next job, it
+/// is taken from the first list.
 fn merged(
     alloc: Global,
     first: &[PathJob],
@@ -92,10 +94,12 @@ fn push_from(jobs: &mut Vec<PathJob>, more: &[PathJob], index: usize) -> Result<
     Ok(())
 }
 
-/// Returns true if the merged list may continue with the next job of the first list. It may if
-/// skipping this job leaves a common subsequence at least as long as skipping the next job of the
-/// second list. `left` and `other_left` are the numbers of jobs that remain in the lists. `lengths`
-/// is the table of [`common_lengths`].
+/// Returns true if the merged list may continue with the next job of the first list. This is so if
+/// the longest common subsequence after skipping this job is not shorter than after skipping the
+/// next job of the second list.
+///
+/// - `left` and `other_left` are the numbers of jobs that remain in the two lists.
+/// - `lengths` is the table that [`common_lengths`] returns.
 fn continues_first(lengths: &[Vec<usize>], left: usize, other_left: usize) -> bool {
     length_at(lengths, left.saturating_sub(1), other_left)
         >= length_at(lengths, left, other_left.saturating_sub(1))
@@ -108,9 +112,9 @@ fn length_at(lengths: &[Vec<usize>], left: usize, other_left: usize) -> usize {
     }
 }
 
-/// Returns the length of the longest common subsequence for each suffix of the first list and each
-/// suffix of the second list. The outer index is the length of the first list's suffix, and the
-/// inner index that of the second list's.
+/// Returns a table with the length of the longest common subsequence for each suffix of the first
+/// list and each suffix of the second list. The outer index is the length of the first list's
+/// suffix. The inner index is the length of the second list's suffix.
 fn common_lengths(
     alloc: Global,
     first: &[PathJob],
@@ -125,8 +129,8 @@ fn common_lengths(
     Ok(rows)
 }
 
-/// Returns the row of lengths for the suffix of the first list that begins with this job. `rows`
-/// has the rows of the shorter suffixes.
+/// Returns the row of the table for the suffix of the first list that begins with this job. `rows`
+/// has the rows for the shorter suffixes.
 fn next_row(
     alloc: Global,
     job: PathJob,

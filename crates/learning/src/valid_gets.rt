@@ -19,7 +19,7 @@ pub(crate) fn has_valid_gets(body: &[Action]) -> bool
     true
 }
 
-/// Returns true if the action at this index is a valid get, or is no get.
+/// Returns true if the action at this index is a valid get or is not a get.
 fn is_valid_at(body: &[Action], position: usize) -> bool
     ensures { result ≡ is_valid_at body.now position (slice_get body.now position) }
 {
@@ -29,8 +29,8 @@ fn is_valid_at(body: &[Action], position: usize) -> bool
     }
 }
 
-/// Returns true if a get at index `position` may name index `submit`: an earlier submit is there,
-/// and no earlier get names it.
+/// Returns true if a get at index `position` may name index `submit`. This is so if there is an
+/// earlier submit at index `submit`, and no earlier get names it.
 fn is_valid_get(body: &[Action], position: usize, submit: usize) -> bool
     ensures { result ≡ spec.is_valid_get body.now position submit }
 {
