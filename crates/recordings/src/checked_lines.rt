@@ -13,7 +13,8 @@ use std::alloc::{AllocError, Global};
 /// An iterator over the lines of a recording. It checks each line against the rules O1 to O7, given
 /// the lines before it.
 ///
-/// It reads each line once and stores no line. Its memory use is that of a [`TraceValidator`].
+/// The iterator reads each line once and stores no line. Its memory use is that of a
+/// [`TraceValidator`].
 #[derive(Drop)]
 pub struct CheckedLines<'a> {
     lines: RecordingLines<'a>,
@@ -35,17 +36,17 @@ impl<'a> CheckedLines<'a> {
         }
     }
 
-    /// Returns the number of lines that [`next`](CheckedLines::next) has returned. Since lines are
-    /// numbered from 1, this is also the line number of the last returned line.
+    /// Returns the number of lines that [`next`](CheckedLines::next) has returned. This is also the
+    /// line number of the last returned line, because lines are numbered from 1.
     pub fn number(&self) -> usize
         ensures { result ≡ self.now.number }
     {
         self.number
     }
 
-    /// Returns the next line if it is valid, or its fault if it is bad. Returns `None` after the
-    /// last line of a valid recording. If the text has no newline, returns a fault: line 1 breaks
-    /// [`LineRule::Frame`].
+    /// Returns the next line if it is valid, or the fault of the line if it is bad. Returns `None`
+    /// after the last line of a valid recording. If the text has no newline, returns the fault that
+    /// line 1 breaks [`LineRule::Frame`].
     ///
     /// Do not call this method again after a fault.
     ///

@@ -15,7 +15,7 @@ pub enum FaultReason {
     LineRule(LineRule),
 }
 
-/// Formats the reason: `it is not a valid line`, or the text of the rule that the line breaks.
+/// Formats the reason as `it is not a valid line` or as the text of the rule that the line breaks.
 impl fmt::Display for FaultReason {
     ghost output = { λ reason. Some (reason_text reason) };
 

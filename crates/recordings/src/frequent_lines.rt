@@ -15,11 +15,12 @@ ghost use Rattle.recordings.specs.declared.recording_line.RecordedActor.TheVaria
 use crate::recording_line::{Line, RecordedActor};
 use job_bodies::MAX_NAME_BYTES;
 
-/// The maximum number of digits of a number that the parser accepts. A number with at most 9 digits
-/// is below `MAX_LINE_NUMBER`, and needs no check.
+/// The maximum number of digits of a number that this parser accepts. A number with at most 9
+/// digits is below `MAX_LINE_NUMBER`, so the parser need not compare it with this limit.
 const MOST_DIGITS: usize = 9;
 
-/// Parses the first line of a text, and returns it with the text after its newline.
+/// Parses the first line of a text if it has one of the frequent forms. Returns the line with the
+/// text after its newline.
 #[inline(always)]
 pub(crate) fn split_frequent_line(text: &[u8]) -> Option<(Line<'_>, &[u8])>
     ensures { IfSome result
@@ -38,7 +39,8 @@ pub(crate) fn split_frequent_line(text: &[u8]) -> Option<(Line<'_>, &[u8])>
     }
 }
 
-/// Parses the rest of a line after `job N`, and returns the line with the text after its newline.
+/// Parses `words`, the text after `job N` in a line, and returns the line with the text after its
+/// newline.
 #[inline(always)]
 fn split_job_line(job: usize, words: &[u8]) -> Option<(Line<'_>, &[u8])>
     requires { is_valid_number job ≡ true }
@@ -55,7 +57,8 @@ fn split_job_line(job: usize, words: &[u8]) -> Option<(Line<'_>, &[u8])>
     split_action(RecordedActor::Job(job), words)
 }
 
-/// Parses the rest of a line after `round N`, and returns the line with the text after its newline.
+/// Parses `words`, the text after `round N` in a line, and returns the line with the text after its
+/// newline.
 #[inline(always)]
 fn split_round_line(round: usize, words: &[u8]) -> Option<(Line<'_>, &[u8])>
     requires { is_valid_number round ≡ true }
@@ -73,7 +76,7 @@ fn split_round_line(round: usize, words: &[u8]) -> Option<(Line<'_>, &[u8])>
     split_action(RecordedActor::Round(round), words)
 }
 
-/// Parses `got J` or `submit J CLASS POOL`, the text of a line after its actor. Returns the line
+/// Parses `got J` or `submit J CLASS POOL`, which comes after the actor in a line. Returns the line
 /// with the text after its newline.
 #[inline(always)]
 fn split_action(actor: RecordedActor, words: &[u8]) -> Option<(Line<'_>, &[u8])>
@@ -92,8 +95,8 @@ fn split_action(actor: RecordedActor, words: &[u8]) -> Option<(Line<'_>, &[u8])>
     split_submit(actor, words)
 }
 
-/// Parses `J CLASS POOL`, the text of a line after `submit`. Returns the line with the text after
-/// its newline.
+/// Parses `J CLASS POOL`, which comes after `submit` in a line. Returns the line with the text
+/// after its newline.
 #[inline(always)]
 fn split_submit(actor: RecordedActor, words: &[u8]) -> Option<(Line<'_>, &[u8])>
     requires { is_valid_actor actor ≡ true }
@@ -113,8 +116,8 @@ fn split_submit(actor: RecordedActor, words: &[u8]) -> Option<(Line<'_>, &[u8])>
     Some((line, after))
 }
 
-/// Parses a number at the start of the text and the byte `end` directly after it. Returns the
-/// number with the text after that byte.
+/// Parses a number at the start of the text, followed directly by the byte `end`. Returns the
+/// number with the text after this byte.
 #[inline(always)]
 fn split_number(text: &[u8], end: u8) -> Option<(usize, &[u8])>
     ensures { IfSome result (λ read.
@@ -146,8 +149,8 @@ fn digit_of(byte: u8) -> usize
     usize::from(byte).wrapping_sub(usize::from(b'0'))
 }
 
-/// Parses a name at the start of the text and the byte `end` directly after it. Returns the name
-/// with the text after that byte.
+/// Parses a name at the start of the text, followed directly by the byte `end`. Returns the name
+/// with the text after this byte.
 #[inline(always)]
 fn split_name(text: &[u8], end: u8) -> Option<(&str, &[u8])>
     ensures { IfSome result
@@ -184,7 +187,8 @@ fn is_name_byte(byte: u8) -> bool
     byte.is_ascii_lowercase() || byte.is_ascii_digit() || byte == b'_'
 }
 
-/// Converts the bytes of a name to a string. Needs no check for UTF-8, since name bytes are ASCII.
+/// Converts the bytes of a name to a string. Does not check that they are UTF-8, because the bytes
+/// of a name are ASCII.
 #[inline(always)]
 fn name_text(name: &[u8]) -> &str
     requires { list_all is_name_byte name.now ≡ true }

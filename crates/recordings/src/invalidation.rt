@@ -9,9 +9,9 @@ ghost use Rattle.recordings.specs.Invalidations.{keyword_of};
 use crate::RecordedActor;
 use std::fmt;
 
-/// An event that invalidates a SAFE answer for everything after its line.
+/// An event that invalidates a SAFE answer for the rest of the recording after its line.
 ///
-/// Its text is a short phrase without the line number, such as `job 4 was refused`.
+/// The event formats as a short phrase without the line number, such as `job 4 was refused`.
 #[derive(Clone, Copy, PartialEq, Eq)]
 pub enum InvalidatingEvent {
     /// A pool refused the job that this actor submitted.
@@ -28,7 +28,7 @@ pub enum InvalidatingEvent {
     Removed { job: usize },
     /// The job threw an exception that ended the thread.
     Threw { job: usize },
-    /// A pool ran jobs that no line reports. `jobs` is their number.
+    /// A pool ran jobs that no line of the recording reports. `jobs` is the number of these jobs.
     Unseen { jobs: usize },
 }
 

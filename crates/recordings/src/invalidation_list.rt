@@ -16,12 +16,15 @@ use crate::{Line, RecordedActor};
 use std::alloc::{AllocError, Global};
 use std::collections::BTreeMap;
 
-/// A list of invalidating events that may be the first of their type. An event is pending while the
-/// next line of its actor can discard it. For each type, the list has at least the first event that
-/// is not pending, and all pending events before it.
+/// A list of invalidating events, which has all those that may be the first of their type. An event
+/// is pending if it is a get that timed out or was interrupted, and the next line of its actor can
+/// still discard it. For each type, the list has at least these events:
 ///
-/// Processing a line takes one look-up of its actor, and one look-up of an event if the actor has a
-/// pending event.
+/// - the first event that is not pending;
+/// - all pending events before it.
+///
+/// Processing a line takes one look-up of its actor. If the actor has a pending event, it takes a
+/// second look-up to find this event.
 #[derive(Drop)]
 pub(crate) struct InvalidationList {
     // The events, by the numbers of their lines.
@@ -70,7 +73,8 @@ impl InvalidationList {
         }
     }
 
-    /// Returns the first event of each type, in the order of their lines. Pending events count.
+    /// Returns the first event of each type, in the order of the lines. A pending event counts like
+    /// any other event.
     ///
     /// # Errors
     ///

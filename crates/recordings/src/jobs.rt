@@ -13,13 +13,13 @@ use support::IdMap;
 pub(crate) struct JobState {
     started: bool,
     cancelled: bool,
-    /// The job that this job submitted in its last line, apart from `refused` lines. `None` if this
-    /// line is no submit, or if the job has no such line yet.
+    /// The job that this job submitted in its last line, where `refused` lines do not count. It is
+    /// `None` if the last line is no submit, or if the job has no such line yet.
     last_submit: Option<usize>,
 }
 
-/// The jobs in the lines read so far: the number of submitted jobs, and the state of each submitted
-/// job that is not done.
+/// The jobs in the lines read so far. Stores the number of submitted jobs, and the state of each
+/// submitted job that is not done.
 #[derive(Drop)]
 pub(crate) struct Jobs {
     pub(crate) submitted: usize,
@@ -50,23 +50,25 @@ impl Jobs {
         job < self.submitted && self.get(job).is_none_or(|state| state.started)
     }
 
-    /// Returns whether the job has started and is not done.
+    /// Returns true if the job has started and is not done.
     pub(crate) fn is_running(&self, job: usize) -> bool
         ensures { result ≡ (has_started self.now job && not (is_done self.now job)) }
     {
         job < self.submitted && self.get(job).is_some_and(|state| state.started)
     }
 
-    /// Returns whether the job is done or cancelled. Returns false if it was not submitted.
+    /// Returns true if the job was submitted and is done or cancelled.
     pub(crate) fn is_settled(&self, job: usize) -> bool
         ensures { result ≡ is_settled self.now job }
     {
         job < self.submitted && self.get(job).is_none_or(|state| state.cancelled)
     }
 
-    /// Returns the job that `job` submitted in its last line, apart from `refused` lines. Returns
-    /// `None` if that line is no submit, and if `job` is done, was not submitted, or has no such
-    /// line yet.
+    /// Returns the job that `job` submitted in its last line, where `refused` lines do not count.
+    /// Returns `None` in these cases:
+    ///
+    /// - The last line is no submit, or there is no such line yet.
+    /// - `job` was not submitted, or it is done.
     pub(crate) fn last_submit(&self, job: usize) -> Option<usize>
         ensures { result ≡ last_submit_in (job_at self.now job) }
     {
@@ -121,8 +123,8 @@ impl Jobs {
         }
     }
 
-    /// Stores the job that `job` submitted in its last line, or `None` if that line is not a
-    /// submit. Has no effect if `job` is done.
+    /// Stores the job that `job` submitted in its last line, or `None` if this line is no submit.
+    /// Does nothing if `job` is done.
     pub(crate) fn set_last_submit(&mut self, job: usize, last_submit: Option<usize>)
         ensures submitted { self.new.submitted ≡ self.old.submitted }
         ensures unfinished { (j : ℕ)

@@ -2,13 +2,13 @@
 
 ghost use Rattle.recordings.specs.Laws.{RecordingLinesAreCanonical, UnboundedCapacityIsStated};
 
-/// Proves that each valid line has exactly one text. A text parses as a line if and only if the
-/// line is valid and the text is its text.
+/// States that each valid line has exactly one text. A text parses as a line exactly if the line is
+/// valid and the text is the text of this line.
 pub fn recording_lines_are_canonical()
     ensures { RecordingLinesAreCanonical }
 {}
 
-/// Proves that [`UNBOUNDED_CAPACITY`](crate::UNBOUNDED_CAPACITY) is 1,000,000,000.
+/// States that [`UNBOUNDED_CAPACITY`](crate::UNBOUNDED_CAPACITY) is 1,000,000,000.
 pub fn unbounded_capacity_is_stated()
     ensures { UnboundedCapacityIsStated }
 {}

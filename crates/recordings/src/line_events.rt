@@ -9,8 +9,8 @@ ghost use Rattle.recordings.specs.InvalidationList as stored;
 use crate::invalidation::InvalidatingEvent;
 use crate::{Line, RecordedActor};
 
-/// Returns the invalidating event that the line reports, if any. A later line can discard a get
-/// that timed out or was interrupted.
+/// Returns the invalidating event that the line reports, or `None` if it reports none. If the event
+/// is a get that timed out or was interrupted, a later line can discard the event.
 pub(crate) fn event_of(line: &Line<'_>) -> Option<InvalidatingEvent>
     ensures { result ≡ spec.event_of (line_view line.now) }
 {
@@ -27,8 +27,8 @@ pub(crate) fn event_of(line: &Line<'_>) -> Option<InvalidatingEvent>
     }
 }
 
-/// Returns the actor whose next line can discard the event: the actor of a get that timed out or
-/// was interrupted. Returns `None` for any other event.
+/// Returns the actor whose next line can discard the event. If the event is a get that timed out or
+/// was interrupted, this is the actor of the get. Returns `None` for any other event.
 pub(crate) fn getter_of(event: InvalidatingEvent) -> Option<RecordedActor>
     ensures { result ≡ stored.getter_of event }
 {
@@ -39,15 +39,16 @@ pub(crate) fn getter_of(event: InvalidatingEvent) -> Option<RecordedActor>
     }
 }
 
-/// Returns true if lines with the same keyword report both events.
+/// Returns true if both events are of the same type, which means that lines with the same keyword
+/// report them.
 pub(crate) fn is_same_type(one: InvalidatingEvent, other: InvalidatingEvent) -> bool
     ensures { result ≡ spec.is_same_type one other }
 {
     one.word() == other.word()
 }
 
-/// Returns true if the line discards the event. It discards a get that timed out or was interrupted
-/// if it reports a further get of the same job by the same actor.
+/// Returns true if the line discards the event. This is so if the event is a get that timed out or
+/// was interrupted, and the line reports a further get of the same job by the same actor.
 pub(crate) fn excuses(event: InvalidatingEvent, line: &Line<'_>) -> bool
     ensures { result ≡ stored.excuses (line_view line.now) event }
 {
@@ -59,7 +60,7 @@ pub(crate) fn excuses(event: InvalidatingEvent, line: &Line<'_>) -> bool
 }
 
 /// Returns true if the event is a get that timed out or was interrupted, and the line belongs to
-/// the actor of this get. Then no later line can discard the event.
+/// the actor of this get. After such a line, no later line can discard the event.
 pub(crate) fn ends_pending(event: InvalidatingEvent, line: &Line<'_>) -> bool
     ensures { result ≡ stored.ends_pending (line_view line.now) event }
 {

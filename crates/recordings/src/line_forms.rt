@@ -10,8 +10,8 @@ use crate::recording_line::{Line, RecordedActor};
 use crate::words::{is_word, name_of, parse_name, parse_number};
 use line_words::{number_of, split_space};
 
-/// Parses a line of any form, without its newline. It is called only for the few lines that
-/// [`split_frequent_line`](crate::frequent_lines) does not parse.
+/// Parses a line of any form, without its newline. Only the lines that
+/// [`split_frequent_line`](crate::frequent_lines) does not parse are passed to this function.
 #[cold]
 #[inline(never)]
 #[tactic(auto, unfolding(crate::specs::RecordingLine::line_of, crate::specs::RecordingLine::line_of_words))]
@@ -35,7 +35,7 @@ pub(crate) fn line_of(text: &[u8]) -> Option<Line<'_>>
 
 // ---- lines of actors
 
-/// Parses the rest of a line after `job N`.
+/// Parses `text`, which comes after `job N` in a line, and returns the whole line.
 #[tactic(auto, unfolding(crate::specs::RecordingLine::job_line_of))]
 fn job_line_of(job: usize, text: &[u8]) -> Option<Line<'_>>
     ensures { option_map line_view result ≡ spec.job_line_of job text.now }
@@ -53,7 +53,7 @@ fn job_line_of(job: usize, text: &[u8]) -> Option<Line<'_>>
     action_of(RecordedActor::Job(job), word, rest)
 }
 
-/// Parses the rest of a line after `round N`.
+/// Parses `text`, which comes after `round N` in a line, and returns the whole line.
 #[tactic(auto, unfolding(crate::specs::RecordingLine::round_line_of))]
 fn round_line_of(round: usize, text: &[u8]) -> Option<Line<'_>>
     ensures { option_map line_view result ≡ spec.round_line_of round text.now }
@@ -69,8 +69,8 @@ fn round_line_of(round: usize, text: &[u8]) -> Option<Line<'_>>
     action_of(RecordedActor::Round(round), word, rest)
 }
 
-/// Parses the rest of a line after its actor. `word` is the first word, and `rest` is the text
-/// after it.
+/// Parses the text after the actor in a line, and returns the whole line. `word` is the first word
+/// of the text, and `rest` is the text after this word.
 #[tactic(auto, unfolding(crate::specs::RecordingLine::action_of))]
 fn action_of<'a>(actor: RecordedActor, word: &[u8], rest: &'a [u8]) -> Option<Line<'a>>
     ensures { option_map line_view result ≡ spec.action_of actor word.now rest.now }
@@ -86,7 +86,7 @@ fn action_of<'a>(actor: RecordedActor, word: &[u8], rest: &'a [u8]) -> Option<Li
     job_action_of(actor, word, job)
 }
 
-/// Parses `J CLASS POOL`, the text of a line after `submit`.
+/// Parses `J CLASS POOL`, which comes after `submit` in a line, and returns the whole line.
 #[tactic(auto, unfolding(crate::specs::RecordingLine::submit_of))]
 fn submit_of(actor: RecordedActor, text: &[u8]) -> Option<Line<'_>>
     ensures { option_map line_view result ≡ spec.submit_of actor text.now }
@@ -102,8 +102,8 @@ fn submit_of(actor: RecordedActor, text: &[u8]) -> Option<Line<'_>>
     })
 }
 
-/// Returns the line with this actor, this word, such as `got`, and this job. Returns `None` if no
-/// form has the word between an actor and a job.
+/// Returns the line with this actor, this job and, between them, this word, such as `got`. Returns
+/// `None` if no form of line has this word between an actor and a job.
 #[tactic(auto, unfolding(crate::specs::RecordingLine::job_action_of))]
 fn job_action_of<'a>(actor: RecordedActor, word: &[u8], job: usize) -> Option<Line<'a>>
     ensures { option_map line_view result ≡ spec.job_action_of actor word.now job }
@@ -125,7 +125,8 @@ fn job_action_of<'a>(actor: RecordedActor, word: &[u8], job: usize) -> Option<Li
 
 // ---- other lines
 
-/// Parses a line without an actor. `word` is its first word, and `rest` is the text after it.
+/// Parses a line that has no actor. `word` is the first word of the line, and `rest` is the text
+/// after this word.
 #[tactic(auto, unfolding(crate::specs::RecordingLine::other_line_of))]
 fn other_line_of<'a>(word: &[u8], rest: &'a [u8]) -> Option<Line<'a>>
     ensures { option_map line_view result ≡ spec.other_line_of word.now rest.now }

@@ -8,7 +8,7 @@ ghost use Rattle.recordings.specs.LineParts as spec;
 use crate::{Line, RecordedActor};
 
 /// Returns the actor whose action or end the line reports. Returns `None` for a line that begins a
-/// round or starts a job, and for a line without an actor.
+/// round or starts a job, and for a line that names no actor.
 pub(crate) fn actor_of(line: &Line<'_>) -> Option<RecordedActor>
     ensures { result ≡ spec.actor_of (line_view line.now) }
 {
@@ -33,8 +33,9 @@ pub(crate) fn actor_of(line: &Line<'_>) -> Option<RecordedActor>
     }
 }
 
-/// Returns the job that the line names, or `None` if it names none. The line's actor and a job that
-/// the line submits do not count.
+/// Returns the job that the line names as its object, such as the job of a `got` line. Returns
+/// `None` if there is no such job. The actor of the line and a job that the line submits are not
+/// such jobs.
 pub(crate) fn job_of(line: &Line<'_>) -> Option<usize>
     ensures { result ≡ spec.job_of (line_view line.now) }
 {
@@ -50,8 +51,8 @@ pub(crate) fn job_of(line: &Line<'_>) -> Option<usize>
     }
 }
 
-/// Returns the pool that the line names. Returns `None` for a `pool` line and for a line that names
-/// no pool.
+/// Returns the pool that the line names, or `None` if it names no pool. Also returns `None` for a
+/// `pool` line.
 pub(crate) fn pool_of<'a>(line: &Line<'a>) -> Option<&'a str>
     ensures { option_map (λ pool. pool.now) result ≡ spec.pool_of (line_view line.now) }
 {

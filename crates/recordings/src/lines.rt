@@ -33,8 +33,9 @@ impl<'a> Model for RecordingLines<'a> {
 impl<'a> RecordingLines<'a> {
     /// Creates an iterator over the lines of a text. Ignores the text after the last newline.
     ///
-    /// A number in a line is at most [`MAX_LINE_NUMBER`](job_bodies::MAX_LINE_NUMBER) and has no
-    /// leading zero. A name follows the rules for names in plans.
+    /// In a well-formed line, each number is at most
+    /// [`MAX_LINE_NUMBER`](job_bodies::MAX_LINE_NUMBER) and has no leading zero, and each name
+    /// follows the rules for names in plans.
     pub fn new(text: &'a [u8]) -> RecordingLines<'a>
         ensures lines { result ≡ lines_read text.now }
         ensures few { length result ≤ length text.now }
@@ -46,8 +47,8 @@ impl<'a> RecordingLines<'a> {
     ///
     /// # Errors
     ///
-    /// Returns [`BadLine`] if the line has none of the forms. The next call returns the line after
-    /// it.
+    /// Returns [`BadLine`] if the next line has none of the forms in `docs/RECORDING.md`. The
+    /// iterator then continues with the line after it.
     #[inline(always)]
     pub fn next(&mut self) -> Option<Result<Line<'a>, BadLine>>
         ensures { MatchOption result ((self.old ≡ []) × (self.new ≡ []))
@@ -62,11 +63,11 @@ impl<'a> RecordingLines<'a> {
     }
 }
 
-/// Parses the first line of any form, and returns it with the text after its newline. Returns
-/// `None` if the text has no newline.
+/// Parses the first line of a text, whatever its form, and returns it with the text after its
+/// newline. Returns `None` if the text has no newline.
 ///
-/// This function is inlined because a call would first clear the space for its return value. That
-/// would slow down the frequent lines, which do not need this function.
+/// This function is inlined, because a call would first clear the space for its return value. This
+/// would slow down the parsing of the frequent lines, which does not need this function.
 #[inline(always)]
 fn split_line(text: &[u8]) -> Option<(Result<Line<'_>, BadLine>, &[u8])>
     ensures { MatchOption result (lines_read text.now ≡ [])
@@ -79,8 +80,8 @@ fn split_line(text: &[u8]) -> Option<(Result<Line<'_>, BadLine>, &[u8])>
     }
 }
 
-/// Splits a text at its first newline, and returns the line and the text after the newline. Returns
-/// `None` if the text has no newline.
+/// Splits the text at its first newline, and returns the text before the newline with the text
+/// after it. Returns `None` if the text has no newline.
 #[cold]
 #[inline(never)]
 fn split_whole_line(text: &[u8]) -> Option<(&[u8], &[u8])>

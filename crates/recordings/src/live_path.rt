@@ -10,7 +10,7 @@ use std::marker::Model;
 
 /// The path of a live actor, with an index that finds the submit of a job.
 ///
-/// In contracts, its value is the list of its actions.
+/// In contracts, the value of this type is the list of the path's actions.
 #[derive(Drop)]
 pub(crate) struct LivePath {
     steps: Vec<RecordedStep>,
@@ -71,7 +71,7 @@ impl LivePath {
         Ok(())
     }
 
-    /// Appends a get of the job if the path has a submit but no get of the job.
+    /// Appends a get of the job if the path has a submit of the job and no get of the job.
     ///
     /// # Errors
     ///
@@ -92,7 +92,7 @@ impl LivePath {
         Ok(())
     }
 
-    /// Removes the submit of this refused job, if the submit is the last action of the path.
+    /// Removes the submit of this refused job if the submit is the last action of the path.
     pub(crate) fn drop_submit(&mut self, job: usize)
         ensures { self.new ≡ spec.without_submit job self.old }
     {

@@ -16,7 +16,9 @@ use crate::invalidation_list::InvalidationList;
 use crate::unclaimed::UnclaimedJobs;
 use std::alloc::{AllocError, Global};
 
-/// The events that invalidate a SAFE answer, and the first foreign get, in the lines read so far.
+/// The events that invalidate a SAFE answer, and the first foreign get, in the lines read so far. A
+/// foreign get is a get of a job by an actor other than its submitter, before the submitter got the
+/// job.
 ///
 /// The size grows with the number of jobs that their submitters have not got, and with the number
 /// of actors whose last line is `timeout` or `interrupted`. Processing a line takes a constant
@@ -44,7 +46,7 @@ impl RecordedNotes {
     ///
     /// # Errors
     ///
-    /// Returns `AllocError` if memory runs out. The notes must not be used after that.
+    /// Returns `AllocError` if memory runs out. The notes must not be used after an error.
     pub fn take(&mut self, number: usize, line: &Line<'_>) -> Result<(), AllocError>
         ensures { (before : List RecordedLine)
             → KeepsRules (before ++ line_view line.now ∷ [])
@@ -57,9 +59,9 @@ impl RecordedNotes {
         self.unclaimed.take(line)
     }
 
-    /// Returns the first event of each invalidating type, in the order of their lines. A `timeout`
-    /// or `interrupted` line counts unless the next line of its actor is a `timeout`, `interrupted`
-    /// or `got` of the same job.
+    /// Returns the first event of each type that invalidates a SAFE answer, in the order of the
+    /// lines. A `timeout` or `interrupted` line is not such an event if the next line of its actor
+    /// is a `timeout`, `interrupted` or `got` of the same job.
     ///
     /// # Errors
     ///

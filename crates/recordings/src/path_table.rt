@@ -12,7 +12,7 @@ use crate::step::RecordedStep;
 use std::alloc::{AllocError, Global};
 use support::IdMap;
 
-/// A map from numbers of actors to their paths. The actors are either the live rounds or the live
+/// A map from the numbers of live actors to their paths. The actors are either all rounds or all
 /// jobs.
 #[derive(Drop)]
 pub(crate) struct PathTable {
@@ -53,7 +53,7 @@ impl PathTable {
         self.paths.insert(number, LivePath::new(self.alloc))
     }
 
-    /// Removes the actor with this number, and returns its path. Returns `None` if the actor is not
+    /// Removes the actor with this number and returns its path. Returns `None` if the actor is not
     /// live.
     pub(crate) fn end(&mut self, number: usize) -> Option<Vec<RecordedStep>>
         ensures path { option_map (λ path. path.items) result ≡ path_in self.old number }
@@ -63,8 +63,8 @@ impl PathTable {
         Some(self.paths.remove(number)?.into_steps())
     }
 
-    /// Appends a submit of the job to the path of this actor. Has no effect if the actor is not
-    /// live.
+    /// Appends a submit of the job to the path of the actor with this number. Does nothing if the
+    /// actor is not live.
     ///
     /// # Errors
     ///
@@ -83,8 +83,12 @@ impl PathTable {
         Ok(())
     }
 
-    /// Appends a get of the job to the path of this actor, if the path has a submit but no get of
-    /// the job. Has no effect if the actor is not live.
+    /// Appends a get of the job to the path of the actor with this number. Does nothing in these
+    /// cases:
+    ///
+    /// - The actor is not live.
+    /// - The path has no submit of the job.
+    /// - The path already has a get of the job.
     ///
     /// # Errors
     ///
@@ -103,8 +107,8 @@ impl PathTable {
         Ok(())
     }
 
-    /// Removes the submit of a refused job from the path of this actor, if the submit is the last
-    /// action. Has no effect if the actor is not live.
+    /// Removes the submit of a refused job from the path of the actor with this number, if the
+    /// submit is the path's last action. Does nothing if the actor is not live.
     pub(crate) fn drop_submit(&mut self, number: usize, job: usize)
         ensures { (n : ℕ)
             → path_in self.new n

@@ -14,10 +14,12 @@ use crate::step::RecordedStep;
 use crate::{Line, RecordedActor};
 use std::alloc::{AllocError, Global};
 
-/// The paths of the live actors after the lines read so far. The live actors are the rounds that
-/// began and have not ended, and the jobs that were submitted and are not done.
+/// The paths of the live actors after the lines read so far. These actors are live:
 ///
-/// A job that was refused, cancelled or removed and never ran remains live, with an empty path.
+/// - a round that began and has not ended;
+/// - a job that was submitted and is not done. A job that was refused, cancelled or removed and
+///   never ran remains live, with an empty path.
+///
 /// Processing a line takes at most two look-ups in tables. For a `got` line, it also takes a binary
 /// search among the submits of the actor. No contract states the size or the time.
 #[derive(Drop)]
@@ -55,8 +57,8 @@ impl Paths {
         Ok(())
     }
 
-    /// Processes the next line of a valid recording, as [`take`](Paths::take) does. If a round or a
-    /// job ends with the line, returns its path, and otherwise `None`.
+    /// Processes the next line of a valid recording, as [`take`](Paths::take) does. Returns the
+    /// path of the round or job that ends with the line, or `None` if none ends.
     ///
     /// # Errors
     ///

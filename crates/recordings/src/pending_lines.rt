@@ -9,7 +9,8 @@ use crate::RecordedActor;
 use std::alloc::{AllocError, Global};
 use support::IdMap;
 
-/// A map from actors to the line numbers of their pending gets.
+/// A map from actors to the line numbers of their pending gets. A get is pending if it timed out or
+/// was interrupted, and no later line of its actor was read yet.
 #[derive(Drop)]
 pub(crate) struct PendingLines {
     jobs: IdMap<usize>,

@@ -8,15 +8,16 @@ use crate::words::{is_word, parse_number, parse_word_and_number, strip_word};
 use job_bodies::MAX_LINE_NUMBER;
 use line_words::split_space;
 
-/// The capacity of an unbounded queue in a `pool` line. A `LinkedBlockingQueue` that is created
-/// without a capacity has the capacity 2,147,483,647, and a recorder writes each number above
-/// [`MAX_LINE_NUMBER`] as `MAX_LINE_NUMBER`. So each `LinkedBlockingQueue` with at least this
-/// capacity counts as unbounded.
+/// The capacity of an unbounded queue in a `pool` line. A `LinkedBlockingQueue` with this capacity
+/// counts as unbounded.
+///
+/// A `LinkedBlockingQueue` that is created without a capacity has the capacity 2,147,483,647. A
+/// recorder writes each number above [`MAX_LINE_NUMBER`] as `MAX_LINE_NUMBER`.
 pub const UNBOUNDED_CAPACITY: usize = MAX_LINE_NUMBER;
 
-/// The settings of a pool. No number in a line is above
-/// [`MAX_LINE_NUMBER`](job_bodies::MAX_LINE_NUMBER): a recorder writes a larger value as this
-/// limit.
+/// The settings of a pool in a `pool` line. If a value is above
+/// [`MAX_LINE_NUMBER`](job_bodies::MAX_LINE_NUMBER), a recorder writes this limit instead, so no
+/// number in a line is larger.
 #[derive(Clone, Copy, PartialEq, Eq)]
 pub struct PoolSizes {
     pub core: usize,
@@ -26,14 +27,14 @@ pub struct PoolSizes {
     pub capacity: usize,
     /// Whether core threads may time out.
     pub timeout: bool,
-    /// The number of threads of the pool when its recording began.
+    /// The number of threads of the pool when the pool's recording began.
     pub prestarted: usize,
     pub handler: HandlerKind,
 }
 
 impl PoolSizes {
-    /// Returns whether the queue counts as unbounded: a `LinkedBlockingQueue` whose capacity is
-    /// [`UNBOUNDED_CAPACITY`].
+    /// Returns true if the queue counts as unbounded, which means that it is a
+    /// `LinkedBlockingQueue` with the capacity [`UNBOUNDED_CAPACITY`].
     pub fn has_unbounded_queue(self) -> bool
         ensures { result ≡ spec.has_unbounded_queue self }
     {
@@ -41,8 +42,8 @@ impl PoolSizes {
     }
 }
 
-/// The kind of a pool's queue. A subclass of `ArrayBlockingQueue` or `LinkedBlockingQueue` is
-/// [`Other`](QueueKind::Other).
+/// The kind of a pool's queue. A queue of a subclass of `ArrayBlockingQueue` or
+/// `LinkedBlockingQueue` has the kind [`Other`](QueueKind::Other).
 #[derive(Clone, Copy, PartialEq, Eq, Hash)]
 pub enum QueueKind {
     Array,
@@ -53,7 +54,7 @@ pub enum QueueKind {
 }
 
 impl QueueKind {
-    /// Returns whether the queue is a `LinkedBlockingQueue`.
+    /// Returns true if the queue is a `LinkedBlockingQueue`.
     pub fn is_linked(self) -> bool
         ensures { result ≡ spec.is_linked self }
     {
@@ -122,7 +123,7 @@ fn yes_or_no(word: &[u8]) -> Option<bool>
     }
 }
 
-/// Parses `queue KIND` at the start of the text, and returns the kind with the words after it.
+/// Parses `queue KIND` at the start of the text, and returns the kind with the text after it.
 #[tactic(auto, unfolding(crate::specs::PoolSizes::parse_queue))]
 fn parse_queue(text: &[u8]) -> Option<(QueueKind, &[u8])>
     ensures { option_map (λ read. (read.0, read.1.now)) result ≡ spec.parse_queue text.now }
@@ -131,8 +132,8 @@ fn parse_queue(text: &[u8]) -> Option<(QueueKind, &[u8])>
     Some((queue_kind_of(word)?, rest))
 }
 
-/// Parses `timeout WORD` at the start of the text. Returns `true` if WORD is `yes` and `false` if
-/// it is `no`, with the words after it.
+/// Parses `timeout WORD` at the start of the text, and returns a boolean with the text after it.
+/// The boolean is `true` if WORD is `yes`, and `false` if WORD is `no`.
 #[tactic(auto, unfolding(crate::specs::PoolSizes::parse_timeout))]
 fn parse_timeout(text: &[u8]) -> Option<(bool, &[u8])>
     ensures { option_map (λ read. (read.0, read.1.now)) result ≡ spec.parse_timeout text.now }

@@ -13,8 +13,8 @@ use support::IdMap;
 
 /// The names of the pools that have a `pool` line.
 ///
-/// A look-up uses a hash of the name that is cheap to compute. If several names have the same hash,
-/// `firsts` has the first name that was added, and `others` has the other names.
+/// A look-up computes a hash of the name, which takes little time. If several names have the same
+/// hash, `firsts` has the name that was added first, and `others` has the other names.
 #[derive(Drop)]
 pub(crate) struct Pools {
     firsts: IdMap<String>,

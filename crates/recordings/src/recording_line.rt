@@ -2,7 +2,7 @@
 
 use crate::pool_sizes::PoolSizes;
 
-/// An actor, which submits jobs and gets them: a running job, or a round of a thread outside the
+/// An actor, which submits and gets jobs. It is a running job, or a round of a thread outside the
 /// pools.
 #[derive(Clone, Copy, PartialEq, Eq, Hash)]
 pub enum RecordedActor {
@@ -10,12 +10,13 @@ pub enum RecordedActor {
     Round(usize),
 }
 
-/// A parsed line. Its names are slices of the text.
+/// A parsed line. The names in the line are slices of the text.
 #[derive(Clone, Copy)]
 pub enum Line<'a> {
     /// The first line of the recording, `recording 1`.
     Head,
-    /// The recording of the pool began, or the settings of the pool changed to these.
+    /// The recording of this pool began, or the settings of the pool changed. `sizes` has the
+    /// settings from this line on.
     Pool {
         name: &'a str,
         sizes: PoolSizes,
@@ -86,7 +87,7 @@ pub enum Line<'a> {
     ShutDown {
         pool: &'a str,
     },
-    /// The pool ran jobs that no line reports. `jobs` is their number.
+    /// The pool ran jobs that no line reports. `jobs` is the number of these jobs.
     Unseen {
         pool: &'a str,
         jobs: usize,

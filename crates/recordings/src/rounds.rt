@@ -7,9 +7,11 @@ ghost use Rattle.recordings.specs.StoredState.{round_at, last_submit_of_round};
 use std::alloc::{AllocError, Global};
 use support::IdMap;
 
-/// The rounds in the lines read so far. A round is open if it has begun and has not ended. `begun`
-/// is the number of rounds that have begun. For each open round, `open` has the job that the round
-/// submitted in its last line, apart from `refused` lines, or `None` if that line is no submit.
+/// The rounds in the lines read so far. A round is open if it has begun and has not ended.
+///
+/// - `begun` is the number of rounds that have begun.
+/// - `open` has, for each open round, the job that the round submitted in its last line, or `None`
+///   if this line is no submit. `refused` lines do not count.
 #[derive(Drop)]
 pub(crate) struct Rounds {
     pub(crate) begun: usize,
@@ -28,15 +30,15 @@ impl Rounds {
         }
     }
 
-    /// Returns whether the round has begun and has not ended.
+    /// Returns true if the round has begun and has not ended.
     pub(crate) fn is_open(&self, round: usize) -> bool
         ensures { result ≡ is_some (round_at self.now round) }
     {
         self.open.contains(round)
     }
 
-    /// Returns the job that the round submitted in its last line, apart from `refused` lines.
-    /// Returns `None` if that line is no submit, or if the round is not open.
+    /// Returns the job that the round submitted in its last line, where `refused` lines do not
+    /// count. Returns `None` if this line is no submit, or if the round is not open.
     pub(crate) fn last_submit(&self, round: usize) -> Option<usize>
         ensures { result ≡ last_submit_of_round (round_at self.now round) }
     {
@@ -72,8 +74,8 @@ impl Rounds {
         self.open.remove(round);
     }
 
-    /// Stores the job that this round submitted in its last line, or `None` if that line is not a
-    /// submit. Has no effect if the round is not open.
+    /// Stores the job that the round submitted in its last line, or `None` if this line is no
+    /// submit. Does nothing if the round is not open.
     pub(crate) fn set_last_submit(&mut self, round: usize, last_submit: Option<usize>)
         ensures begun { self.new.begun ≡ self.old.begun }
         ensures going { (r : ℕ)

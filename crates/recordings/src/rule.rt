@@ -8,7 +8,8 @@ use std::fmt;
 /// A rule for a line of a recording, given the lines before it.
 #[derive(Clone, Copy, PartialEq, Eq)]
 pub enum LineRule {
-    /// O1: the first line is `recording 1`, and no other line is. No line comes after `end`.
+    /// O1: the first line is `recording 1`, and no other line is `recording 1`. No line comes after
+    /// `end`.
     Frame,
     /// O2: a line other than a `pool` line names only pools that have a `pool` line before it.
     Pools,
@@ -17,18 +18,18 @@ pub enum LineRule {
     Numbers,
     /// O4: the lines of a round come between its `begin` line and its `end` line.
     Rounds,
-    /// O5: a job has at most one `start` line. Its lines as an actor come after its `start` line,
-    /// and the last of them is `end` or `threw`.
+    /// O5: a job has at most one `start` line. The lines in which the job is the actor come after
+    /// its `start` line, and the last of them is `end` or `threw`.
     Jobs,
-    /// O6: `refused` comes after the `submit` line of the same job by the same actor, and before
-    /// the job's `start` line. Between `submit` and `refused`, the actor has only `refused` lines
-    /// of this job.
+    /// O6: a `refused` line comes after the `submit` line of the same job by the same actor, and
+    /// before the job's `start` line. Between the two lines, the actor has only `refused` lines of
+    /// this job.
     Refusals,
     /// O7: `got` comes after the `end`, `threw` or `cancel` line of its job.
     Gets,
 }
 
-/// Formats the rule's number and its requirement.
+/// Formats the number of the rule and what the rule requires.
 impl fmt::Display for LineRule {
     ghost output = { λ rule. Some (rule_text rule) };
 

@@ -11,7 +11,8 @@ use crate::rule::LineRule;
 use crate::trace_validator::TraceValidator;
 use crate::{Line, RecordedActor};
 
-/// Returns the first rule that the line breaks, if any. `lines` is the state before the line.
+/// Returns the first rule that the line breaks, or `None` if it breaks no rule. `lines` is the
+/// state before the line.
 pub(crate) fn first_broken_rule(lines: &TraceValidator, line: &Line<'_>) -> Option<LineRule>
     ensures { (before : List RecordedLine)
         → Represents lines.now before

@@ -13,7 +13,7 @@ pub enum RecordedStep {
 }
 
 impl RecordedStep {
-    /// Returns whether this action is a submit of this job.
+    /// Returns true if this step is a submit of this job.
     pub fn submits(self, job: usize) -> bool
         ensures { result ≡ spec.submits job self }
     {
@@ -23,7 +23,7 @@ impl RecordedStep {
         }
     }
 
-    /// Returns whether this action is a get of the job of the submit at this index of the path.
+    /// Returns true if this step is a get of the job of the submit at this index of the path.
     pub fn gets(self, place: usize) -> bool
         ensures { result ≡ spec.gets place self }
     {

@@ -17,8 +17,8 @@ pub(crate) struct SubmitEntry {
 
 /// The submits of a path, in the path's order.
 ///
-/// If their job numbers ascend, as in every valid recording, a look-up is a binary search.
-/// Otherwise it is a linear search.
+/// A look-up is a binary search if the job numbers of the submits ascend, as in every valid
+/// recording. Otherwise it is a linear search.
 #[derive(Drop)]
 pub(crate) struct SubmitIndex {
     pub(crate) entries: Vec<SubmitEntry>,
@@ -37,7 +37,8 @@ impl SubmitIndex {
         }
     }
 
-    /// Returns the index in `entries` of the last entry with this job, or `None` if there is none.
+    /// Returns the index, in `entries`, of the last entry with this job. Returns `None` if there is
+    /// no such entry.
     pub(crate) fn find(&self, job: usize) -> Option<usize>
         requires { spec.IsOrdered self.now }
         ensures found { IfSome result (spec.IsLastOf self.now.entries.items job) }
@@ -50,7 +51,7 @@ impl SubmitIndex {
         }
     }
 
-    /// Appends the entry of a submit.
+    /// Appends an entry for the submit of `job` at index `place` of the path.
     ///
     /// # Errors
     ///

@@ -13,12 +13,12 @@ use crate::rule_check::first_broken_rule;
 use crate::state_update::apply_line;
 use std::alloc::{AllocError, Global};
 
-/// The state of the rule check after the lines read so far.
+/// The state of the check of a recording against the line rules, after the lines read so far.
 ///
-/// Its size grows with the number of pools, of rounds that have not ended and of jobs that are not
-/// done. A job that was refused, cancelled or removed and never ran is not done. Checking a line
-/// takes a few look-ups in tables, whatever the lines before it are. No contract states the size or
-/// the time.
+/// The size of the state grows with the number of pools, of rounds that have not ended and of jobs
+/// that are not done. A job that was refused, cancelled or removed and never ran is not done.
+/// Checking a line takes a few look-ups in tables, however many lines were read before. No contract
+/// states the size or the time.
 #[derive(Drop)]
 pub struct TraceValidator {
     pub(crate) begun: bool,
@@ -42,8 +42,8 @@ impl TraceValidator {
         }
     }
 
-    /// Checks the next line. If it breaks no rule, updates the state and returns `None`. Otherwise
-    /// returns the first rule that it breaks, and leaves the state unchanged.
+    /// Checks the next line. If the line breaks no rule, updates the state and returns `None`.
+    /// Otherwise returns the first rule that the line breaks, and leaves the state unchanged.
     ///
     /// # Errors
     ///

@@ -10,7 +10,7 @@ use crate::{Line, RecordedActor};
 use std::alloc::{AllocError, Global};
 use support::IdMap;
 
-/// A map from each unclaimed job to its submitter.
+/// A map from each unclaimed job to its submitter. A job is unclaimed until its submitter gets it.
 #[derive(Drop)]
 pub(crate) struct UnclaimedJobs {
     submitters: IdMap<RecordedActor>,
@@ -26,8 +26,7 @@ impl UnclaimedJobs {
         }
     }
 
-    /// Returns true if an actor other than this one submitted the job and has not got it. Returns
-    /// false if the job is not unclaimed.
+    /// Returns true if the job is unclaimed and `actor` is not its submitter.
     pub(crate) fn is_foreign(&self, job: usize, actor: RecordedActor) -> bool
         ensures { result ≡ spec.is_foreign (submitter_in self.now job) actor }
     {

@@ -8,7 +8,7 @@ ghost use Rattle.recordings.specs.Words as spec;
 use job_bodies::is_valid_name;
 use line_words::{leading_number, split_space};
 
-/// Returns whether the text is this word.
+/// Returns true if the text is exactly this word.
 pub(crate) fn is_word(text: &[u8], word: &str) -> bool
     ensures { result ≡ bytes_eq text.now word.now }
 {
@@ -32,7 +32,8 @@ pub(crate) fn name_of(text: &[u8]) -> Option<&str>
     }
 }
 
-/// Parses a number and the space after it, and returns the number with the rest of the text.
+/// Parses a number and a space at the start of the text, and returns the number with the text after
+/// the space.
 pub(crate) fn parse_number(text: &[u8]) -> Option<(usize, &[u8])>
     ensures { option_map (λ read. (read.0, read.1.now)) result ≡ spec.parse_number text.now }
 {
@@ -40,7 +41,8 @@ pub(crate) fn parse_number(text: &[u8]) -> Option<(usize, &[u8])>
     Some((number, after.strip_prefix(b" ")?))
 }
 
-/// Parses a name and the space after it, and returns the name with the rest of the text.
+/// Parses a name and a space at the start of the text, and returns the name with the text after the
+/// space.
 #[tactic(auto, unfolding(crate::specs::Words::parse_name))]
 pub(crate) fn parse_name(text: &[u8]) -> Option<(&str, &[u8])>
     ensures { option_map (λ read. (read.0.now, read.1.now)) result ≡ spec.parse_name text.now }
@@ -49,7 +51,7 @@ pub(crate) fn parse_name(text: &[u8]) -> Option<(&str, &[u8])>
     Some((name_of(word)?, rest))
 }
 
-/// Strips this word and the space after it, and returns the rest of the text.
+/// Removes this word and a space from the start of the text, and returns the text after the space.
 #[tactic(auto, unfolding(crate::specs::Words::strip_word))]
 pub(crate) fn strip_word<'a>(word: &str, text: &'a [u8]) -> Option<&'a [u8]>
     ensures { option_map (λ rest. rest.now) result ≡ spec.strip_word word.now text.now }
@@ -62,8 +64,8 @@ pub(crate) fn strip_word<'a>(word: &str, text: &'a [u8]) -> Option<&'a [u8]>
     }
 }
 
-/// Parses this word, a space, a number and a space, and returns the number with the rest of the
-/// text.
+/// Parses this word, a space, a number and a space at the start of the text. Returns the number
+/// with the text after the last space.
 #[tactic(auto, unfolding(crate::specs::Words::parse_word_and_number))]
 pub(crate) fn parse_word_and_number<'a>(word: &str, text: &'a [u8]) -> Option<(usize, &'a [u8])>
     ensures { option_map (λ read. (read.0, read.1.now)) result
