@@ -55,9 +55,11 @@ impl Answer {
         })
     }
 
-    /// Appends the line with the reply to the event line `number`, counted from 1. Sets the status
-    /// to [`Status::Refused`] if the event was refused or was not possible, or if the jobs that a
-    /// `stuck` line names are stuck.
+    /// Appends the reply to the event line `number`, counted from 1, as a line. Sets the status to
+    /// [`Status::Refused`] in these cases:
+    ///
+    /// - The event was refused or was not possible.
+    /// - The jobs that a `stuck` line names are stuck.
     pub fn push_reply(
         &mut self,
         plan: &Plan,
@@ -91,15 +93,15 @@ pub fn no_separator(alloc: Global) -> Result<Answer, AllocError>
     fault(format!(in alloc; "{}", FaultHead(number::NO_SEPARATOR))?)
 }
 
-/// Returns the answer to an input that is too long, or whose event lines are too long.
+/// Returns the answer to an input that is too long, or to event lines that are too long.
 pub fn input_too_long(alloc: Global) -> Result<Answer, AllocError>
     ensures { IfOk result (λ answer. answer ≡ spec.input_too_long) }
 {
     fault(format!(in alloc; "{}", FaultHead(number::INPUT_TOO_LONG))?)
 }
 
-/// Returns the answer to a plan that is too large to run. The answer names the limit that a run
-/// would exceed.
+/// Returns the answer to a plan that is too large to run. The answer names the limit that a run of
+/// the plan would exceed.
 pub fn too_large(alloc: Global, plan: &Plan) -> Result<Answer, AllocError>
     ensures { IfOk result (λ answer. answer ≡ too_large plan.now) }
 {
@@ -118,14 +120,14 @@ fn limit_words(limit: RunLimit) -> &'static str
     }
 }
 
-/// Returns the answer to event lines whose line `line`, counted from 1, is malformed.
+/// Returns the answer to event lines of which line number `line`, counted from 1, is malformed.
 pub fn bad_event(alloc: Global, line: u64) -> Result<Answer, AllocError>
     ensures { IfOk result (λ answer. answer ≡ spec.bad_event line) }
 {
     fault(format!(in alloc; "{} at line {line}", FaultHead(number::BAD_EVENT))?)
 }
 
-/// Returns the answer to a recording with the malformed line that `found` names. If that line ends
+/// Returns the answer to a recording whose malformed line `found` names. If the malformed line ends
 /// with a carriage return, the answer says so.
 pub fn bad_recording(
     alloc: Global,
@@ -138,14 +140,14 @@ pub fn bad_recording(
     fault(format!(in alloc; "{} at {found}{hint}", FaultHead(number::BAD_RECORDING))?)
 }
 
-/// Returns the answer to a plan's text with this fault.
+/// Returns the answer that reports this fault of a plan's text.
 pub fn plan_fault(alloc: Global, plan_fault: PlanFault) -> Result<Answer, AllocError>
     ensures { IfOk result (λ answer. answer ≡ spec.fault (fault_line plan_fault)) }
 {
     fault(format!(in alloc; "{plan_fault}")?)
 }
 
-/// Returns the answer to a certificate's text with this fault.
+/// Returns the answer that reports this fault of a certificate's text.
 pub fn cert_fault(alloc: Global, cert_fault: CertFault) -> Result<Answer, AllocError>
     ensures { IfOk result (λ answer. answer ≡ spec.fault (head cert_fault.number)) }
 {

@@ -23,24 +23,31 @@ use std::alloc::Global;
 use std::sync::Wait;
 use std::thread::Threads;
 
-/// Runs the command that the arguments name, and writes its answer. The first argument is the
-/// program's name.
+/// Runs the command that the arguments name, and writes its answer to the sink. The first argument
+/// is the program's name.
 ///
-/// A text is read from standard input, `input`, if no file is named or its name is `-`, and
-/// otherwise from `files`. A file that is named alone holds the whole input of the command. Of two
-/// files, the first holds the plan, and the second the text that otherwise follows the line `%%`.
+/// The arguments name at most two files. A text is read from the file of this name in `files`. It
+/// is read from `input`, the standard input, if no file is named or the name is `-`. If one file is
+/// named, it holds the whole input of the command. If two files are named, the first holds the
+/// plan. The second holds the text that follows the line `%%` in a single input.
 ///
-/// If the arguments name a file for a certificate and the answer rests on one, the certificate is
-/// written to that file after the answer. It is not written if its text is too long to be read
-/// back. An existing regular file is overwritten only if it is empty, or a JSON object with the
-/// keys of a certificate. If it holds another text or cannot be read, or if the name is `-` or that
-/// of a directory, the call fails before it reads the input.
+/// The arguments can also name a file for the certificate that an answer is based on. The
+/// certificate is then written to this file after the answer. It is not written if the answer is
+/// based on no certificate, or if the certificate's text is too long to be read back.
+///
+/// The certificate's file may not exist yet, or may be a regular file that is empty or holds a JSON
+/// object with the keys of a certificate. The call fails before it reads the input in these cases:
+///
+/// - A regular file of this name holds another text or cannot be read.
+/// - The name is `-`, or is the name of a directory.
 ///
 /// # Errors
 ///
-/// Returns the [`CliError`] of the first failure. If the sink failed, a prefix of the answer was
-/// written; if writing the certificate's file failed, the whole answer was; after any other failure
-/// nothing was.
+/// Returns the [`CliError`] of the first failure. How much was written depends on the failure:
+///
+/// - If the sink failed, a prefix of the answer was written.
+/// - If the certificate's file could not be written, the whole answer was written.
+/// - After any other failure, nothing was written.
 #[tactic(auto, using(crate::proofs::SavedTexts::no_writes, crate::proofs::SavedTexts::texts_untouched, crate::proofs::SavedTexts::calm_untouched))]
 pub fn serve_words<'a, R: Threads + Wait + Sync, F: TextFiles, S: Source, K: Sink>(
     rt: &R,
@@ -154,8 +161,8 @@ pub fn serve_words<'a, R: Threads + Wait + Sync, F: TextFiles, S: Source, K: Sin
     Ok(status)
 }
 
-/// Runs the command of the parsed arguments, and writes its answer. Sets `found` as
-/// [`serve_named`](crate::serve_named) sets `certificate`.
+/// Runs the command of the parsed arguments, and writes its answer to the sink. Sets `found` in the
+/// same way as [`serve_named`](crate::serve_named) sets `certificate`.
 fn serve_parsed<'a, R: Threads + Wait + Sync, F: TextFiles, S: Source, K: Sink>(
     rt: &R,
     alloc: Global,

@@ -22,11 +22,12 @@ use std::alloc::Global;
 use std::sync::Wait;
 use std::thread::Threads;
 
-/// The answer of `ask`, and the text of the certificate that it rests on, if it rests on one.
+/// The answer of `ask`, and the text of the certificate that the answer is based on, if there is
+/// one.
 #[derive(Drop)]
 pub struct AskOutput {
     pub output: Output,
-    /// The certificate's text, with a newline at its end. `None` if the answer rests on no
+    /// The certificate's text, with a newline at its end. It is `None` if the answer is based on no
     /// certificate, or if the text would be too long to be read back.
     pub certificate: Option<Vec<u8>>,
 }
@@ -43,8 +44,9 @@ impl AskOutput {
     }
 }
 
-/// Answers whether the plan in `input` is safe. The input is a plan's text, or a bundle of a plan
-/// and a certificate, as `given` says. Messages use `file` as the name of the plan's file.
+/// Returns the answer whether the plan in `input` is safe. `given` says whether the input is a
+/// plan's text or a bundle of a plan and a certificate. Messages use `file` as the name of the
+/// plan's file.
 ///
 /// # Errors
 ///
@@ -115,7 +117,7 @@ fn ask_text<R: Threads + Wait + Sync>(
     }
 }
 
-/// Returns the answer of `ask` for a plan and, if one is given, the text of a certificate.
+/// Returns the answer of `ask` for a plan. `cert`, if it is given, is the text of a certificate.
 fn ask_plan<R: Threads + Wait + Sync>(
     rt: &R,
     alloc: Global,
@@ -163,8 +165,7 @@ fn ask_with<R: Threads + Wait + Sync>(
     }
 }
 
-/// Returns the answer of `ask` for a plan and, if one is given, a certificate with the plan's
-/// shape.
+/// Returns the answer of `ask` for a plan. The certificate, if one is given, has the plan's shape.
 fn ask_found<R: Threads + Wait + Sync>(
     rt: &R,
     alloc: Global,

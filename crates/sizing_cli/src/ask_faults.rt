@@ -20,7 +20,7 @@ use std::alloc::{AllocError, Global};
 use support::number::{CERT_TOO_LONG, NOT_JSON, VERSION, WEIGHT_TOO_LARGE};
 
 /// Returns the answer to a plan's text whose first fault is `fault`. Messages use `file` as the
-/// name of its file.
+/// name of the plan's file.
 pub(crate) fn faults_answer(
     alloc: Global,
     form: Form,
@@ -35,8 +35,8 @@ pub(crate) fn faults_answer(
     Ok(bad_text(text))
 }
 
-/// Returns the text of the faults in the output format `form`. For [`Form::Dot`], which has no
-/// picture of faults, the text is that of [`Form::Words`].
+/// Returns the text of the faults in the output format `form`. For [`Form::Dot`], which cannot show
+/// faults, the text is the same as for [`Form::Words`].
 fn faults_text(
     alloc: Global,
     form: Form,
@@ -74,8 +74,8 @@ fn bad_text(text: String) -> Output
     })
 }
 
-/// Returns the answer to a certificate's text with this fault. Messages use `file` as the name of
-/// the plan's file, whose content is `text`.
+/// Returns the answer that reports this fault of a certificate's text. Messages use `file` as the
+/// name of the plan's file. `text` is the content of the plan's file.
 pub(crate) fn cert_fault_answer(
     alloc: Global,
     form: Form,
@@ -90,8 +90,8 @@ pub(crate) fn cert_fault_answer(
     Ok(bad_text(text))
 }
 
-/// Returns the text of a certificate's fault in the output format `form`, with the message `words`.
-/// For [`Form::Dot`], the text is that of [`Form::Words`].
+/// Returns the text of a certificate's fault in the output format `form`. `words` is the message of
+/// the fault. For [`Form::Dot`], the text is the same as for [`Form::Words`].
 fn cert_fault_text(
     alloc: Global,
     form: Form,
@@ -127,7 +127,8 @@ fn push_number(text: &mut String, number: u8) -> Result<(), AllocError>
     writeln!(text, " (fault {number})")
 }
 
-/// Returns a message for a certificate fault that says what is wrong and how to fix it.
+/// Returns the message for the certificate fault with this number. The message says what is wrong
+/// and how to fix it.
 fn words_for(number: u8) -> &'static str {
     match number {
         NOT_JSON =>

@@ -13,11 +13,11 @@ pub struct Bundle<'a> {
     pub second: &'a [u8],
 }
 
-/// Splits an input at its last line `%%`, which needs no newline if it ends the input. Returns
-/// `None` if no line is `%%`.
+/// Splits an input at its last line `%%`. If this line is the last line of the input, it may have
+/// no newline. Returns `None` if no line is `%%`.
 ///
-/// The function examines lines that contain a `%`, each once, from the last one backwards, until
-/// one is `%%`.
+/// The function examines the lines that contain a `%` from the last to the first, each once, until
+/// a line is `%%`.
 pub fn bundle_of(input: &[u8]) -> Option<Bundle<'_>>
     ensures { option_map (λ bundle. record { plan = bundle.plan.now; second = bundle.second.now })
         result
@@ -36,7 +36,8 @@ pub fn bundle_of(input: &[u8]) -> Option<Bundle<'_>>
     }
 }
 
-/// Returns the offset at which the last line of a text begins: after the last newline, or 0.
+/// Returns the offset at which the last line of a text begins. This is the offset after the last
+/// newline, or 0 if there is no newline.
 fn last_line_start(text: &[u8]) -> usize
     ensures within { result ≤ length text.now }
     ensures behind_newline { IsAfterLastMatch (λ byte. byte == 10) text.now result }

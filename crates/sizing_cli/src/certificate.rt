@@ -20,17 +20,20 @@ use std::alloc::{AllocError, Global};
 use std::sync::Wait;
 use std::thread::Threads;
 
-/// The maximum number of threads in which a command searches or checks if it has no option for this
-/// number.
+/// The maximum number of threads of a search or a check, if the command has no option that sets it.
 pub(crate) const WORKERS: usize = DEFAULT_WORKERS as usize;
 
-/// The number of pools per search thread. A further thread for fewer pools would save too little
-/// time for the memory that it needs.
+/// The number of pools for each search thread. With fewer pools for each, a further thread would
+/// save too little time for the memory that it needs.
 const POOLS_OF_A_WORKER: usize = 16;
 
-/// Searches for a certificate in at most `workers` threads. If that search finds none, searches for
-/// sizes, and returns the certificate of these sizes if it also accepts the declared ones, and
-/// otherwise `None`. So `certify` finds a certificate if `fit` changes no size.
+/// Returns a certificate that accepts the plan, or `None` if two searches find none:
+///
+/// - The first search is for a certificate of the plan, in at most `workers` threads.
+/// - The second search is for sizes. If the certificate of the sizes that it finds also accepts the
+///   declared sizes, the result is this certificate.
+///
+/// So `certify` finds a certificate if `fit` changes no size.
 ///
 /// # Errors
 ///
@@ -55,8 +58,8 @@ pub(crate) fn certificate_of<R: Threads + Wait + Sync>(
     }
 }
 
-/// Returns the number of search threads for the plan: one for every 16 of its pools, but at least 1
-/// and at most `most`.
+/// Returns the number of search threads for the plan: one for every 16 pools of the plan, but at
+/// least 1 and at most `most`.
 fn workers_of(plan: &Plan, most: usize) -> usize
     requires { 1 ≤ most }
     ensures some { 1 ≤ result }
@@ -65,8 +68,8 @@ fn workers_of(plan: &Plan, most: usize) -> usize
     most.min(plan.pools().len() / POOLS_OF_A_WORKER).max(1)
 }
 
-/// Searches for sizes, and returns their certificate if it also accepts the declared sizes. Returns
-/// `None` if it does not, or if no sizes are found.
+/// Searches for sizes, and returns the certificate of the sizes that it finds. Returns `None` if it
+/// finds no sizes, or if their certificate does not accept the declared sizes.
 fn certificate_of_sizes(alloc: Global, plan: &Plan) -> Result<Option<Cert>, AllocError>
     requires { accepted plan.now (steady_cert plan.now) ≡ false }
     ensures accepted { IfOk result
@@ -84,13 +87,14 @@ fn certificate_of_sizes(alloc: Global, plan: &Plan) -> Result<Option<Cert>, Allo
 pub(crate) enum SizesComparison {
     /// A certificate that accepts the plan with its declared sizes.
     Accepted(Cert),
-    /// The sizes that were found, whose certificate does not accept the declared ones, or the
-    /// reason why none were found.
+    /// The sizes that were found, whose certificate does not accept the declared sizes. If no sizes
+    /// were found, the reason why.
     Other(SizesFound),
 }
 
-/// Compares the sizes that a search found with those that the plan declares. The result is
-/// [`SizesComparison::Accepted`] if the certificate of the found sizes accepts the declared ones.
+/// Compares the sizes that a search found with those that the plan declares. Returns
+/// [`SizesComparison::Accepted`] if the certificate of the found sizes also accepts the declared
+/// sizes.
 pub(crate) fn as_declared(plan: &Plan, sizes: SizesFound) -> SizesComparison
     requires known { IsKnown plan.now sizes }
     requires not_steady { accepted plan.now (steady_cert plan.now) ≡ false }

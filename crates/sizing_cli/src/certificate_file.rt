@@ -18,11 +18,18 @@ use job_bodies::MAX_CERT_BYTES;
 use serde_json::Value;
 use std::alloc::{AllocError, Global};
 
-/// Returns an error if a certificate may not be written to the file `name`, so that a misplaced
-/// argument overwrites no other text. The name must be neither `-` nor that of a directory. A
-/// regular file of this name must be readable, and must be empty or hold a JSON object with the
-/// keys of a certificate. If `name` is `None`, no certificate is to be written, and there is no
-/// error. Also fails if memory runs out.
+/// Checks that a certificate may be written to the file `name`. This keeps a misplaced argument
+/// from overwriting another text. There is no error if `name` is `None`, because then no
+/// certificate is to be written.
+///
+/// # Errors
+/// Returns an error in these cases:
+///
+/// - The name is `-`, or is the name of a directory.
+/// - A regular file of this name cannot be read.
+/// - A regular file of this name is not empty and holds no JSON object with the keys of a
+///   certificate.
+/// - Memory runs out.
 pub(crate) fn ensure_replaceable<'a, F: TextFiles>(
     alloc: Global,
     files: &F,
@@ -48,8 +55,8 @@ pub(crate) fn ensure_replaceable<'a, F: TextFiles>(
     ensure_certificate(alloc, files, name)
 }
 
-/// Returns an error if there is a file of this name that a certificate may not replace, or that
-/// cannot be read.
+/// Returns an error if a regular file of this name cannot be read, or if a certificate may not
+/// replace it.
 fn ensure_certificate<'a, F: TextFiles>(
     alloc: Global,
     files: &F,
@@ -67,7 +74,8 @@ fn ensure_certificate<'a, F: TextFiles>(
     }
 }
 
-/// Returns an error if a certificate may not replace `text`, the content of the file `name`.
+/// Returns an error if a certificate may not replace `text`, which is the content of the file
+/// `name`.
 fn ensure_replaceable_text<'a>(
     alloc: Global,
     name: &'a str,
@@ -83,8 +91,8 @@ fn ensure_replaceable_text<'a>(
     }
 }
 
-/// Returns whether a certificate may replace this text: the text is empty or is a certificate
-/// itself. Only the keys of a certificate are checked, because that certificate may belong to an
+/// Returns true if a certificate may replace this text, which means that the text is empty or is
+/// itself a certificate. Only the keys of this certificate are checked, because it may belong to an
 /// older version of the plan.
 fn is_replaceable(alloc: Global, text: &[u8]) -> Result<bool, AllocError>
     ensures { IfOk result (λ replaceable. replaceable ≡ spec.is_replaceable text.now) }
@@ -148,7 +156,7 @@ fn has_three_members(value: &Value) -> bool
     }
 }
 
-/// Returns the number of members of the value, or `None` if it is not an object.
+/// Returns the number of members of the value, or `None` if the value is not an object.
 fn member_count(value: &Value) -> Option<usize>
     ensures { result ≡ option_map count_members (as_object (view value.now)) }
 {
@@ -158,7 +166,7 @@ fn member_count(value: &Value) -> Option<usize>
     }
 }
 
-/// Writes the certificate's text `found` to the file `name`. Does nothing if one of the two is
+/// Writes the certificate's text `found` to the file `name`. Does nothing if `found` or `name` is
 /// `None`. Returns [`CliError::Unwritten`] if the file cannot be written.
 #[tactic(auto, using(crate::proofs::SavedTexts::no_writes))]
 pub(crate) fn write_certificate<'a, F: TextFiles>(

@@ -15,9 +15,15 @@ use std::sync::Wait;
 use std::thread::Threads;
 use support::number::{GATE, MEMORY};
 
-/// Joins the two texts to a bundle, and checks it in at most `workers` threads. Returns the bundle
-/// if it splits into the same two texts again and `check` accepts it, and otherwise `None`. Fails
-/// with fault 20 if memory runs out, and with fault 43 if the check ends with that fault.
+/// Returns the bundle of a plan's text and a certificate's text, or `None` if it fails one of these
+/// tests:
+///
+/// - It splits into the same two texts again.
+/// - `check`, which runs in at most `workers` threads, accepts it.
+///
+/// # Errors
+///
+/// Fails with fault 20 if memory runs out, and with fault 43 if the check ends with that fault.
 pub fn certified_bundle<R: Threads + Wait + Sync>(
     rt: &R,
     alloc: Global,
@@ -40,7 +46,7 @@ pub fn certified_bundle<R: Threads + Wait + Sync>(
     }
 }
 
-/// Joins the two texts with `%%` and a newline between them, and frees the second one.
+/// Joins the two texts, with `%%` and a newline between them. Frees the second text.
 fn join_texts(plan: Vec<u8>, cert: Vec<u8>) -> Result<Vec<u8>, AllocError>
     ensures { IfOk result (λ text. text.items ≡ plan.items ++ (codes "%%" ++ 10 ∷ cert.items)) }
 {
@@ -52,8 +58,8 @@ fn join_texts(plan: Vec<u8>, cert: Vec<u8>) -> Result<Vec<u8>, AllocError>
     Ok(text)
 }
 
-/// Returns whether the text is a bundle whose plan has `plan_len` bytes, and `check` accepts its
-/// parts.
+/// Returns true if the text is a bundle whose plan has `plan_len` bytes, and `check` accepts the
+/// two parts of the bundle.
 fn is_certified<R: Threads + Wait + Sync>(
     rt: &R,
     alloc: Global,
@@ -72,7 +78,7 @@ fn is_certified<R: Threads + Wait + Sync>(
     }
 }
 
-/// Returns whether `check` accepts the two parts. A part with a fault is not accepted.
+/// Returns true if `check` accepts the two parts of a bundle. Returns false if a part has a fault.
 fn is_accepted<R: Threads + Wait + Sync>(
     rt: &R,
     alloc: Global,

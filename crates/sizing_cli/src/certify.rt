@@ -25,19 +25,20 @@ enum CertificateSearch {
     /// The text of a certificate, with its newline.
     Text(Vec<u8>),
     NotFound,
-    /// A certificate whose text would be too long to be read back.
+    /// A certificate was found, but its text would be too long to be read back.
     TooLong,
 }
 
-/// Returns the bundle of the plan and a certificate that `check` accepts, or the reason why there
-/// is none. The input is a plan's text. `workers`, from 1 to 64, is the maximum number of threads
-/// of the search and of the check.
+/// Returns the bundle of the plan in `input` and a certificate that `check` accepts. If there is no
+/// such bundle, returns the reason. `workers`, from 1 to 64, is the maximum number of threads of
+/// the search and of the check.
 ///
 /// # Errors
 ///
-/// Fails with fault 20 if memory runs out or a thread cannot be started, with fault 42 or 43 if the
-/// search ends with that fault, with 43 if the check does, and with 42 if `check` does not accept
-/// the bundle.
+/// - Fails with fault 20 if memory runs out or a thread cannot be started.
+/// - Fails with fault 42 or 43 if the search ends with that fault.
+/// - Fails with fault 43 if the check ends with that fault.
+/// - Fails with fault 42 if `check` does not accept the bundle.
 pub fn certify<R: Threads + Wait + Sync>(
     rt: &R,
     alloc: Global,
@@ -62,11 +63,12 @@ pub fn certify<R: Threads + Wait + Sync>(
     }
 }
 
-/// Returns the text with a newline appended, unless it is empty or already ends with one.
+/// Returns the text with a newline at its end. If the text is empty or already ends with a newline,
+/// returns it unchanged.
 ///
 /// # Errors
 ///
-/// [`AllocError`] if memory runs out.
+/// Returns [`AllocError`] if memory runs out.
 pub fn whole_lines(mut text: Vec<u8>) -> Result<Vec<u8>, AllocError>
     ensures { IfOk result (λ lines. lines.items ≡ spec.whole_lines text.items) }
 {
@@ -77,9 +79,9 @@ pub fn whole_lines(mut text: Vec<u8>) -> Result<Vec<u8>, AllocError>
     Ok(text)
 }
 
-/// Parses the plan in `text`, and searches for a certificate that accepts it. If the text has a
-/// fault, returns its first fault. Drops the plan, so that its memory is free when the bundle is
-/// checked.
+/// Parses the plan in `text`, and searches for a certificate that accepts the plan. If the text has
+/// a fault, returns the first fault. The plan is freed before the function returns, so its memory
+/// is free when the bundle is checked.
 fn search_text<R: Threads + Wait + Sync>(
     rt: &R,
     alloc: Global,
@@ -119,12 +121,13 @@ fn found_text<R: Threads + Wait + Sync>(
     Ok(CertificateSearch::Text(text))
 }
 
-/// Returns the bundle of the two texts, if `check` accepts it.
+/// Returns the bundle of the two texts.
 ///
 /// # Errors
 ///
-/// Fails with fault 20 if memory runs out, with fault 43 if the check ends with that fault, and
-/// with fault 42 if `check` does not accept the bundle, which contradicts the search.
+/// - Fails with fault 20 if memory runs out.
+/// - Fails with fault 43 if the check ends with that fault.
+/// - Fails with fault 42 if `check` does not accept the bundle, which contradicts the search.
 fn bundle<R: Threads + Wait + Sync>(
     rt: &R,
     alloc: Global,

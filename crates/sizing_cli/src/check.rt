@@ -13,9 +13,9 @@ use cert_text::Cert;
 use job_bodies::Plan;
 use std::alloc::{AllocError, Global};
 
-/// Returns the answer of `check`: whether the certificate accepts the plan, and for each pool the
-/// totals of its vectors and the limits of these totals. If the certificate's text has a fault, the
-/// answer is that fault.
+/// Returns the answer of `check`. It says whether the certificate accepts the plan. It also has,
+/// for each pool, the totals of the pool's vectors and the limits of these totals. If the
+/// certificate's text has a fault, the answer is only this fault.
 pub fn check(alloc: Global, plan: &Plan, cert: &[u8]) -> Result<Answer, AllocError>
     ensures { IfOk result (λ answer. answer ≡ spec.check plan.now cert.now) }
 {

@@ -13,12 +13,12 @@ use conformance::{Conformance, Finding, PoolRejections, conform, push_findings};
 use job_bodies::{MAX_RECORDED_BYTES, Plan};
 use std::alloc::{AllocError, Global};
 
-/// Returns how the recording differs from the plan. The input is a bundle of a plan and a
-/// recording. If it has a fault, the answer is that fault.
+/// Returns the differences between a recording and a plan. The input is a bundle of the plan and
+/// the recording. If the input has a fault, the answer is this fault.
 ///
 /// # Errors
 ///
-/// [`AllocError`] if memory runs out.
+/// Returns [`AllocError`] if memory runs out.
 pub fn conform_report(alloc: Global, input: &[u8]) -> Result<Answer, AllocError>
     ensures { IfOk result (spec.IsConformAnswer input.now) }
 {
@@ -34,7 +34,8 @@ pub fn conform_report(alloc: Global, input: &[u8]) -> Result<Answer, AllocError>
     }
 }
 
-/// Returns how the recording differs from the plan, or the answer to a malformed recording.
+/// Returns the differences between the recording and the plan, or the answer to a malformed
+/// recording.
 fn compare(alloc: Global, plan: &Plan, recording: &[u8]) -> Result<Answer, AllocError>
     ensures { IfOk result (spec.AnswersRecording plan.now recording.now) }
 {
@@ -67,8 +68,8 @@ fn findings_answer(
     Ok(Answer { text, status })
 }
 
-/// Appends a line for each pool that rejected jobs as the plan allows, with the number of these
-/// jobs.
+/// Appends a line for each pool with rejections that the plan allows. The line has the number of
+/// jobs that the pool rejected in this way.
 fn push_rejections(
     text: &mut String,
     plan: &Plan,

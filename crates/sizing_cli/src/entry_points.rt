@@ -25,20 +25,31 @@ use std::sync::Wait;
 use std::thread::Threads;
 
 /// Reads an input, runs the command on it, and writes the answer to the sink. The whole answer is
-/// computed before its first byte is written. The numbers in the command must be in their ranges.
+/// computed before the first byte of it is written. The numbers in the command must be in their
+/// ranges.
 ///
-/// It reads at most 2,097,156 bytes, or 268,435,457 for a command on a recording. Each read except
-/// the last takes at least one byte. For a [`Task`] it starts threads and joins them.
+/// The call reads at most 2,097,156 bytes, or 268,435,457 bytes for a command on a recording. Each
+/// read except the last takes at least one byte. For a [`Task`], the call starts threads and joins
+/// them.
 ///
 /// # Errors
 ///
-/// Any command fails with fault 20 if memory runs out, with 60 if the source fails during this
-/// call, and with 61 if the sink fails. A [`Task`] also fails with 20 if a thread for a search or a
-/// run cannot be started, with 42 or 43 if [`search`](cert_search::search) ends with that fault,
-/// and with 43 if [`check_on`](cert_check::check_on) does. [`Task::Certify`] and [`Task::Fit`] also
-/// fail with 42 if `check` does not accept the bundle that was found. [`Task::Run`] also fails with
-/// 41, 42 or 43 if [`run`](locked_runner::run) ends with that fault. After 61 a prefix of the
-/// answer was written; after any other fault nothing was.
+/// Any command fails with one of these faults:
+///
+/// - 20 if memory runs out;
+/// - 60 if the source fails during this call;
+/// - 61 if the sink fails.
+///
+/// A [`Task`] also fails with one of these faults:
+///
+/// - 20 if a thread for a search or a run cannot be started;
+/// - 42 or 43 if [`search`](cert_search::search) ends with that fault;
+/// - 43 if [`check_on`](cert_check::check_on) ends with that fault;
+/// - 42 for [`Task::Certify`] and [`Task::Fit`] if `check` does not accept the bundle that was
+///   found;
+/// - 41, 42 or 43 for [`Task::Run`] if [`run`](locked_runner::run) ends with that fault.
+///
+/// After fault 61, a prefix of the answer was written. After any other fault, nothing was written.
 pub fn serve<R: Threads + Wait + Sync, S: Source, K: Sink>(
     rt: &R,
     alloc: Global,
@@ -54,14 +65,18 @@ pub fn serve<R: Threads + Wait + Sync, S: Source, K: Sink>(
     serve_named(rt, alloc, command, NO_FILE, &mut certificate, source, sink)
 }
 
-/// Runs the command as [`serve`] does, with `file` as the name of the plan's file in messages of
-/// [`Task::Ask`]. An answer of `ask` sets `certificate` to the text of the certificate that it
-/// rests on, with a newline at its end, or to `None` if it rests on none or if the text is too long
-/// to be read back. Otherwise `certificate` is unchanged.
+/// Runs the command as [`serve`] does, with two differences for [`Task::Ask`]:
+///
+/// - Messages use `file` as the name of the plan's file.
+/// - An answer sets `certificate` to the text of the certificate that the answer is based on, with
+///   a newline at its end. `certificate` becomes `None` if the answer is based on no certificate,
+///   or if the text is too long to be read back.
+///
+/// For any other command, `certificate` is unchanged.
 ///
 /// # Errors
 ///
-/// Those of [`serve`].
+/// Fails with the faults of [`serve`].
 pub fn serve_named<R: Threads + Wait + Sync, S: Source, K: Sink>(
     rt: &R,
     alloc: Global,
@@ -86,8 +101,8 @@ pub fn serve_named<R: Threads + Wait + Sync, S: Source, K: Sink>(
     write_answer(rt, alloc, command, file, certificate, input, sink)
 }
 
-/// Runs the command on this input, and writes the answer to the sink. `file` and `certificate` are
-/// as in [`serve_named`].
+/// Runs the command on this input, and writes the answer to the sink. `file` and `certificate` have
+/// the same meaning as in [`serve_named`].
 pub(crate) fn write_answer<R: Threads + Wait + Sync, K: Sink>(
     rt: &R,
     alloc: Global,
@@ -111,7 +126,7 @@ pub(crate) fn write_answer<R: Threads + Wait + Sync, K: Sink>(
     }
 }
 
-/// Runs the task on this input, with threads, and writes the answer to the sink.
+/// Runs the task on this input, which may use threads, and writes the answer to the sink.
 fn write_task<R: Threads + Wait + Sync, K: Sink>(
     rt: &R,
     alloc: Global,

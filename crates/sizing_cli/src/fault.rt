@@ -16,18 +16,19 @@ const USAGE: u8 = 2;
 /// The exit status for any error other than bad arguments.
 const NO_ANSWER: u8 = 3;
 
-/// The reason why the arguments of a command line got no complete answer. Nothing was written,
-/// except after a failure of the sink or of the certificate's file.
+/// The reason why a command line got no complete answer. Nothing was written, unless the sink or
+/// the certificate's file failed.
 #[derive(Debug, Drop)]
 pub enum CliError<'a> {
-    /// An error of `clap`, or a request for help. Its `Display` is `clap`'s own text for the user.
+    /// An error of `clap`, or a request for help. Its `Display` writes `clap`'s own text for the
+    /// user.
     Words(Error),
     /// The arguments name no command.
     NoCommand,
-    /// Both texts are to come from standard input.
+    /// The arguments say that both texts come from standard input.
     InputTwice,
-    /// Two texts are given, and one of them is itself a bundle of two texts. The field is the name
-    /// of its file, or `<stdin>`.
+    /// Two texts are given, and one of them is itself a bundle of two texts. The field is the file
+    /// name of this text, or `<stdin>`.
     Bundle(&'a str),
     /// The file of this name could not be read: fault 60.
     Unread(&'a str),
@@ -35,18 +36,19 @@ pub enum CliError<'a> {
     CertificateNeedsFile,
     /// The name of the certificate's file is that of a directory.
     Directory(&'a str),
-    /// The certificate was to be written to the file of this name, but the file holds another text.
-    /// The file is unchanged.
+    /// The certificate was not written, because the file of this name holds a text that is not a
+    /// certificate. The file is unchanged.
     Occupied(&'a str),
-    /// The certificate could not be written to the file of this name: fault 61. The whole answer
-    /// was written.
+    /// The certificate could not be written to the file of this name (fault 61). The whole answer
+    /// was written before.
     Unwritten(&'a str),
     /// The command ended with this fault.
     Serve(ServeFault),
 }
 
 impl CliError<'_> {
-    /// Returns the program's exit status: 2 for bad arguments and for help, 3 for any other error.
+    /// Returns the program's exit status, which is 2 for bad arguments and for help, and 3 for any
+    /// other error.
     pub fn code(&self) -> u8
         ensures { spec.IsCode self.now result }
     {

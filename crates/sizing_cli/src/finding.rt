@@ -22,13 +22,16 @@ use std::alloc::{AllocError, Global};
 use std::sync::Wait;
 use std::thread::Threads;
 
-/// The maximum number of states in which a witness is searched for.
+/// The maximum number of states that a search for a witness visits.
 const STATES: usize = DEFAULT_STATES as usize;
 
-/// Finds out whether a plan is safe. Returns the finding, and whether the given certificate is
-/// stale, which means that it does not accept the plan. Tries the given certificate first, if there
-/// is one. Then searches for a certificate, and if it finds none, for a witness and for other
-/// sizes.
+/// Returns the finding whether a plan is safe, and whether the given certificate is stale. A
+/// certificate is stale if it does not accept the plan. The finding is made in these steps:
+///
+/// - If a certificate is given and it accepts the plan, the plan is safe.
+/// - Otherwise a search for a certificate is made. If it finds one, the plan is safe.
+/// - Otherwise searches for a witness and for other sizes are made. A witness is a list of events
+///   that shows that the plan is not safe.
 ///
 /// # Errors
 ///
@@ -51,7 +54,7 @@ pub(crate) fn finding_of<R: Threads + Wait + Sync>(
     }
 }
 
-/// Finds out whether a plan is safe, as [`finding_of`] does, when a certificate is given.
+/// Returns the result of [`finding_of`] for a plan with a given certificate.
 fn finding_with<R: Threads + Wait + Sync>(
     rt: &R,
     alloc: Global,
@@ -85,8 +88,8 @@ fn search_finding<R: Threads + Wait + Sync>(
     }
 }
 
-/// Searches for a witness and for other sizes, and returns the finding. The plan is one for which
-/// the search found no certificate.
+/// Returns the finding for a plan for which a search found no certificate. Searches for a witness
+/// and for other sizes.
 fn without_certificate(alloc: Global, plan: &Plan) -> Result<PlanFinding, AllocError>
     requires { accepted plan.now (steady_cert plan.now) ≡ false }
     ensures { IfOk result (IsFinding plan.now) }
@@ -99,8 +102,9 @@ fn without_certificate(alloc: Global, plan: &Plan) -> Result<PlanFinding, AllocE
     }
 }
 
-/// Returns the finding for a plan for which no witness was found: safe if the certificate of the
-/// sizes that were found accepts the declared ones, and otherwise undecided.
+/// Returns the finding for a plan for which a search found no witness. `sizes` are the sizes that
+/// another search found. The plan is safe if the certificate of these sizes also accepts the
+/// declared sizes. Otherwise the plan is undecided.
 fn without_witness(alloc: Global, plan: &Plan, sizes: SizesFound) -> Result<PlanFinding, AllocError>
     requires known { IsKnown plan.now sizes }
     requires not_steady { accepted plan.now (steady_cert plan.now) ≡ false }
@@ -112,8 +116,8 @@ fn without_witness(alloc: Global, plan: &Plan, sizes: SizesFound) -> Result<Plan
     }
 }
 
-/// Returns the finding that the plan is safe by this certificate. The finding also has, for each
-/// pool, after how many events it rejects a job, if a search found such events.
+/// Returns the finding that the plan is safe by this certificate. For each pool, the finding has
+/// the number of events after which the pool rejects a job, if a search found such events.
 fn safe_finding(alloc: Global, plan: &Plan, cert: Cert) -> Result<PlanFinding, AllocError>
     requires { IsTrue (accepted plan.now cert) }
     ensures finding { IfOk result (IsFinding plan.now) }

@@ -30,9 +30,12 @@ use report::{
 use size_search::SizesFound;
 use std::alloc::{AllocError, Global};
 
-/// Writes the answer for this finding. If a certificate accepts the plan with each maximum lowered
-/// to the core size, `lowered` has that plan and that certificate. Messages use `file` as the name
-/// of the plan's file. `is_stale` says that a certificate was given that does not accept the plan.
+/// Returns the answer for this finding.
+///
+/// - `lowered` has the plan with each maximum lowered to the core size, and a certificate that
+///   accepts this plan. It is `None` if there is no such certificate.
+/// - `file` is the name that messages use for the plan's file.
+/// - `is_stale` says whether a certificate was given that does not accept the plan.
 pub(crate) fn answer_of(
     alloc: Global,
     options: AskOptions,
@@ -61,7 +64,8 @@ pub(crate) fn answer_of(
     })
 }
 
-/// Returns the warnings about a plan, followed by one about the given certificate if `is_stale`.
+/// Returns the warnings about a plan. If `is_stale` is true, they are followed by a warning about
+/// the given certificate.
 fn warnings_for(
     alloc: Global,
     text: &[u8],
@@ -78,7 +82,7 @@ fn warnings_for(
     Ok(all)
 }
 
-/// Returns the warnings about a plan. `lowered` is as in [`answer_of`].
+/// Returns the warnings about a plan. `lowered` has the same meaning as in [`answer_of`].
 fn plan_warnings(
     alloc: Global,
     text: &[u8],
@@ -99,7 +103,7 @@ fn plan_warnings(
 }
 
 /// Returns the warnings about a plan that a certificate accepts even with each maximum lowered to
-/// the core size. `lowered` is as in [`answer_of`].
+/// the core size. `lowered` has the same meaning as in [`answer_of`].
 fn lowered_warnings(
     alloc: Global,
     text: &[u8],
@@ -132,9 +136,10 @@ fn declared_warnings(
     Ok(warnings)
 }
 
-/// Returns, for each pool, the number of queue places that are enough by the certificate, or `None`
-/// if the certificate shows no such number. The certificate is that of the plan or, if the plan has
-/// none, that of the sizes that were found. The list is empty if there is no certificate.
+/// Returns, for each pool, a queue capacity that the certificate proves to be enough. It is `None`
+/// if the certificate proves no such capacity. The certificate is the plan's. If the plan has none,
+/// it is the certificate of the sizes that were found. If there is no certificate, the list is
+/// empty.
 fn needed_of(
     alloc: Global,
     plan: &Plan,
@@ -178,8 +183,8 @@ fn with_stale(
     Ok(warnings)
 }
 
-/// Writes the answer: the finding and these warnings, and the status that follows from them and
-/// from `options.strict`.
+/// Returns the answer with the finding and these warnings. The status depends on the finding, the
+/// warnings and `options.strict`.
 fn answer_with(
     alloc: Global,
     options: AskOptions,
@@ -200,8 +205,8 @@ fn answer_with(
     Ok(Answer { text, status })
 }
 
-/// Returns the text of the finding and these warnings in the output format `form`. The picture,
-/// [`Form::Dot`], shows no warnings.
+/// Returns the text of the finding and these warnings in the output format `form`. [`Form::Dot`] is
+/// a picture, which shows no warnings.
 fn text_of(
     alloc: Global,
     form: Form,
@@ -326,8 +331,8 @@ fn status_of(strict: bool, warnings: &[Warning], finding: &PlanFinding) -> Statu
     }
 }
 
-/// Returns the text of the certificate that a finding rests on, or `None` if it rests on none or if
-/// the text would be too long to be read back.
+/// Returns the text of the certificate that a finding is based on. Returns `None` if the finding is
+/// based on no certificate, or if the text would be too long to be read back.
 fn certificate_text(alloc: Global, finding: &PlanFinding) -> Result<Option<Vec<u8>>, AllocError>
     ensures { IfOk result (λ left.
         (plan : PlanValue)
@@ -341,8 +346,8 @@ fn certificate_text(alloc: Global, finding: &PlanFinding) -> Result<Option<Vec<u
     }
 }
 
-/// Returns the text of a certificate with a newline at its end, or `None` if that is too long to be
-/// read back.
+/// Returns the text of a certificate with a newline at its end, or `None` if this text is too long
+/// to be read back.
 fn readable_text(alloc: Global, cert: &Cert) -> Result<Option<Vec<u8>>, AllocError>
     ensures { IfOk result (λ left.
         (plan : PlanValue)

@@ -28,15 +28,16 @@ use std::sync::Wait;
 use std::thread::Threads;
 use support::number::MIXED;
 
-/// Searches for sizes that a certificate accepts. Returns them as lines, or as the bundle of the
-/// plan with those sizes and the certificate. If none are found, or if the bundle would be too
-/// long, returns the reason. The input is a plan's text.
+/// Searches for sizes that a certificate accepts. The input is a plan's text. Returns the sizes as
+/// lines, or as the bundle of the certificate and the plan with these sizes. Returns the reason if
+/// no sizes are found, or if the bundle would be too long.
 ///
 /// # Errors
 ///
-/// Fails with fault 20 if memory runs out or a thread cannot be started, with fault 42 or 43 if the
-/// search ends with that fault, with 43 if the check of the bundle does, and with 42 if `check`
-/// does not accept the bundle.
+/// - Fails with fault 20 if memory runs out or a thread cannot be started.
+/// - Fails with fault 42 or 43 if the search ends with that fault.
+/// - Fails with fault 43 if the check of the bundle ends with that fault.
+/// - Fails with fault 42 if `check` does not accept the bundle.
 pub fn fit<R: Threads + Wait + Sync>(
     rt: &R,
     alloc: Global,
@@ -70,8 +71,8 @@ fn fit_plan<R: Threads + Wait + Sync>(
     answer_of_sizes(rt, alloc, sizes_form, plan, &found)
 }
 
-/// Returns the answer for the result of a search for sizes: the lines of the sizes, the bundle, or
-/// the reason why there is neither.
+/// Returns the answer for the result of a search for sizes. It is the sizes as lines, or the
+/// bundle, or the reason why there is neither.
 ///
 /// # Errors
 ///
@@ -93,8 +94,8 @@ pub fn answer_of_sizes<R: Threads + Wait + Sync>(
     }
 }
 
-/// Searches for sizes that a certificate accepts. If a search with the plan's own sizes finds a
-/// certificate, returns these sizes.
+/// Searches for sizes that a certificate accepts. If a search finds a certificate for the plan's
+/// own sizes, returns these sizes.
 fn sizes_of<R: Threads + Wait + Sync>(
     rt: &R,
     alloc: Global,
@@ -110,7 +111,8 @@ fn sizes_of<R: Threads + Wait + Sync>(
     Ok(search_sizes(alloc, plan, first)?)
 }
 
-/// Writes the sizes that were found as lines, or the reason why none were found.
+/// Returns the answer with the sizes that were found, as lines, or with the reason why no sizes
+/// were found.
 fn lines_of(alloc: Global, plan: &Plan, found: &SizesFound) -> Result<Answer, AllocError>
     ensures { IfOk result (λ answer. answer ≡ spec.lines_answer plan.now found.now) }
 {
@@ -120,8 +122,8 @@ fn lines_of(alloc: Global, plan: &Plan, found: &SizesFound) -> Result<Answer, Al
     }
 }
 
-/// Writes the sizes of the plan `fit`, which are those that were found. The answer is a no if they
-/// differ from the declared sizes.
+/// Returns the answer with the sizes of the plan `fit`, which has the sizes that were found. The
+/// answer is a no if these sizes differ from the declared sizes.
 fn sizes(alloc: Global, plan: &Plan, fit: &Plan) -> Result<Answer, AllocError>
     ensures { IfOk result (λ answer. answer ≡ spec.sizes_answer plan.now fit.now) }
 {
@@ -133,7 +135,7 @@ fn sizes(alloc: Global, plan: &Plan, fit: &Plan) -> Result<Answer, AllocError>
     })
 }
 
-/// Writes that no sizes were found, and why.
+/// Returns the answer that no sizes were found, with the reason.
 fn no_sizes(alloc: Global, plan: &Plan, cause: NoSizes) -> Result<Answer, AllocError>
     ensures { IfOk result (λ answer. answer ≡ spec.no_sizes_answer plan.now cause) }
 {
@@ -145,7 +147,8 @@ fn no_sizes(alloc: Global, plan: &Plan, cause: NoSizes) -> Result<Answer, AllocE
     })
 }
 
-/// Writes the bundle of the sizes that were found, or the reason why none were found.
+/// Returns the bundle of the sizes that were found, or the answer with the reason why no sizes were
+/// found.
 fn bundle<R: Threads + Wait + Sync>(
     rt: &R,
     alloc: Global,
@@ -161,9 +164,9 @@ fn bundle<R: Threads + Wait + Sync>(
     }
 }
 
-/// Writes the bundle of the plan `fit`, which has the sizes that were found, and of its
-/// certificate. If one of the two texts would be too long to be read back, writes only that a text
-/// is too long.
+/// Returns the bundle of the plan `fit`, which has the sizes that were found, and its certificate.
+/// If the text of the plan or of the certificate would be too long to be read back, the answer says
+/// only that.
 fn bundle_of_sizes<R: Threads + Wait + Sync>(
     rt: &R,
     alloc: Global,

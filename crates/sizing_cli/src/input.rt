@@ -20,9 +20,13 @@ pub struct Input<'a> {
     pub second: &'a [u8],
 }
 
-/// Splits a bundle and parses its plan. Returns [`ReadError::Fault`] if the input is too long or is
-/// not a bundle, or if the plan's text has a fault. The fault contains the command's answer.
-/// Returns [`ReadError::Memory`] if memory runs out.
+/// Splits a bundle and parses its plan.
+///
+/// # Errors
+///
+/// - [`ReadError::Fault`] in these cases: the input is too long, the input is not a bundle, or the
+///   plan's text has a fault. The error contains the command's answer.
+/// - [`ReadError::Memory`] if memory runs out.
 pub fn read_input(alloc: Global, input: &[u8]) -> Result<Input<'_>, ReadError<Answer>>
     ensures input { IfOk result (λ read.
         (answers : PlanValue → List ℕ → answer_spec.Answer)

@@ -6,12 +6,15 @@ ghost use Rattle.sizing_cli.specs.Texts as spec;
 use crate::whole_lines;
 use std::alloc::AllocError;
 
-/// Joins a plan's text and a second text: the plan, with a newline appended if its last line has
-/// none, then a line `%%`, then the second text.
+/// Joins a plan's text and a second text. The result has three parts:
+///
+/// - the plan's text, with a newline appended if its last line has none;
+/// - a line `%%`;
+/// - the second text.
 ///
 /// # Errors
 ///
-/// [`AllocError`] if memory runs out.
+/// Returns [`AllocError`] if memory runs out.
 pub fn join_texts(plan: Vec<u8>, second: &[u8]) -> Result<Vec<u8>, AllocError>
     ensures { IfOk result (λ input. input.items ≡ spec.join_texts plan.items second.now) }
 {

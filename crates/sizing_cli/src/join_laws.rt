@@ -2,7 +2,7 @@
 
 ghost use Rattle.sizing_cli.specs.Texts.{JoinedTextsSplitAgain};
 
-/// States that a joined input splits into the same two texts again, if the second one has no line
+/// States that two joined texts split into the same two texts again if the second text has no line
 /// `%%`.
 pub fn joined_texts_split_again()
     ensures { JoinedTextsSplitAgain }

@@ -24,13 +24,13 @@ use learning::{Extent, InferenceLimit, InferenceResult, InferredPlan, START_BYTE
 use plan_text::write_plan;
 use std::alloc::{AllocError, Global};
 
-/// Returns a plan that is derived from the recording `input`. If there is none, the answer is the
-/// reason. If `strict`, the answer has the plan only if the recording conforms to it, and otherwise
-/// the differences.
+/// Returns a plan that is derived from the recording `input`. If no plan can be derived, the answer
+/// is the reason. If `strict` is true and the recording does not conform to the plan, the answer
+/// has the differences in place of the plan.
 ///
 /// # Errors
 ///
-/// [`AllocError`] if memory runs out.
+/// Returns [`AllocError`] if memory runs out.
 pub fn learn_report(alloc: Global, strict: bool, input: &[u8]) -> Result<Answer, AllocError>
     ensures { IfOk result (spec.IsLearnAnswer strict input.now) }
 {
@@ -45,9 +45,9 @@ pub fn learn_report(alloc: Global, strict: bool, input: &[u8]) -> Result<Answer,
     learn_from_all(alloc, strict, input)
 }
 
-/// Derives the bodies from the start of the recording. Returns the answer with them if they explain
-/// the whole recording, and otherwise `None`. Returns the fault of a malformed recording as an
-/// answer.
+/// Derives the bodies from the start of the recording, and returns the answer with these bodies.
+/// Returns `None` if no bodies are found or if they do not explain the whole recording. If the
+/// recording is malformed, the answer is its fault.
 fn learn_from_start(
     alloc: Global,
     strict: bool,
@@ -63,7 +63,7 @@ fn learn_from_start(
 }
 
 /// Derives the bodies from the whole recording, and returns the answer: the plan with these bodies,
-/// or why there is none.
+/// or the reason why there is no plan.
 fn learn_from_all(alloc: Global, strict: bool, recording: &[u8]) -> Result<Answer, AllocError>
     ensures { IfOk result (spec.AnswersLines strict recording.now) }
 {
@@ -77,14 +77,20 @@ fn learn_from_all(alloc: Global, strict: bool, recording: &[u8]) -> Result<Answe
     }
 }
 
-/// Returns the answer for the inferred plan, in which each pool that rejects jobs in the recording
-/// may reject jobs. The answer is the text of the plan, after comments that list what the recording
-/// shows beyond the plan. With `strict`, it is the list of differences if the recording does not
-/// conform to the plan. If the text would be too long, the answer says so.
+/// Returns the answer for the derived plan. In the answer's plan, each pool that rejects jobs in
+/// the recording may reject jobs. The answer is one of these:
 ///
-/// Returns `None` if the plan does not explain the recording: a job or a round follows no body of
-/// the plan, it is undecided whether it follows one, or there are more rounds of a kind than the
-/// plan allows. A round is one pass of a client through its body.
+/// - If the text of the plan would be too long, the answer says only that.
+/// - Otherwise, if `strict` is true and the recording does not conform to the plan, the answer is
+///   the list of differences.
+/// - Otherwise, the answer is the text of the plan. It begins with comments that list what the
+///   recording shows beyond the plan.
+///
+/// Returns `None` if the plan does not explain the recording. This is so in these cases, in which a
+/// round is one pass of a client through its body:
+///
+/// - A job or a round follows no body of the plan, or it is undecided whether it does.
+/// - There are more rounds of a client kind than the plan allows.
 fn plan_answer(
     alloc: Global,
     strict: bool,
@@ -115,8 +121,9 @@ fn plan_answer(
     }
 }
 
-/// Returns the plan's text after comments that list what the recording shows beyond the plan.
-/// Returns `None` if that text is too long or does not read back as the plan.
+/// Returns the text of the plan, with comments at its head that list what the recording shows
+/// beyond the plan. Returns `None` if the text is too long, or if parsing it does not give this
+/// plan.
 fn commented_plan(
     alloc: Global,
     seen: &InferredPlan,
@@ -140,8 +147,11 @@ fn commented_plan(
     }
 }
 
-/// Returns whether `text` parses as a plan, [`write_plan`] writes this plan as `written`, and
-/// `written` is not too long for the text of a plan.
+/// Returns true if these conditions hold:
+///
+/// - `text` parses as a plan.
+/// - [`write_plan`] writes this plan as `written`.
+/// - `written` is not too long for the text of a plan.
 fn reads_as(alloc: Global, text: &[u8], written: &[u8]) -> Result<bool, AllocError>
     ensures same { IfOk result (λ yes. IsTrue yes → plan_of text.now ≡ plan_of written.now) }
     ensures short { IfOk result (λ yes. IsTrue yes → length written.now ≤ MAX_PLAN_BYTES) }
@@ -155,7 +165,7 @@ fn reads_as(alloc: Global, text: &[u8], written: &[u8]) -> Result<bool, AllocErr
     }
 }
 
-/// Returns the comments at the head of a plan.
+/// Returns the comments at the head of a derived plan.
 fn head_of(
     alloc: Global,
     seen: &InferredPlan,
@@ -197,8 +207,8 @@ fn push_extent(text: &mut String, rounds: usize, jobs: usize) -> Result<(), Allo
     )
 }
 
-/// Appends the comment with the number of unfinished rounds and jobs, if there are any. A service
-/// that hung has some.
+/// Appends the comment with the numbers of unfinished rounds and jobs, if there are any. The
+/// recording of a service that hung has unfinished rounds and jobs.
 fn push_unfinished(text: &mut String, rounds: usize, jobs: usize) -> Result<(), AllocError>
     ensures { Pushes result text.old text.new (spec.unfinished_comment rounds jobs) }
 {
@@ -212,7 +222,7 @@ fn push_unfinished(text: &mut String, rounds: usize, jobs: usize) -> Result<(), 
 }
 
 /// Appends the comment with the number of gets that timed out or were interrupted, if there are
-/// any.
+/// such gets.
 fn push_failed_gets(text: &mut String, gets: usize) -> Result<(), AllocError>
     ensures { Pushes result text.old text.new (spec.failed_gets_comment gets) }
 {
@@ -225,8 +235,9 @@ fn push_failed_gets(text: &mut String, gets: usize) -> Result<(), AllocError>
     )
 }
 
-/// Appends a comment for each pool that may reject jobs: the number of jobs that it rejected or, if
-/// it rejected none, that its queue is a `SynchronousQueue`.
+/// Appends a comment for each pool that may reject jobs. The comment has the number of jobs that
+/// the pool rejected. If the pool rejected no jobs, it says instead that the pool has a
+/// `SynchronousQueue`.
 fn push_rejection_comments(
     text: &mut String,
     plan: &Plan,
@@ -284,8 +295,9 @@ fn push_comment(text: &mut String, plan: &Plan, finding: &Finding) -> Result<(),
     text.push('\n')
 }
 
-/// Returns the answer with a learned plan, whose text is `text`. If there are findings, the status
-/// is a no. If `strict` is also set, the answer has the findings in place of the plan.
+/// Returns the answer for a learned plan, whose text is `text`. If there are findings, the status
+/// is a no. If there are findings and `strict` is true, the answer has the findings in place of the
+/// plan.
 fn learned_answer(
     alloc: Global,
     strict: bool,
@@ -313,8 +325,8 @@ fn learned_answer(
     })
 }
 
-/// Returns the text that replaces a derived plan if the recording does not conform to it. The text
-/// has one finding on each line.
+/// Returns the text that is written in place of a derived plan to which the recording does not
+/// conform. The text has a line for each finding.
 fn differences(alloc: Global, plan: &Plan, findings: &[Finding]) -> Result<String, AllocError>
     ensures { IfOk result (λ text. string_bytes text ≡ spec.differences plan.now findings.now) }
 {
@@ -332,8 +344,8 @@ fn are_of_actors(findings: &[Finding]) -> bool
     findings.iter().any(|finding| is_of_actors(finding))
 }
 
-/// Returns whether the finding is about the label or the path of a job or round, or about the
-/// number of rounds of a kind.
+/// Returns true if the finding is about the label or the path of a job or round, or about the
+/// number of rounds of a client kind.
 fn is_of_actors(finding: &Finding) -> bool
     ensures { result ≡ is_of_actors finding.now }
 {

@@ -6,8 +6,9 @@ ghost use Rattle.sizing_cli.specs.LineEnds as spec;
 
 use memchr::memchr;
 
-/// Returns the end of the message about the malformed line of this number, counted from 1. If the
-/// line ends with a carriage return, the end says what to do; otherwise it is empty.
+/// Returns the end of the message about a malformed line. `line` is the number of this line,
+/// counted from 1. The end of the message says what to do if the line ends with a carriage return.
+/// For any other line, it is empty.
 pub(crate) fn line_end_hint(recording: &[u8], line: usize) -> &'static str
     ensures { result.now ≡ spec.line_end_hint recording.now line }
 {
@@ -28,7 +29,7 @@ fn ends_with_return(recording: &[u8], line: usize) -> bool
 }
 
 /// Returns the line with this number, counted from 1, without its newline. Returns `None` if the
-/// recording has fewer lines, or if this line has no newline.
+/// recording has fewer lines, or if the line with this number has no newline.
 fn line_at(recording: &[u8], line: usize) -> Option<&[u8]>
     ensures { option_map (λ text. text.now) result
         ≡ slice_get (whole_lines recording.now) (line - 1) }
@@ -45,8 +46,8 @@ fn line_at(recording: &[u8], line: usize) -> Option<&[u8]>
     }
 }
 
-/// Splits a text at its first newline, and returns the line and the text after the newline. Returns
-/// `None` if the text has no newline.
+/// Splits a text at its first newline, and returns the text before the newline and the text after
+/// it. Returns `None` if the text has no newline.
 fn split_line(text: &[u8]) -> Option<(&[u8], &[u8])>
     ensures { MatchOption result (whole_lines text.now ≡ [])
         (λ parts. whole_lines text.now ≡ parts.0.now ∷ whole_lines parts.1.now) }

@@ -17,18 +17,25 @@ use std::sync::Wait;
 use std::thread::Threads;
 
 /// A plan with each maximum lowered to the core size of its pool, and a certificate that accepts
-/// it.
+/// this plan.
 #[derive(Drop)]
 pub(crate) struct LoweredPlan {
     pub(crate) plan: Plan,
     pub(crate) cert: Cert,
 }
 
-/// Searches for a certificate of the plan with each maximum lowered to the core size of its pool.
-/// Returns `None` if it finds none. Also returns `None`, without a search, if `finding` already
-/// says whether the plan is safe, if no maximum is above its core size, or if such a pool may reject
-/// jobs. Otherwise both plans behave alike until the lowered plan refuses a submit. So a plan that
-/// is not safe needs no search: the lowered plan is not safe either.
+/// Searches for a certificate of the lowered plan, which is the plan with each maximum lowered to
+/// the core size of its pool. Returns `None` if no certificate is found.
+///
+/// Does not search, and returns `None`, in these cases:
+///
+/// - No maximum is above the core size of its pool.
+/// - A pool whose maximum is above its core size may reject jobs.
+/// - `finding` already says whether the plan is safe.
+///
+/// If no pool whose maximum is above its core size may reject jobs, both plans behave alike until
+/// the lowered plan refuses a submit. So if the plan is not safe, the lowered plan is not safe
+/// either.
 ///
 /// # Errors
 ///

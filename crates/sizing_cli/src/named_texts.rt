@@ -23,7 +23,7 @@ pub(crate) const STANDARD_INPUT: &str = "-";
 /// The name that messages use for a text that is not read from a file.
 pub(crate) const NO_FILE: &str = "<stdin>";
 
-/// Reads the input of the command: one text, or two that are joined.
+/// Reads the input of the command, which is one text, or two texts that are joined.
 pub(crate) fn read_texts<'a, F: TextFiles, S: Source>(
     alloc: Global,
     cli: Cli<'a>,
@@ -52,8 +52,8 @@ pub(crate) fn read_texts<'a, F: TextFiles, S: Source>(
     }
 }
 
-/// Reads the two texts of the command and joins them. It is an error if one of them is itself a
-/// bundle, so the joined text splits into the same two again.
+/// Reads the two texts of the command and joins them. Returns an error if one of the two texts is
+/// itself a bundle. So the joined text splits into the same two texts again.
 fn read_both<'a, F: TextFiles, S: Source>(
     alloc: Global,
     command: Command,
@@ -81,7 +81,8 @@ fn read_both<'a, F: TextFiles, S: Source>(
     Ok(join_texts(plan, &behind)?)
 }
 
-/// Reads the two texts of the command. It is an error if both are to come from standard input.
+/// Reads the two texts of the command. Returns an error if both texts are to come from standard
+/// input.
 fn read_pair<'a, F: TextFiles, S: Source>(
     alloc: Global,
     command: Command,
@@ -122,8 +123,8 @@ fn read_pair<'a, F: TextFiles, S: Source>(
     }
 }
 
-/// Returns an error if `text`, one of a command's two texts, is itself a bundle. The error contains
-/// `name`, the name of the text's file.
+/// Returns an error if `text` is itself a bundle. `text` is one of a command's two texts, and the
+/// error contains `name`, the name of its file.
 fn ensure_alone<'a>(name: Option<&'a str>, text: &[u8]) -> Result<(), CliError<'a>>
     ensures alone { IfOk result (λ _. bundle_of text.now ≡ None) }
     ensures bundle { IfErr result (IsOfBundle (option_map (λ name. name.now) name.entry) text.now) }
@@ -134,7 +135,8 @@ fn ensure_alone<'a>(name: Option<&'a str>, text: &[u8]) -> Result<(), CliError<'
     }
 }
 
-/// Reads standard input for the command: at most one byte more than the command's input may have.
+/// Reads standard input for the command. Reads at most one byte more than the command's input may
+/// have.
 fn read_input<'a, S: Source>(
     alloc: Global,
     command: Command,
@@ -151,7 +153,7 @@ fn read_input<'a, S: Source>(
     }
 }
 
-/// Reads a file for the command: at most one byte more than the command's input may have.
+/// Reads a file for the command. Reads at most one byte more than the command's input may have.
 fn read_file<'a, F: TextFiles>(
     alloc: Global,
     command: Command,
@@ -170,8 +172,8 @@ fn read_file<'a, F: TextFiles>(
     }
 }
 
-/// Returns the name of the file. Returns `None` if there is no name or it is `-`, because both mean
-/// standard input.
+/// Returns the name of the file to read. Returns `None` if there is no name or the name is `-`,
+/// because both mean standard input.
 fn file_named(name: Option<&str>) -> Option<&str>
     ensures { option_map (λ name. name.now) result
         ≡ spec.file_named (option_map (λ name. name.now) name.entry) }
@@ -179,8 +181,8 @@ fn file_named(name: Option<&str>) -> Option<&str>
     name.filter(|name| *name != STANDARD_INPUT)
 }
 
-/// Returns the name that messages use for a text: the name of its file, or `<stdin>` if it is read
-/// from standard input.
+/// Returns the name that messages use for a text. This is the name of its file, or `<stdin>` if the
+/// text is read from standard input.
 pub(crate) fn display_name<'a>(name: Option<&'a str>) -> &'a str
     ensures { result.now ≡ spec.name_or_none (spec.file_named (option_map (λ name. name.now) name.entry)) }
 {

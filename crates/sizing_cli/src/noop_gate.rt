@@ -4,8 +4,8 @@
 use cert_check::PoolGate;
 use locked_runner::{Actor, Gate, GateFault};
 
-/// A gate that never stops a search or a check, and that takes no time for the declared work of a
-/// run.
+/// A gate that never stops a search or a check. In a run, the work that a plan declares takes no
+/// time with this gate.
 pub struct NoopGate;
 
 impl PoolGate for NoopGate {

@@ -7,7 +7,8 @@ use crate::Status;
 use crate::answer::Answer;
 use std::marker::Model;
 
-/// An answer as bytes. Unlike an [`Answer`], it can hold bytes of the input that are not UTF-8.
+/// An answer as bytes. In contrast to an [`Answer`], it can contain bytes of the input that are not
+/// UTF-8.
 #[derive(Drop)]
 pub struct Output {
     pub bytes: Vec<u8>,

@@ -15,16 +15,18 @@ use job_bodies::MAX_RECORDED_BYTES;
 use std::alloc::{AllocError, Global};
 
 /// Reads an input, runs the command on it, and writes the answer to the sink. The whole answer is
-/// computed before its first byte is written.
+/// computed before the first byte of it is written.
 ///
-/// It reads at most 268,435,457 bytes. Each read except the last takes at least one byte, so the
-/// call ends, whatever the source and the sink do.
+/// The call reads at most 268,435,457 bytes. It always ends, because each read except the last
+/// takes at least one byte.
 ///
 /// # Errors
 ///
-/// Fails with fault 20 if memory runs out, with 60 if the source fails during this call, and with
-/// 61 if the sink fails. After 61 a prefix of the answer was written; after any other fault nothing
-/// was.
+/// - Fails with fault 20 if memory runs out.
+/// - Fails with fault 60 if the source fails during this call.
+/// - Fails with fault 61 if the sink fails. A prefix of the answer was then written.
+///
+/// After any fault other than 61, nothing was written.
 pub fn serve_recording<S: Source, K: Sink>(
     alloc: Global,
     reading: RecordingCommand,

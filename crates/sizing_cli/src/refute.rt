@@ -21,10 +21,14 @@ use std::alloc::{AllocError, Global};
 use std::sync::Wait;
 use std::thread::Threads;
 
-/// Searches for a certificate and then for a witness, and returns the answer. If a certificate is
-/// found, the plan is safe. If a witness is found, the answer is its story, or the bundle of the
-/// plan and the witness's events. Otherwise the plan is undecided, and the answer has the number of
-/// states that were searched, at most `states`. The input is a plan's text.
+/// Searches for a certificate and then for a witness, and returns the answer. A witness is a list
+/// of events that shows that the plan is not safe. The input is a plan's text.
+///
+/// - If a certificate is found, the plan is safe.
+/// - If a witness is found, the answer is the story of the witness, or the bundle of the plan and
+///   the witness's events.
+/// - Otherwise the plan is undecided. The answer then has the number of states that were searched,
+///   which is at most `states`.
 ///
 /// # Errors
 ///
@@ -84,8 +88,8 @@ fn without_certificate(
     Ok(answer_of(alloc, refute_format, plan, search, text)?)
 }
 
-/// Writes the answer for the result of the search: the witness, or, if there is none, the number of
-/// states that were searched.
+/// Returns the answer for the result of a search for a witness. The answer has the witness or, if
+/// none was found, the number of states that were searched.
 fn answer_of(
     alloc: Global,
     refute_format: RefuteFormat,
@@ -105,7 +109,7 @@ fn answer_of(
     }
 }
 
-/// Writes the witness in the output format `refute_format`.
+/// Returns the answer with the witness in the output format `refute_format`.
 fn show(
     alloc: Global,
     refute_format: RefuteFormat,
@@ -131,8 +135,8 @@ fn story(alloc: Global, plan: &Plan, witness: &Witness) -> Result<Answer, AllocE
     })
 }
 
-/// Writes the bundle of the plan's text and the event lines of the witness. If these lines are too
-/// long, writes only that they are.
+/// Returns the bundle of the plan's text and the event lines of the witness. If the event lines are
+/// too long, the answer says only that.
 fn bundle(
     alloc: Global,
     plan: &Plan,
@@ -154,7 +158,7 @@ fn bundle(
     })
 }
 
-/// Writes that the plan is safe, because a certificate accepts it.
+/// Returns the answer that the plan is safe, because a certificate accepts it.
 fn safe(alloc: Global, refute_format: RefuteFormat) -> Result<Answer, AllocError>
     ensures { IfOk result (λ answer. answer ≡ spec.safe_answer refute_format) }
 {
@@ -165,8 +169,8 @@ fn safe(alloc: Global, refute_format: RefuteFormat) -> Result<Answer, AllocError
     )
 }
 
-/// Writes that neither a certificate nor a witness was found, and the number of states that were
-/// searched.
+/// Returns the answer that neither a certificate nor a witness was found, with the number of states
+/// that were searched.
 fn not_decided(
     alloc: Global,
     refute_format: RefuteFormat,
@@ -198,8 +202,8 @@ fn events_too_long(alloc: Global) -> Result<Answer, AllocError>
     Answer::no(alloc, "no bundle: too many events\n")
 }
 
-/// Returns the status of an answer that has no bundle: `Refused` if a bundle was requested, and
-/// otherwise `status`.
+/// Returns the status of an answer that has no bundle. It is `Refused` if a bundle was requested,
+/// and `status` otherwise.
 fn without_bundle(refute_format: RefuteFormat, status: Status) -> Status
     ensures { result ≡ spec.without_bundle refute_format status }
 {

@@ -12,8 +12,8 @@ use std::alloc::{AllocError, Global};
 const STATES: usize = 100_000;
 
 /// Returns, for each pool of the certificate, the number of events after which the pool rejects a
-/// job, or `None` if no such events were found. Does not search if the pool has a bound: it never
-/// rejects a job if the certificate accepts the plan.
+/// job. It is `None` if no such events are found. A pool with a bound is not searched, because it
+/// never rejects a job if the certificate accepts the plan.
 #[tactic(auto, using(crate::proofs::RejectionLists::one_more))]
 pub(crate) fn rejections_of(
     alloc: Global,
@@ -32,7 +32,7 @@ pub(crate) fn rejections_of(
 }
 
 /// Returns the number of events after which the pool rejects a job. Returns `None` if the pool has
-/// a bound, or if the search found no such events.
+/// a bound, or if the search finds no such events.
 fn rejection_of(
     alloc: Global,
     plan: &Plan,

@@ -9,8 +9,8 @@ use event_lines::EventLines;
 use job_bodies::{MAX_EVENT_BYTES, Plan};
 use std::alloc::{AllocError, Global};
 
-/// Replays event lines on a plan, in one pass. If the lines together exceed the maximum length, or
-/// if a line is malformed, the answer is that fault alone.
+/// Replays event lines on a plan, in one pass, and returns the answer. If the lines together are
+/// too long, or if a line is malformed, the answer is only this fault.
 #[tactic(auto, using(crate::proofs::LinesInOrder::lines_in_order))]
 pub fn replay(alloc: Global, plan: &Plan, lines: &[u8]) -> Result<Answer, AllocError>
     ensures { IfOk result (λ answer. answer ≡ spec.replay plan.now lines.now) }

@@ -24,7 +24,8 @@ pub fn report(alloc: Global, review: ReviewCommand, input: &[u8]) -> Result<Answ
     }
 }
 
-/// Runs a review command on a plan and on the second part of its bundle, and returns the answer.
+/// Runs a review command on the two parts of a bundle: a plan, which is parsed, and the second
+/// part. Returns the answer.
 fn answer_of(
     alloc: Global,
     review: ReviewCommand,

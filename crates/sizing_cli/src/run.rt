@@ -19,9 +19,12 @@ use std::thread::Threads;
 use support::ReadError;
 use support::number::RUN_TOO_LARGE;
 
-/// Runs the plan of a bundle with its certificate, and returns the counts of the run. Each
-/// repeating client goes through its body `rounds` times. The answer is a no if the certificate
-/// does not accept the plan, and a fault if the input has one or if the run would be too large.
+/// Runs the plan of a bundle, which also has a certificate, and returns the answer. In the run,
+/// each repeating client passes through its body `rounds` times. The answer is one of these:
+///
+/// - the counts of the completed run;
+/// - a no, if the certificate does not accept the plan;
+/// - a fault, if the input has a fault or the run would be too large.
 ///
 /// # Errors
 ///
@@ -95,7 +98,8 @@ fn run_certified<R: Threads + Wait + Sync>(
     }
 }
 
-/// Returns the answer to a completed run: a line with its numbers of jobs and of units of work.
+/// Returns the answer to a completed run. It is a line with the number of jobs and the number of
+/// units of work.
 fn run_through(alloc: Global, jobs: u64, units: u64) -> Result<Answer, AllocError>
     ensures { IfOk result (λ answer. answer ≡ spec.run_through jobs units) }
 {

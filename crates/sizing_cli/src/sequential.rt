@@ -12,16 +12,18 @@ use job_bodies::MAX_INPUT_BYTES;
 use std::alloc::Global;
 
 /// Reads an input, runs the review command on it, and writes the answer to the sink. The whole
-/// answer is computed before its first byte is written.
+/// answer is computed before the first byte of it is written.
 ///
-/// It reads at most 2,097,156 bytes. Each read except the last takes at least one byte, so the call
-/// ends, whatever the source and the sink do.
+/// The call reads at most 2,097,156 bytes. It always ends, because each read except the last takes
+/// at least one byte.
 ///
 /// # Errors
 ///
-/// Fails with fault 20 if memory runs out, with 60 if the source fails during this call, and with
-/// 61 if the sink fails. After 61 a prefix of the answer was written; after any other fault nothing
-/// was.
+/// - Fails with fault 20 if memory runs out.
+/// - Fails with fault 60 if the source fails during this call.
+/// - Fails with fault 61 if the sink fails. A prefix of the answer was then written.
+///
+/// After any fault other than 61, nothing was written.
 pub fn serve_alone<S: Source, K: Sink>(
     alloc: Global,
     review: ReviewCommand,

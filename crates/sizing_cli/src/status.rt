@@ -19,27 +19,35 @@ use support::number::{GATE, MEMORY, MIXED, READ_FAILED, WRITE_FAILED};
 pub enum Status {
     /// Yes, or the command did what it was asked to do.
     Done,
-    /// No: for example the plan is not safe, an event was refused or impossible, jobs are stuck, a
-    /// condition of the certificate fails, no certificate or sizes were found, sizes would change,
-    /// or a recording differs from the plan.
+    /// The answer is no. For example:
+    ///
+    /// - The plan is not safe.
+    /// - An event was refused or impossible, or jobs are stuck.
+    /// - A condition of the certificate fails.
+    /// - No certificate or sizes were found, or sizes would change.
+    /// - A recording differs from the plan.
     Refused,
     /// The input has a fault, which the answer reports.
     BadText,
-    /// Undecided: neither a certificate nor a witness was found, or the comparison of a recording
-    /// with a plan has no complete result.
+    /// Nothing was decided: neither a certificate nor a witness was found, or the comparison of a
+    /// recording with a plan has no complete result.
     Undecided,
 }
 
 impl Status {
-    /// Returns [`Status::Done`] for a yes, and [`Status::Refused`] for a no.
+    /// Returns [`Status::Done`] if `yes` is true, and [`Status::Refused`] otherwise.
     pub(crate) fn of_question(yes: bool) -> Status
         ensures { result ≡ yes_or_no yes }
     {
         if yes { Status::Done } else { Status::Refused }
     }
 
-    /// Returns the program's exit status: 0 for a yes, 1 for a no, 2 for a fault of the input, 4 if
-    /// nothing was decided.
+    /// Returns the program's exit status:
+    ///
+    /// - 0 for a yes;
+    /// - 1 for a no;
+    /// - 2 for a fault of the input;
+    /// - 4 if nothing was decided.
     pub fn code(self) -> u8
         ensures { result ≡ code self }
     {
@@ -55,13 +63,13 @@ impl Status {
 /// The fault of a command that gave no complete answer. A command ends with one of these numbers:
 ///
 /// - 20 (`Memory`): memory ran out, or a thread could not be started.
-/// - 41 (`Strange`): the fault of a run.
-/// - 42 (`Mixed`): the fault of a run or a search, or a check that contradicts a search.
-/// - 43 (`Gate`): the fault of a run, a search or a check on threads.
+/// - 41 (`Strange`): a run ended with this fault.
+/// - 42 (`Mixed`): a run or a search ended with this fault, or a check contradicts a search.
+/// - 43 (`Gate`): a run, a search or a check on threads ended with this fault.
 /// - 60 (`ReadFailed`): the source failed.
 /// - 61 (`WriteFailed`): the sink failed.
 ///
-/// After 61 a prefix of the answer was written; after any other fault nothing was.
+/// After fault 61, a prefix of the answer was written. After any other fault, nothing was written.
 #[derive(Clone, Copy, Debug, PartialEq, Eq)]
 pub struct ServeFault {
     pub number: u8,

@@ -8,14 +8,15 @@ use std::alloc::Global;
 use std::fs;
 use std::fs::{File, Files};
 
-/// The files of the operating system. No contract says what they hold, or what is written to them.
+/// The files of the operating system. No contract says what the files contain, or what is written
+/// to them.
 #[derive(Clone, Copy)]
 pub struct StdFiles<'a, R> {
     files: &'a R,
 }
 
 impl<'a, R: Files> StdFiles<'a, R> {
-    /// Creates a store that opens files through `files`.
+    /// Creates a store of files that opens each file through `files`.
     pub fn new(files: &'a R) -> StdFiles<'a, R> {
         StdFiles { files }
     }

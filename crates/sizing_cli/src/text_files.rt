@@ -17,22 +17,24 @@ pub trait TextFiles {
     // The writes so far, if they are known.
     ghost writes: { Self → Option (List FileWrite) };
 
-    /// Reads the first bytes of a file, at most `limit`.
+    /// Reads the first `limit` bytes of a file, or the whole file if it is shorter.
     ///
     /// # Errors
     ///
-    /// [`InputError::Fault`] if the file cannot be read, for example if it is missing or a
-    /// directory. [`InputError::Memory`] if memory runs out.
+    /// - [`InputError::Fault`] if the file cannot be read, for example because it does not exist or
+    ///   is a directory.
+    /// - [`InputError::Memory`] if memory runs out.
     fn read(&self, alloc: Global, name: &str, limit: usize) -> Result<Vec<u8>, InputError>
         ensures bytes { IfOk result (λ bytes. IfSome (content self.now name.now) (λ known. bytes.items ≡ take limit known)) }
         ensures unread { IfErr result (λ error. error ≡ InputError.Fault → content self.now name.now ≡ None) };
 
-    /// Reads the first bytes of a regular file, at most `limit`. Returns `None` if there is no file
-    /// of this name, or if it is not a regular file, such as a pipe or a terminal.
+    /// Reads the first `limit` bytes of a regular file, or the whole file if it is shorter. Returns
+    /// `None` if there is no file of this name, or if the file is not a regular file, such as a
+    /// pipe or a terminal.
     ///
     /// # Errors
     ///
-    /// Those of [`read`](TextFiles::read), if there is such a file.
+    /// Fails as [`read`](TextFiles::read) does, if there is a regular file of this name.
     fn read_stored(
         &self,
         alloc: Global,
@@ -42,7 +44,7 @@ pub trait TextFiles {
         ensures bytes { IfOk result (λ found. IfSome (content self.now name.now) (λ known. option_map (λ bytes. bytes.items) found ≡ Some (take limit known))) }
         ensures unread { IfErr result (λ error. error ≡ InputError.Fault → content self.now name.now ≡ None) };
 
-    /// Returns whether there is a directory of this name.
+    /// Returns true if there is a directory of this name.
     fn is_directory(&self, name: &str) -> bool
         ensures { IfSome (directory self.now name.now) (λ known. result ≡ known) };
 
@@ -50,7 +52,8 @@ pub trait TextFiles {
     ///
     /// # Errors
     ///
-    /// [`IoFault`] if that fails. The file may then hold a prefix of the bytes.
+    /// Returns [`IoFault`] if the file cannot be written. The file may then have a prefix of the
+    /// bytes.
     fn write(&mut self, name: &str, bytes: &[u8]) -> Result<(), IoFault>
         ensures { AppendsWrites (writes self.old) (writes self.new)
             ((record { name = name.now; bytes = bytes.now; is_done = is_ok result }) ∷ []) };

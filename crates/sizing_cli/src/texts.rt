@@ -13,11 +13,11 @@ use plan_text::read_plan;
 use std::alloc::{AllocError, Global};
 use support::number::MEMORY;
 
-/// Parses a plan. Returns the text's first fault if it has one.
+/// Returns the plan that the text describes, or the text's first fault if the text has a fault.
 ///
 /// # Errors
 ///
-/// [`AllocError`] if memory runs out.
+/// Returns [`AllocError`] if memory runs out.
 pub(crate) fn plan_in(alloc: Global, text: &[u8]) -> Result<Result<Plan, PlanFault>, AllocError>
     ensures read { IfOk result (λ read. read ≡ plan_of text.now) }
     ensures effective { IfOk result (λ read. IfOk read (λ plan. effective_plan plan ≡ plan)) }
@@ -29,11 +29,12 @@ pub(crate) fn plan_in(alloc: Global, text: &[u8]) -> Result<Result<Plan, PlanFau
     }
 }
 
-/// Parses a certificate for the plan. Returns the text's first fault if it has one.
+/// Returns the certificate for the plan that the text describes, or the text's first fault if the
+/// text has a fault.
 ///
 /// # Errors
 ///
-/// [`AllocError`] if memory runs out.
+/// Returns [`AllocError`] if memory runs out.
 pub(crate) fn cert_in(
     alloc: Global,
     text: &[u8],

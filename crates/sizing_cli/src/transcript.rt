@@ -18,11 +18,12 @@ use locked_runner::may_reject;
 use std::alloc::{AllocError, Global};
 use support::Counter;
 
-/// Replays the lines from the plan's start state. The first impossible event gets the last reply;
-/// the lines after it are only parsed.
+/// Replays the event lines from the plan's start state, and returns the answer with the replies.
+/// The first impossible event gets the last reply. The lines after this event are parsed, but not
+/// replayed.
 ///
-/// If a line is malformed, the answer reports only the first such line, without the replies to the
-/// lines before it. So the answer is known only when all lines have been read.
+/// If a line is malformed, the answer reports only the first malformed line, without any replies.
+/// So the answer is known only after all lines are read.
 pub fn replay_lines(alloc: Global, plan: &Plan, lines: EventLines<'_>) -> Result<Answer, AllocError>
     requires { length lines < 2 ^ 64 }
     ensures { IfOk result (λ answer. answer ≡ replay_of_lines plan.now (all_from 0 lines.entry)) }
@@ -36,8 +37,8 @@ pub fn replay_lines(alloc: Global, plan: &Plan, lines: EventLines<'_>) -> Result
     }
 }
 
-/// Appends the replies to the event lines, up to and including the first impossible event, and
-/// counts in `rejected` the jobs that pools rejected. Returns the number of the first malformed
+/// Appends the replies to the event lines, up to and including the first impossible event. Adds the
+/// number of jobs that pools rejected to `rejected`. Returns the number of the first malformed
 /// line, counted from 1, or `None` if no line is malformed.
 fn push_replies(
     alloc: Global,
@@ -71,8 +72,8 @@ fn push_replies(
     Ok(None)
 }
 
-/// Performs the event of the line, or finds out whether the jobs that the line asks about are
-/// stuck.
+/// Returns the reply to an event line. Performs the event of the line, or finds out whether the
+/// jobs that the line asks about are stuck.
 fn reply_to(
     alloc: Global,
     world: &mut World,
@@ -104,7 +105,7 @@ fn is_last(reply: Reply) -> bool
     matches!(reply, Reply::NotPossible)
 }
 
-/// Adds 1 to the number of rejected jobs if the reply reports one.
+/// Adds 1 to `rejected`, the number of rejected jobs, if the reply reports a rejected job.
 fn count_rejection(rejected: &mut u64, reply: Reply) -> Result<(), AllocError>
     ensures { OnOk result (rejected.new ≡ spec.count_rejection reply rejected.old) }
 {
@@ -120,9 +121,9 @@ fn is_rejection(reply: Reply) -> bool
     matches!(reply, Reply::Performed(Outcome::Rejected(_, _)))
 }
 
-/// Appends the last line, and returns the answer. The line has the number of refused submits and
-/// the number of unfinished jobs. If a pool of the plan may reject jobs, it also has the number of
-/// rejected jobs.
+/// Appends the last line, and returns the answer. The last line has the number of refused submits
+/// and the number of unfinished jobs. If a pool of the plan may reject jobs, the last line also has
+/// the number of rejected jobs.
 fn finish(
     mut answer: Answer,
     plan: &Plan,

@@ -10,7 +10,8 @@ use least_vectors::{Levels, pool_bound};
 use std::alloc::{AllocError, Global};
 use weights::{Bound, Vector};
 
-/// The result of a search for a witness.
+/// The result of a search for a witness, which is a list of events that shows that a plan is not
+/// safe.
 #[derive(Drop)]
 pub(crate) struct WitnessSearch {
     pub(crate) witness: Option<Witness>,
@@ -18,7 +19,7 @@ pub(crate) struct WitnessSearch {
     pub(crate) states: usize,
 }
 
-/// Searches at most `states` states for a witness against the plan. Returns a witness only if a
+/// Searches for a witness against the plan in at most `states` states. Returns a witness only if a
 /// replay confirms it.
 pub(crate) fn witness_of(
     alloc: Global,
@@ -37,7 +38,8 @@ pub(crate) fn witness_of(
     Ok(WitnessSearch { witness, states })
 }
 
-/// Confirms a candidate by a replay. Returns `None` if it is not a witness.
+/// Confirms a candidate for a witness by a replay. Returns `None` if the candidate is not a
+/// witness.
 fn confirm(
     alloc: Global,
     plan: &Plan,
@@ -56,9 +58,10 @@ fn confirm(
     confirmed(alloc, plan, found.events, members, &standing)
 }
 
-/// Returns, for each pool in plan order, the standing vector that the search finds, or a vector
-/// without weights if it finds none. A standing vector can prove that the pool never has more than
-/// core threads. The list is empty if a class submits itself.
+/// Returns, for each pool in plan order, the standing vector that a search finds. If the search
+/// finds none for a pool, the list has a vector without weights in its place. If a class submits
+/// itself, the list is empty. A standing vector can prove that the pool never has more threads than
+/// its core size.
 fn standing_vectors(alloc: Global, plan: &Plan) -> Result<Vec<Vector>, AllocError> {
     let mut vectors = Vec::new(alloc);
     let Some(levels) = Levels::of(alloc, plan)? else {
@@ -74,7 +77,7 @@ fn standing_vectors(alloc: Global, plan: &Plan) -> Result<Vec<Vector>, AllocErro
     Ok(vectors)
 }
 
-/// Returns the vector of a standing bound, or a vector without weights for any other bound.
+/// Returns the vector of a standing bound. For any other bound, returns a vector without weights.
 fn standing_vector(alloc: Global, bound: Bound) -> Vector {
     match bound {
         Bound::Standing(vector) => vector,
