@@ -10,7 +10,7 @@ use held_machines::Machine;
 use interleaving::{Event, Outcome};
 use std::alloc::{AllocError, Global};
 
-/// The machine of a certified plan. It borrows the plan.
+/// The machine of a plan that a certificate accepts. It borrows the plan and the certificate.
 #[derive(Clone, Copy, Drop)]
 pub struct CertifiedWorld<'a> {
     certified: &'a Certified,
@@ -30,8 +30,8 @@ impl<'a> CertifiedWorld<'a> {
     }
 }
 
-/// A world with the outcome of its last event. The outcome shows which job, if any, the event
-/// started, queued or took.
+/// A world, which is a state of the machine, with the outcome of its last event. The outcome shows
+/// which job, if any, the event started, queued or took from a queue.
 #[derive(Drop)]
 pub struct TracedWorld {
     pub world: ViewedWorld,

@@ -7,8 +7,8 @@ use held_machines::Receipt;
 use interleaving::Event;
 use std::marker::Model;
 
-/// A receipt in 12 bytes, half the size of a [`Receipt`], because its numbers have 32 bits. The
-/// lists of a run store receipts in this form.
+/// A receipt in 12 bytes, which is half the size of a [`Receipt`], because its numbers have 32
+/// bits. The receipts of a run are stored in this form.
 #[derive(Drop)]
 pub struct CompactReceipt {
     number: u32,
@@ -37,8 +37,8 @@ impl Model for CompactReceipt {
 }
 
 impl CompactReceipt {
-    /// Creates the compact form of a receipt, or returns `None` if one of its numbers has more than
-    /// 32 bits.
+    /// Returns the compact form of a receipt, or `None` if a number of the receipt has more than 32
+    /// bits.
     pub fn new(receipt: Receipt<Event>) -> Option<CompactReceipt>
         ensures same { IfSome result (λ kept. kept ≡ receipt) }
         ensures keepable { IsSome result ↔ IsKeepable receipt }

@@ -14,8 +14,8 @@ use interleaving::{Event, World};
 use job_bodies::{Client, Plan};
 use std::alloc::{AllocError, Global};
 
-/// Returns `true` if no job is unfinished, and each client has performed all events of its rounds
-/// and is at the end of its body. `world` is the world after the history.
+/// Returns `true` if a run is complete: no job is unfinished, and each client has performed all
+/// events of its rounds and is at the end of its body. `world` is the world after the history.
 ///
 /// # Errors
 ///
@@ -89,7 +89,7 @@ fn is_complete_client(client: &Client, number: usize, world: &World, rounds: u64
     position == client.body.len() && made == events
 }
 
-/// Returns, for each client, the number of events in the history that the client performed.
+/// Returns, for each client, the number of events of the history that this client performed.
 ///
 /// # Errors
 ///
@@ -105,8 +105,9 @@ fn events_made(alloc: Global, clients: usize, history: &[Event]) -> Result<Vec<u
     Ok(made)
 }
 
-/// Adds 1 to the count of the client that performed the event. Does nothing if no client performed
-/// it, or if `made` has no count for the client. The counts saturate at `u64::MAX`.
+/// Adds 1 to the count, in `made`, of the client that performed the event. Does nothing if no
+/// client performed the event, or if `made` has no count for the client. A count does not exceed
+/// `u64::MAX`.
 fn count_event(made: &mut [u64], event: Event)
     ensures as_many { length made.new ≡ length made.old }
     ensures made { (c : ℕ)

@@ -11,15 +11,15 @@ pub enum Actor {
 #[derive(Clone, Copy, PartialEq, Eq)]
 pub struct GateFault;
 
-/// The code that does the declared work of a run. Many threads call it concurrently, without
-/// holding the lock of the machine.
+/// The code that does the declared work of a run. Many threads call it at the same time, and none
+/// of them holds the lock of the machine during a call.
 pub trait Gate: Sync {
     /// Performs this number of units of work of the actor.
     ///
     /// # Errors
     ///
-    /// Returns `GateFault` if the work failed. The run then ends with fault 43, or with fault 20 if
-    /// memory runs out as well (see [`RunFault`](crate::RunFault)). Other threads may still perform
-    /// work that they are about to start.
+    /// Returns `GateFault` if the work failed. The run then ends with fault 43. If memory runs out
+    /// as well, it ends with fault 20 (see [`RunFault`](crate::RunFault)). Other threads may still
+    /// call the gate before they stop.
     fn work(&self, actor: Actor, units: u32) -> Result<(), GateFault>;
 }

@@ -3,15 +3,15 @@
 
 ghost use Rattle.locked_runner.specs.RunNumbers.{TotalsAddUp, NumbersAreOfThePlan};
 
-/// Proves that the total quantity (jobs, units of work or events) of a job includes all jobs that
-/// it causes, if the rows of the ranks hold: the total is the job's own quantity plus the total
-/// quantities of the jobs that its body submits.
+/// States how the total quantity of a job adds up, if the rows (the conditions) of the ranks hold.
+/// A quantity is a number of jobs, of units of work or of events. The total is the job's own
+/// quantity plus the total quantities of the jobs that its body submits.
 pub fn totals_add_up()
     ensures { TotalsAddUp }
 {}
 
-/// Proves that the numbers of jobs, units of work and events of a run are the same for all ranks
-/// whose rows hold. They do not depend on the certificate.
+/// States that the computed numbers of jobs, units of work and events of a run are the same for all
+/// ranks whose rows (conditions) hold. So the numbers do not depend on the certificate.
 pub fn numbers_are_of_the_plan()
     ensures { NumbersAreOfThePlan }
 {}

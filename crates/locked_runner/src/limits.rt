@@ -9,20 +9,20 @@ use job_bodies::{MAX_RUN_CARRIERS, MAX_RUN_CLIENTS, MAX_RUN_EVENTS, Plan};
 /// A limit that a run can exceed.
 #[derive(Clone, Copy, PartialEq, Eq)]
 pub enum RunLimit {
-    /// The number of pools that may reject jobs, which must be 0: a run performs every job of the
-    /// plan, but a job that a pool rejects is not performed.
+    /// The number of pools that may reject jobs, which must be 0. A run must perform every job of
+    /// the plan, but a rejected job is not performed.
     Rejections,
-    /// The number of clients of all kinds, at most 64.
+    /// The number of clients of all kinds together, which must be at most 64.
     Clients,
-    /// The sum of the maximums of all pools, at most 64.
+    /// The sum of the maximums of all pools, which must be at most 64.
     Threads,
-    /// The upper bound of the number of events, at most 1,000,000.
+    /// The upper bound of the number of events, which must be at most 1,000,000.
     Events,
 }
 
-/// Returns the limit to report for a plan whose run exceeds a limit: the first of the limits on
-/// rejecting pools, on clients and on threads that the plan exceeds, or the limit on events if it
-/// exceeds none of these.
+/// Returns the limit to report for a plan whose run exceeds a limit. This is the first limit, in
+/// this order, that the plan exceeds: the limit on rejecting pools, on clients, on threads. If the
+/// plan exceeds none of these, it is the limit on events.
 pub fn limit_of(plan: &Plan) -> RunLimit
     ensures { result ≡ spec.limit_of plan.now }
 {
@@ -49,7 +49,7 @@ pub(crate) fn exceeds_limits(plan: &Plan, events: u64) -> bool
         || events > MAX_RUN_EVENTS
 }
 
-/// Returns whether at least one of the pools may reject jobs.
+/// Returns `true` if at least one pool may reject jobs.
 pub fn may_reject(plan: &Plan) -> bool
     ensures value { result ≡ spec.may_reject plan.now }
     ensures well_formed { IsWellFormed plan.now }
@@ -57,7 +57,7 @@ pub fn may_reject(plan: &Plan) -> bool
     plan.pools().iter().any(|pool| pool.may_reject)
 }
 
-/// Returns the number of clients of all kinds. The number saturates at `u64::MAX`.
+/// Returns the number of clients of all kinds together, or `u64::MAX` if the number is larger.
 fn clients_of(plan: &Plan) -> u64
     ensures value { result ≡ min (spec.clients plan.now) (2 ^ 64 - 1) }
     ensures well_formed { IsWellFormed plan.now }
@@ -69,7 +69,7 @@ fn clients_of(plan: &Plan) -> u64
     total
 }
 
-/// Returns the sum of the maximums of all pools. The sum saturates at `u64::MAX`.
+/// Returns the sum of the maximums of all pools, or `u64::MAX` if the sum is larger.
 fn workers_of(plan: &Plan) -> u64
     ensures { result ≡ min (spec.workers plan.now) (2 ^ 64 - 1) }
 {

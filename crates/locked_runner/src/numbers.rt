@@ -11,22 +11,23 @@ use std::alloc::{AllocError, Global};
 use weights::Ranks;
 
 /// The numbers of jobs and units of work of a complete run, and an upper bound of the number of its
-/// events. Each number saturates at `u64::MAX`.
+/// events. A number above `u64::MAX` is stored as `u64::MAX`.
 #[derive(Clone, Copy, PartialEq, Eq)]
 pub struct RunNumbers {
     /// The number of jobs that clients and jobs submit.
     pub jobs: u64,
     /// The units of work of clients and jobs.
     pub units: u64,
-    /// An upper bound of the number of events. It counts a take event for each job, although there
-    /// is none for a job that a new thread starts.
+    /// An upper bound of the number of events. It counts, for each job, the event in which a worker
+    /// takes the job from the queue. There is no such event for a job that a new thread starts.
     pub events: u64,
 }
 
 /// Returns the numbers of a run of the plan in which each repeating client performs its body
-/// `rounds` times. With 0 rounds, a repeating client contributes nothing. The jobs that jobs submit
-/// are counted for as many generations as the greatest level in `ranks`. If the rows of the ranks
-/// hold, these are all jobs.
+/// `rounds` times. With 0 rounds, a repeating client contributes nothing. The jobs that clients
+/// submit are generation 0, the jobs that these jobs submit are generation 1, and so on. Jobs are
+/// counted up to the generation whose number is the greatest level in `ranks`. If the rows (the
+/// conditions) of the ranks hold, these are all jobs.
 ///
 /// # Errors
 ///
@@ -54,7 +55,8 @@ pub fn run_numbers(
     })
 }
 
-/// The quantity to sum over the jobs of a run: the number of jobs, of units of work or of events.
+/// The quantity that is summed over the jobs of a run: the number of jobs, of units of work or of
+/// events.
 #[derive(Clone, Copy)]
 enum Measure {
     Jobs,
@@ -62,8 +64,8 @@ enum Measure {
     Events,
 }
 
-/// Returns the quantity (jobs, units or events) of one job of the class, without the jobs that it
-/// causes. The events of a job are its actions, a take event and its end.
+/// Returns the quantity of one job of the class, without the jobs that it causes. If `measure`
+/// selects events, these are the actions of the job, a take from the queue and the job's end.
 fn own_quantity(measure: Measure, class: &Class) -> u64
     ensures { result ≡ capped (spec.own_quantity measure class.now) }
 {
@@ -74,8 +76,8 @@ fn own_quantity(measure: Measure, class: &Class) -> u64
     }
 }
 
-/// Returns the quantity that `measure` selects, summed over all jobs of a run: the jobs that the
-/// clients submit in all their rounds, and all jobs that these jobs cause.
+/// Returns the quantity that `measure` selects, summed over all jobs of a run. These are the jobs
+/// that the clients submit in all their rounds, and all jobs that those jobs cause.
 fn by_jobs(
     alloc: Global,
     plan: &Plan,
@@ -90,8 +92,8 @@ fn by_jobs(
     Ok(submitted_by_all(plan, rounds, &numbers))
 }
 
-/// Returns a sum over all submits of the clients in all their rounds. Each submit adds the number
-/// that `numbers` has for the submitted class.
+/// Returns a sum over all submits of all clients in all their rounds. For each submit, the sum has
+/// the number of the submitted class in `numbers`.
 fn submitted_by_all(plan: &Plan, rounds: u64, numbers: &[u64]) -> u64
     ensures { (f : ℕ → ℕ)
         → spec.AreCapped plan.now f numbers.now
@@ -110,8 +112,8 @@ fn submitted_by(client: &Client, rounds: u64, numbers: &[u64]) -> u64
     in_all_rounds(client, rounds, submitted(&client.body, numbers))
 }
 
-/// Returns the units of work that the clients perform in all their rounds. The units of jobs are
-/// not included.
+/// Returns the number of units of work that the clients perform in all their rounds. The work of
+/// jobs is not included.
 fn units_of_all(plan: &Plan, rounds: u64) -> u64
     ensures { result ≡ capped (sum_by (spec.units_of_clients rounds) plan.now.clients) }
 {
@@ -140,7 +142,7 @@ fn events_of_all(plan: &Plan, rounds: u64) -> u64
     total
 }
 
-/// Returns a quantity summed over all clients of this kind in all their rounds. `in_one` is the
+/// Returns a quantity summed over all clients of this kind and all their rounds. `in_one` is the
 /// quantity of one client in one round.
 fn in_all_rounds(client: &Client, rounds: u64, in_one: u64) -> u64
     ensures { (n : ℕ)
@@ -151,15 +153,15 @@ fn in_all_rounds(client: &Client, rounds: u64, in_one: u64) -> u64
     client.count.saturating_mul(of_one)
 }
 
-/// Returns the number of events of one client of this kind in all its rounds. The number saturates
-/// at `u64::MAX`.
+/// Returns the number of events of one client of this kind in all its rounds, or `u64::MAX` if the
+/// number is larger.
 fn events_within(client: &Client, rounds: u64) -> u64
     ensures { result ≡ capped (complete.events_of_client rounds client.now) }
 {
     events_of_client(client, rounds).unwrap_or(u64::MAX)
 }
 
-/// Returns the units of work that the body declares.
+/// Returns the number of units of work that the body declares.
 fn units_in(body: &[Action]) -> u64
     ensures { result ≡ capped (spec.units_in body.now) }
 {
@@ -172,8 +174,8 @@ fn units_in(body: &[Action]) -> u64
     total
 }
 
-/// Returns a sum over all submits of the body. Each submit adds the number that `numbers` has for
-/// the submitted class, or 0 if it has none.
+/// Returns a sum over all submits of the body. For each submit, the sum has the number of the
+/// submitted class in `numbers`, or 0 if `numbers` has no number for the class.
 fn submitted(body: &[Action], numbers: &[u64]) -> u64
     ensures { result ≡ capped (spec.submitted (slice_index numbers.now) body.now) }
 {
@@ -187,7 +189,7 @@ fn submitted(body: &[Action], numbers: &[u64]) -> u64
 }
 
 /// Returns, for each class, the quantity that `measure` selects, summed over one job of the class
-/// and all jobs that it causes, directly or through other jobs.
+/// and all jobs that this job causes, directly or through other jobs.
 fn total_quantity(
     alloc: Global,
     plan: &Plan,
@@ -220,9 +222,9 @@ fn greatest(levels: &[u64]) -> u64
     greatest
 }
 
-/// Returns, for each class, the quantity that `measure` selects, summed over one job and the jobs
-/// that it causes. `numbers` has these sums for some number of generations of caused jobs, and the
-/// result includes one generation more. If `numbers` is empty, the result includes no caused jobs.
+/// Returns, for each class, the quantity that `measure` selects, summed over one job of the class
+/// and the jobs that it causes up to some generation. `numbers` has these sums for one generation
+/// less. If `numbers` is empty, the result includes no caused jobs.
 fn add_generation(
     alloc: Global,
     plan: &Plan,

@@ -14,8 +14,8 @@ use interleaving::{Event, World};
 use job_bodies::Plan;
 use std::alloc::{AllocError, Global};
 
-/// The owner of an event: a client, or a pool, whose threads take jobs and perform the actions of
-/// jobs.
+/// The owner of an event: a client or a pool. A pool owns the events in which its threads take jobs
+/// and perform the actions of jobs.
 #[derive(Clone, Copy, PartialEq, Eq)]
 pub enum Owner {
     Client(usize),
@@ -23,7 +23,7 @@ pub enum Owner {
 }
 
 /// Returns the pool of the job that performs the event. Returns 0 if no job performs the event, or
-/// if the job is not live. `world` is the world before the event.
+/// if the job is not in `world`, which is the world before the event.
 pub(crate) fn pool_of(plan: &Plan, world: &World, event: Event) -> u8
     ensures { (s : State)
         → IsReached plan.now s
@@ -40,8 +40,8 @@ pub(crate) fn pool_of(plan: &Plan, world: &World, event: Event) -> u8
     }
 }
 
-/// Returns the pool of the class, or 0 if there is no such class. The number fits in 8 bits, since
-/// a plan has at most 64 pools.
+/// Returns the pool of the class, or 0 if there is no such class. The number of the pool fits in 8
+/// bits, because a plan has at most 64 pools.
 fn pool_of_class(plan: &Plan, class: usize) -> u8
     ensures exists { class < length plan.now.classes → result ≡ state.pool_of plan.now class }
     ensures well_formed { IsWellFormed plan.now }
@@ -52,9 +52,9 @@ fn pool_of_class(plan: &Plan, class: usize) -> u8
     }
 }
 
-/// Returns the owner of the event. If a job performs the event, `pool` must be the job's pool, and
-/// otherwise it has no effect. Returns `None` for the retirement of a worker, since no thread of a
-/// run performs one.
+/// Returns the owner of the event. If a job performs the event, `pool` must be the pool of this
+/// job. For any other event, `pool` has no effect. Returns `None` for the end of an idle worker,
+/// because no thread of a run performs such an event.
 pub(crate) fn owner_by(event: Event, pool: u8) -> Option<Owner>
     ensures { result ≡ spec.owner_by event pool }
 {
@@ -82,9 +82,9 @@ pub fn kinds_of(alloc: Global, plan: &Plan) -> Result<Vec<usize>, AllocError>
     Ok(kinds)
 }
 
-/// Returns the owner of each list of receipts of a run. There is one list for each client, and then
-/// there are `max` lists for each pool, one for each of its threads. `kinds` has one entry for each
-/// client (see [`kinds_of`]).
+/// Returns the owner of each list of receipts of a run. First there is one list for each client.
+/// Then there are, for each pool, `max` lists, one for each of its threads. `kinds` has one entry
+/// for each client (see [`kinds_of`]).
 ///
 /// # Errors
 ///

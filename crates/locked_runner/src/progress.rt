@@ -39,13 +39,13 @@ impl Progress {
         self.clients_left = self.clients_left.saturating_sub(1);
     }
 
-    /// Stops the run before it is complete, without a fault. The check of the results finds out
+    /// Stops the run before it is complete, without a fault. The check of the results later finds
     /// that the run is not complete.
     pub(crate) fn end(&mut self) {
         self.is_over = true;
     }
 
-    /// Stops the run and stores the fault, unless a fault with a lower number is already stored.
+    /// Stops the run. Stores the fault, unless a fault with a lower number is already stored.
     pub(crate) fn note(&mut self, cause: ThreadFault) {
         self.end();
         if self.fault != Some(ThreadFault::Memory) {

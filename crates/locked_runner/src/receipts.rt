@@ -13,10 +13,15 @@ use interleaving::Event;
 use job_bodies::Plan;
 use std::alloc::{AllocError, Global};
 
-/// Returns `true` if there is one list for each owner in `of_lists`, and the receipts of each list
-/// are in ascending order and belong to the list's owner. A receipt belongs to an owner if its
-/// event is the history's event at its number, and this event belongs to the owner. `pools` has,
-/// for each event of the history, the pool of the job that performed it, or 0 if no job did.
+/// Returns `true` if these conditions hold:
+///
+/// - There is one list of receipts for each owner in `of_lists`.
+/// - The receipts of each list are in ascending order.
+/// - Each receipt has the event that the history has at the receipt's number, and this event
+///   belongs to the owner of the list.
+///
+/// `pools` has, for each event of the history, the pool of the job that performed the event, or 0
+/// if no job performed it.
 pub(crate) fn lists_fit(
     plan: &Plan,
     history: &[Event],
@@ -62,8 +67,8 @@ fn list_fits(
     true
 }
 
-/// Returns `true` if the receipt's event is the history's event at the receipt's number, and
-/// belongs to the owner.
+/// Returns `true` if the receipt has the event that the history has at the receipt's number, and
+/// this event belongs to the owner.
 fn receipt_fits(
     _plan: &Plan,
     history: &[Event],
@@ -109,8 +114,8 @@ fn is_owned_by(found: Option<Owner>, owner: Owner) -> bool
     }
 }
 
-/// Returns `true` if each number from 0 to `length - 1` is the number of exactly one receipt in the
-/// lists.
+/// Returns `true` if the lists have, for each number from 0 to `length - 1`, exactly one receipt
+/// with this number.
 ///
 /// # Errors
 ///
@@ -131,8 +136,8 @@ pub(crate) fn each_once(
     Ok(all_are_one(&marks))
 }
 
-/// Adds 1, for each receipt, to the mark at the receipt's number, if there is such a mark. A mark
-/// of 255 does not change.
+/// Adds 1, for each receipt in the list, to the mark whose index is the number of the receipt.
+/// Ignores a receipt if `marks` has no such index. A mark of 255 does not change.
 fn mark_all(marks: &mut [u8], list: &[CompactReceipt])
     ensures len { length marks.new ≡ length marks.old }
     ensures marks { (k : ℕ)

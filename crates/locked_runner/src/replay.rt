@@ -17,10 +17,10 @@ use std::alloc::{AllocError, Global};
 pub(crate) struct Replay {
     /// The world after the replayed events.
     pub(crate) world: ViewedWorld,
-    /// For each replayed event, the pool of the job that performed it, or 0 if no job did. The pool
-    /// and the event determine the owner of the event.
+    /// For each replayed event, the pool of the job that performed the event, or 0 if no job
+    /// performed it. This pool and the event determine the owner of the event.
     pub(crate) pools: Vec<u8>,
-    /// The units of work of the replayed events, or `None` if they exceed `u64::MAX`.
+    /// The units of work of the replayed events, or `None` if their number exceeds `u64::MAX`.
     pub(crate) units: Option<u64>,
     /// Whether the replay ended because memory ran out.
     pub(crate) ended_for_memory: bool,
@@ -63,7 +63,7 @@ impl Replay {
         self.pools.len()
     }
 
-    /// Replays the events, and stops before the first one that is not possible.
+    /// Replays the events. Stops before the first event that is not possible.
     ///
     /// # Errors
     ///
@@ -115,8 +115,8 @@ impl Replay {
     }
 }
 
-/// Returns `units` plus the units of work of the outcome. `None` means a number above `u64::MAX`,
-/// both as an argument and as the result.
+/// Returns `units` plus the units of work of the outcome. `None` stands for a number above
+/// `u64::MAX`, both as the argument and as the result.
 fn with_work(units: Option<u64>, outcome: Outcome) -> Option<u64>
     ensures { (n : ℕ) → IsCounted n units → IsCounted (n + worked (Some outcome)) result }
 {

@@ -12,16 +12,16 @@ use support::number::{GATE, MEMORY};
 /// The report of a run that was performed and checked.
 #[derive(Drop)]
 pub struct RunReport {
-    /// The number of jobs created.
+    /// The number of jobs that were submitted.
     pub jobs: u64,
     /// The units of work done by clients and jobs.
     pub units: u64,
-    /// The number of refused submits, which is 0.
+    /// The number of refused submits. It is always 0.
     pub refused: u64,
-    /// Every event, in the order in which the events happened.
+    /// All events of the run, in the order in which they happened.
     pub history: Vec<Event>,
-    /// The receipts of each thread in ascending order: one list for each client, then `max` lists
-    /// for each pool.
+    /// The receipts of each thread, in ascending order. First there is one list for each client,
+    /// and then `max` lists for each pool.
     pub receipts: Vec<Vec<CompactReceipt>>,
 }
 
@@ -34,15 +34,16 @@ impl Model for RunReport {
     ghost view = { λ r. record { jobs = r.jobs; units = r.units; refused = r.refused; history = r.history.items; receipts = map (λ list. list.items) r.receipts.items } };
 }
 
-/// The reason why a run is not complete: a fault number from `support`, and the length of a *legal*
-/// prefix of the history, one in which each event was possible.
+/// The reason why a run is not complete, with the length of a legal prefix of the history. A prefix
+/// is legal if each of its events was possible. The reason is the number of a fault from `support`:
 ///
 /// - 20: memory ran out, or a thread could not be started.
 /// - 40: the run exceeds a limit, and no thread was started.
-/// - 41: the number of lists of receipts is wrong, or a list has receipts that are not in ascending
-///   order, that do not match the history, or that belong to another client or pool.
-/// - 42: the history has an impossible event, is not complete, does not have exactly one receipt
-///   for each event, or has another number of jobs or units than the computed one.
+/// - 41: the number of lists of receipts is wrong. This is also the fault if the receipts of a list
+///   are not in ascending order, do not match the history, or belong to another client or pool.
+/// - 42: the history has an impossible event, is not complete, or has another number of jobs or
+///   units than the computed one. This is also the fault if an event does not have exactly one
+///   receipt.
 /// - 43: the gate failed.
 #[derive(Clone, Copy, Debug, PartialEq, Eq)]
 pub struct RunFault {
@@ -51,7 +52,7 @@ pub struct RunFault {
 }
 
 impl RunFault {
-    /// Creates the fault with this number and an empty legal prefix.
+    /// Creates a fault with this number and a legal prefix of length 0.
     #[tactic(auto, using(crate::proofs::Histories::nothing_is_legal))]
     pub fn at_start(number: u8) -> RunFault
         ensures value { result ≡ record { number = number; events = 0 } }
@@ -61,7 +62,7 @@ impl RunFault {
     }
 }
 
-/// A fault that a thread of a run reports. All threads of the run then end early.
+/// A fault that a thread of a run reports. All threads of the run then stop early.
 #[derive(Clone, Copy, PartialEq, Eq)]
 pub enum ThreadFault {
     /// Memory ran out, or a thread could not be started.
@@ -82,8 +83,8 @@ impl ThreadFault {
     }
 }
 
-/// The results of the threads of a run: the history, the receipts of each thread, and the reported
-/// fault with the lowest number, if any.
+/// The results of the threads of a run: the history, the receipts of each thread, and, if a thread
+/// reported a fault, the reported fault with the lowest number.
 #[derive(Drop)]
 pub struct ThreadResults {
     pub history: Vec<Event>,

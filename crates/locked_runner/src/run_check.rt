@@ -19,16 +19,19 @@ use job_bodies::Plan;
 use std::alloc::{AllocError, Global};
 use support::number::{MEMORY, MIXED, STRANGE};
 
-/// Checks that the results of the threads form a complete run of the plan, with this number of
+/// Checks that the results of the threads form a complete run of the plan with this number of
 /// rounds and these numbers of jobs and units of work. Returns the report of the run.
 ///
 /// # Errors
 ///
-/// Returns the fault that a thread reported. If no thread reported one, returns fault 41 if it
-/// applies, and otherwise 42 (see [`RunFault`]). Returns 20 in place of any of these if memory runs
-/// out during the check. The field `events` of the fault is the number of events of the history
-/// that were replayed. Unless the fault is 20, these are all events before the first impossible
-/// one.
+/// Returns the first of these faults that applies:
+///
+/// - 20 if memory runs out during the check;
+/// - the fault that a thread reported;
+/// - 41 or 42 if the results are not such a run (see [`RunFault`]). If both apply, the fault is 41.
+///
+/// The field `events` of the fault is the number of events of the history that were replayed.
+/// Unless the fault is 20, these are all events before the first impossible event.
 pub fn check_run(
     alloc: Global,
     certified: &Certified,
@@ -71,7 +74,7 @@ pub fn check_run(
     }
 }
 
-/// Returns the report of a run. `world` must be the world to which the history in `results` leads.
+/// Returns the report of a run. `world` must be the world after the history in `results`.
 fn report(
     certified: &Certified,
     numbers: RunNumbers,
@@ -100,7 +103,7 @@ fn report(
 }
 
 /// Returns the fault of a run, or `None` if the run is complete. `replay` is the replay of the
-/// events before the first impossible one.
+/// history up to the first impossible event.
 ///
 /// # Errors
 ///
@@ -161,9 +164,13 @@ fn fault_of(
     Ok(None)
 }
 
-/// Returns `true` if the history was replayed to its end, is complete, has these numbers of jobs
-/// and units of work, and has exactly one receipt in the lists for each event. The caller must have
-/// checked that each list has only receipts of its own client or pool.
+/// Returns `true` if these conditions hold:
+///
+/// - The history was replayed to its end and is complete.
+/// - It has these numbers of jobs and units of work.
+/// - The lists have exactly one receipt for each event.
+///
+/// The caller must have checked that each list has only receipts of its own client or pool.
 ///
 /// # Errors
 ///

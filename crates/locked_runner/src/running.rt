@@ -17,21 +17,20 @@ use std::thread::Threads;
 use support::number::{MEMORY, RUN_TOO_LARGE};
 use weights::Ranks;
 
-/// Runs a certified plan. A thread for each client, and `max` threads for each pool, perform the
-/// events of its machine. The gate does the declared work.
+/// Runs a certified plan. One thread for each client, and `max` threads for each pool, perform the
+/// events of the plan's machine. The gate does the declared work.
 ///
-/// A client of a repeating kind performs its body `rounds` times, and any other client once.
-/// `rounds` should be at least 1. With 0 rounds, a repeating client performs no event. If its body
-/// has an action, the client is then not at the end of its body, so the run is not complete and the
-/// result is a fault.
+/// A client of a repeating kind performs its body `rounds` times, and any other client performs it
+/// once. `rounds` should be at least 1. With 0 rounds, a repeating client performs no event, so the
+/// run is not complete unless the client's body is empty. The result is then a fault.
 ///
 /// # Errors
 ///
 /// Returns a fault with one of these numbers:
 ///
-/// - 40: the run exceeds a limit, and no thread was started. The limits are: no pool may reject
-///   jobs, at most 64 clients, at most 64 threads of all pools together, and a bound on the number
-///   of events of at most 1,000,000.
+/// - 40: the run exceeds a limit, and no thread was started. The limits are: no pool that may
+///   reject jobs, 64 clients, 64 threads of all pools together, and 1,000,000 events by an upper
+///   bound.
 /// - 20: memory ran out, or a thread could not be started.
 /// - 43: the gate failed.
 /// - 41 or 42: the results of the threads are not a complete run.
@@ -64,7 +63,7 @@ pub fn run<R: Threads + Wait + Sync, G: Gate>(
     check_run(alloc, certified, rounds, numbers, results)
 }
 
-/// Returns the numbers of jobs, units of work and events of the run, if the run exceeds no limit.
+/// Returns the numbers of jobs, units of work and events of the run.
 ///
 /// # Errors
 ///

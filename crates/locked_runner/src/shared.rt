@@ -10,7 +10,8 @@ use std::collections::VecDeque;
 use std::sync::{Condvar, Mutex, MutexGuard, Wait};
 
 /// The state that the threads of a run share: the machine under its lock, the hand-off queues and
-/// the progress of the run. The last two are accessed only while the machine's lock is held.
+/// the progress of the run. A thread accesses the hand-off queues and the progress only while it
+/// holds the machine's lock.
 ///
 /// A thread whose actor is at a get waits on the machine's own condition variable. A worker thread
 /// without a job waits on the condition variable of its pool's hand-off queue. Only the end of a
@@ -24,8 +25,8 @@ pub(crate) struct Shared<'a> {
     progress: Mutex<Progress>,
 }
 
-/// The hand-off queue of one pool: the jobs that a submit has started and that no worker thread has
-/// taken yet. The worker threads of the pool that have no job wait at this queue.
+/// The hand-off queue of one pool. It has the jobs that a submit has started and that no worker
+/// thread has taken yet. The worker threads of the pool that have no job wait at this queue.
 #[derive(Drop)]
 struct HandoffQueue {
     started: Mutex<VecDeque<usize>>,
@@ -46,8 +47,8 @@ enum Wakeup {
     All,
 }
 
-/// A job for a worker thread. If the job was taken from the queue, `taken` is the receipt of the
-/// take event.
+/// A job for a worker thread to perform. If the thread took the job from the pool's queue, `taken`
+/// is the receipt of this take event.
 #[derive(Drop)]
 pub(crate) struct Work {
     pub(crate) job: usize,
@@ -56,7 +57,7 @@ pub(crate) struct Work {
 }
 
 impl<'a> Shared<'a> {
-    /// Creates the shared state before the first event of a run with `clients` clients.
+    /// Creates the shared state, before the first event, of a run with `clients` clients.
     ///
     /// # Errors
     ///
@@ -82,7 +83,8 @@ impl<'a> Shared<'a> {
         })
     }
 
-    /// Returns the history, and the reported fault with the lowest number, if any.
+    /// Returns the history and the reported fault with the lowest number, or `None` if no thread
+    /// reported a fault.
     pub(crate) fn into_history(self) -> (Vec<Event>, Option<ThreadFault>) {
         let Shared {
             machine,
@@ -96,7 +98,7 @@ impl<'a> Shared<'a> {
     }
 
     /// Waits until the event is possible, performs it and returns its receipt. Returns `None` if
-    /// the run is to stop. Stops the run if memory runs out.
+    /// the threads must stop. Stops the run if memory runs out.
     pub(crate) fn act<R: Wait>(&self, rt: &R, event: Event) -> Option<Receipt<Event>> {
         let mut guard = self.machine.lock(rt);
         for _ in rt.forever() {
@@ -121,9 +123,9 @@ impl<'a> Shared<'a> {
         None
     }
 
-    /// Waits for the next job of the pool, and returns it. Jobs that a submit has started come
-    /// before the job at the head of the queue. Returns `None` if the run is to stop or is
-    /// complete. Stops the run if memory runs out, or if the pool or the job is not found.
+    /// Waits for the next job of the pool and returns it. The jobs in the hand-off queue come
+    /// before the jobs in the pool's queue. Returns `None` if the run is complete or the threads
+    /// must stop. Stops the run if memory runs out, or if the pool or the job is not found.
     pub(crate) fn next_job<R: Wait>(&self, rt: &R, pool: usize) -> Option<Work> {
         let Some(handoff) = self.handoffs.get(pool) else {
             self.end(rt);
@@ -155,8 +157,8 @@ impl<'a> Shared<'a> {
         None
     }
 
-    /// Releases the lock and returns the work. If `work` is `None`, the job was not found, and the
-    /// run is stopped.
+    /// Releases the lock and returns `work`. If `work` is `None`, because the job was not found,
+    /// also stops the run.
     fn check_work<R: Wait>(
         &self,
         rt: &R,
@@ -170,7 +172,7 @@ impl<'a> Shared<'a> {
         work
     }
 
-    /// Records that a client has no event left. If the run is then complete, wakes all threads, so
+    /// Records that a client has no event left. If the run is now complete, wakes all threads, so
     /// that they end.
     pub(crate) fn leave<R: Wait>(&self, rt: &R) {
         let guard = self.machine.lock(rt);
@@ -191,7 +193,7 @@ impl<'a> Shared<'a> {
     }
 
     /// Makes every thread stop before the run is complete, and records no fault. The check of the
-    /// results finds out that the run is not complete.
+    /// results later finds that the run is not complete.
     pub(crate) fn end<R: Wait>(&self, rt: &R) {
         let guard = self.machine.lock(rt);
         self.progress.lock(rt).end();
@@ -210,8 +212,8 @@ impl<'a> Shared<'a> {
             && guard.state().world.world().unfinished() == 0
     }
 
-    /// Returns the threads to wake after the last event. If the event started a job, puts the job
-    /// into its pool's hand-off queue.
+    /// Returns the threads to wake after the last event. If the event started a job, also puts this
+    /// job into its pool's hand-off queue.
     fn wakeups_after<R: Wait>(&self, rt: &R, guard: &MachineGuard<'a, '_>) -> Wakeup {
         match guard.state().outcome {
             Some(Outcome::Started(job)) => self.hand_off(rt, guard, job),
@@ -231,7 +233,7 @@ impl<'a> Shared<'a> {
     }
 
     /// Puts the started job into its pool's hand-off queue, and returns the threads to wake. Stops
-    /// the run if the job's pool is not found or memory runs out.
+    /// the run if the job's pool is not found or if memory runs out.
     fn hand_off<R: Wait>(&self, rt: &R, guard: &MachineGuard<'a, '_>, job: usize) -> Wakeup {
         let Some(pool) = self.pool_of(guard, job) else {
             return self.end_without_worker(rt);
@@ -247,8 +249,8 @@ impl<'a> Shared<'a> {
         Wakeup::Worker(pool)
     }
 
-    /// Stops the run because the pool of a started or queued job was not found. Returns the threads
-    /// to wake, which are all of them.
+    /// Stops the run because the pool of a started or queued job was not found. Returns that all
+    /// threads are to wake.
     fn end_without_worker<R: Wait>(&self, rt: &R) -> Wakeup {
         self.progress.lock(rt).end();
         Wakeup::All
@@ -280,8 +282,8 @@ impl<'a> Shared<'a> {
     }
 }
 
-/// Returns the job that the last event took from a queue, with the receipt of that event. Returns
-/// `None` if the last event took no job, or if the job is not found.
+/// Returns the job that the last event took from a queue, with `receipt`, the receipt of that
+/// event. Returns `None` if the last event took no job, or if the job is not found.
 fn work_taken(guard: &MachineGuard<'_, '_>, receipt: Receipt<Event>) -> Option<Work> {
     match guard.state().outcome {
         Some(Outcome::Took(job)) => work_on(guard, job, Some(receipt)),

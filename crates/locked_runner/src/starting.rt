@@ -14,8 +14,8 @@ use std::sync::Wait;
 use std::thread;
 use std::thread::Threads;
 
-/// Starts a thread for each client and `max` threads for each pool, and returns the results of the
-/// threads after all of them have ended. If a thread cannot be started or memory runs out, the run
+/// Starts one thread for each client and `max` threads for each pool. Returns the results of the
+/// threads after all threads have ended. If a thread cannot be started or memory runs out, the run
 /// stops, and the fault in the results is [`ThreadFault::Memory`].
 ///
 /// # Errors
@@ -73,7 +73,8 @@ pub(crate) fn run_threads<R: Threads + Wait + Sync, G: Gate>(
 }
 
 /// Runs one thread of `owner`, which is a client or a pool, and returns the thread's receipts.
-/// Stops the run if there is not enough memory for the thread, or if the plan has no such client.
+/// Stops the run if there is not enough memory for the thread's state, or if the plan has no such
+/// client.
 fn run_one<R: Wait, G: Gate>(
     rt: &R,
     alloc: Global,
@@ -100,7 +101,7 @@ fn run_one<R: Wait, G: Gate>(
 }
 
 /// Returns the client kind of the client with this number, or `None` if there is no such client.
-/// `kinds` has the index of the client kind of each client.
+/// `kinds` has, for each client, the index of its kind.
 fn client_of<'p>(plan: &'p Plan, kinds: &[usize], number: usize) -> Option<&'p Client> {
     plan.client_at(*kinds.get(number)?)
 }

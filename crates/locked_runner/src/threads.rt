@@ -8,9 +8,11 @@ use job_bodies::{Action, Client};
 use std::alloc::{AllocError, Global};
 use std::sync::Wait;
 
-/// The initial capacity of a list of receipts: 16,384 receipts, which take 192 KiB of memory. The C
-/// library allocates blocks of this size with `mmap`, so a page uses memory only once it is
-/// written. A list within this capacity is never moved and leaves no gaps in the heap.
+/// The initial capacity of a list of receipts: 16,384 receipts, which take 192 KiB of memory.
+///
+/// The C library allocates blocks of this size with `mmap`, so a page uses memory only after it is
+/// written. A list that does not exceed this capacity is never moved and leaves no gaps in the
+/// heap.
 const FIRST_ROOM: usize = 16_384;
 
 /// A thread of a run, with the receipts of its events.
@@ -42,7 +44,7 @@ impl<'a, 'b, R: Wait, G: Gate> Runner<'a, 'b, R, G> {
         })
     }
 
-    /// Runs the thread of a client: performs the client's body `rounds` times, unless the run
+    /// Runs the thread of a client, which performs the client's body `rounds` times unless the run
     /// stops. Returns the receipts of the thread.
     pub(crate) fn run_client(
         mut self,
@@ -62,8 +64,8 @@ impl<'a, 'b, R: Wait, G: Gate> Runner<'a, 'b, R, G> {
         self.receipts
     }
 
-    /// Runs a worker thread of a pool: performs jobs of the pool in sequence, until the run is
-    /// complete or stops. Returns the receipts of the thread.
+    /// Runs a worker thread of a pool, which performs jobs of the pool one after the other until
+    /// the run is complete or stops. Returns the receipts of the thread.
     pub(crate) fn run_worker(mut self, pool: usize) -> Vec<CompactReceipt> {
         for _ in self.rt.forever() {
             let Some(work) = self.shared.next_job(self.rt, pool) else {
@@ -82,7 +84,7 @@ impl<'a, 'b, R: Wait, G: Gate> Runner<'a, 'b, R, G> {
     }
 
     /// Performs all events of a job of this class, from its first action to its end. Returns
-    /// `false` if the run is to stop.
+    /// `false` if the thread must stop.
     fn run_job(&mut self, job: usize, class: usize) -> bool {
         let Some(class) = self.shared.plan.class_at(class) else {
             self.shared.end(self.rt);
@@ -92,7 +94,7 @@ impl<'a, 'b, R: Wait, G: Gate> Runner<'a, 'b, R, G> {
     }
 
     /// Performs the actions of a body. Calls the gate before each event of a `work` action, and
-    /// stops the run if the gate fails. Returns `false` if the run is to stop.
+    /// stops the run if the gate fails. Returns `false` if the thread must stop.
     fn perform_body(&mut self, body: &[Action], actor: Actor) -> bool {
         for action in body {
             if let Action::Work(units) = action {
@@ -109,7 +111,7 @@ impl<'a, 'b, R: Wait, G: Gate> Runner<'a, 'b, R, G> {
     }
 
     /// Waits until the event is possible, performs it and records its receipt. Returns `false` if
-    /// the run is to stop.
+    /// the thread must stop.
     fn act(&mut self, event: Event) -> bool {
         match self.shared.act(self.rt, event) {
             Some(receipt) => self.note(receipt),

@@ -13,8 +13,9 @@ use job_bodies::Plan;
 use std::alloc::{AllocError, Global};
 use std::marker::Model;
 
-/// A world whose contracts mention only its live view. The contracts do not mention the number of
-/// places for live jobs, because a state of the plan's machine does not determine that number.
+/// A world whose contracts mention only its live view, which is its live jobs, pools and clients
+/// and its number of refused submits. They do not mention the number of places for live jobs,
+/// because a state of the plan's machine does not determine this number.
 #[derive(Drop)]
 pub struct ViewedWorld {
     world: World,
@@ -45,15 +46,15 @@ impl ViewedWorld {
         })
     }
 
-    /// Returns the world, whose contracts also mention the places for live jobs.
+    /// Returns the world itself. Its contracts also mention the places for live jobs.
     pub fn world(&self) -> &World
         ensures { result.now.view ≡ self.now }
     {
         &self.world
     }
 
-    /// Performs the event and returns its outcome, or `None` if the event is not possible, like
-    /// [`World::step`].
+    /// Performs the event and returns its outcome, as [`World::step`] does. Returns `None` if the
+    /// event is not possible.
     ///
     /// # Errors
     ///

@@ -9,9 +9,12 @@ use crate::{CertifiedWorld, ViewedWorld};
 use cert_check::Certified;
 use held_machines::Held;
 
-/// Proves that the world in `held` is the live view of the state to which its history leads. Also
-/// proves that no submit of the history was refused, and that no event that is possible next is a
-/// refused submit.
+/// States that the machine in `held` has refused no submit and refuses none next. The following
+/// facts hold for its world and its history:
+///
+/// - The world is the live view of the state to which the history leads.
+/// - No submit of the history was refused.
+/// - No event that is possible next is a refused submit.
 pub fn held_worlds_refuse_nothing(held: &Held<CertifiedWorld<'_>>)
     ensures reached { IsReachedBy held.now.machine.certified.now.plan held.now.history
         held.now.state.world }
@@ -21,7 +24,7 @@ pub fn held_worlds_refuse_nothing(held: &Held<CertifiedWorld<'_>>)
     let _history = held.history();
 }
 
-/// Proves that no submit was refused in a world to which a history of the certified plan leads.
+/// States that no submit was refused in any world to which a history of the certified plan leads.
 pub fn reached_worlds_refuse_nothing(certified: &Certified, world: &ViewedWorld)
     ensures { (history : List Event)
         → IsReachedBy certified.now.plan history world.now
