@@ -21,7 +21,8 @@ use std::alloc::Global;
 use support::number::{BAD_ACTION, NO_SUCH_CLASS, SLOT_EMPTY, SLOT_OPEN};
 use support::{ReadError, read_each};
 
-/// The position of an action: its entry, and its index in the entry's body.
+/// The position of an action: the entry whose body has the action, and the index of the action in
+/// this body.
 #[derive(Clone, Copy)]
 struct ActionPlace {
     part: Part,
@@ -172,10 +173,15 @@ fn client_of<'a>(
     })
 }
 
-/// Parses the bodies of these entries and returns the classes. `pools` and `names` are the names of
-/// the plan's pools and classes. Returns a fault at the first action that is malformed, submits an
-/// unknown class, fills a filled slot, or gets from an empty slot. Frees each entry when its class
-/// is built.
+/// Parses the bodies of these entries and returns the classes. Frees each entry when its class is
+/// built. `pools` and `names` are the names of the plan's pools and classes.
+///
+/// Returns a fault at the first action in one of these cases:
+///
+/// - The action is malformed.
+/// - It submits a class that does not exist.
+/// - It fills a slot that is filled.
+/// - It gets from a slot that is empty.
 pub fn classes_of<'p, 'd: 'p>(
     alloc: Global,
     pools: &Names<'p>,
@@ -194,7 +200,7 @@ pub fn classes_of<'p, 'd: 'p>(
 }
 
 /// Parses the bodies of these entries and returns the client kinds. `names` are the names of the
-/// plan's classes. The faults are those of [`classes_of`].
+/// plan's classes. Returns a fault in the same cases as [`classes_of`].
 pub fn clients_of<'a>(
     alloc: Global,
     names: &Names<'a>,

@@ -14,8 +14,8 @@ use std::alloc::Global;
 use support::ReadError;
 use support::number::{BAD_NAME, BAD_NUMBER, DOUBLE_NAME, NO_SUCH_POOL};
 
-/// Adds the name of the entry at `index` to `names`, the names of the earlier entries of the list.
-/// Returns a fault if the name is not valid or is already in `names`.
+/// Adds the name of the entry at `index` to `names`, which has the names of the earlier entries of
+/// the list. Returns a fault if the name is not valid, or if it is already in `names`.
 fn check_name<'a>(
     names: &mut Names<'a>,
     part: Part,
@@ -79,8 +79,8 @@ fn check_client<'a>(
     Ok(())
 }
 
-/// Checks that the names of the pools are valid and distinct, and that their sizes are valid.
-/// Returns the names, in order, or the first fault.
+/// Returns the names of the pools, in order, if all names are valid and distinct and all sizes are
+/// valid. Returns the first fault otherwise.
 #[tactic(auto, unfolding(crate::specs::Checks::check_pools))]
 pub fn check_pools<'a>(alloc: Global, pools: &'a [Pool]) -> Result<Names<'a>, TextError>
     ensures { Gives (λ names. names) result (spec.check_pools pools.now) }
@@ -92,8 +92,8 @@ pub fn check_pools<'a>(alloc: Global, pools: &'a [Pool]) -> Result<Names<'a>, Te
     Ok(names)
 }
 
-/// Checks that the names of the classes are valid and distinct, and that the pool of each class is
-/// one of `pools`. Returns the names of the classes, in order, or the first fault.
+/// Returns the names of the classes, in order, if all names are valid and distinct and the pool of
+/// each class is one of `pools`. Returns the first fault otherwise.
 #[tactic(auto, unfolding(crate::specs::Checks::check_classes))]
 pub fn check_classes<'a>(
     alloc: Global,
@@ -109,8 +109,8 @@ pub fn check_classes<'a>(
     Ok(names)
 }
 
-/// Checks that the names of the client kinds are valid and distinct, and that their counts are
-/// valid. Returns the first fault otherwise.
+/// Returns the first fault of the client kinds, if there is one. The names of the kinds must be
+/// valid and distinct, and their counts must be valid.
 #[tactic(auto, unfolding(crate::specs::Checks::check_clients))]
 pub fn check_clients(alloc: Global, clients: &[ClientEntry]) -> Result<(), TextError>
     ensures { Gives (λ _. tt) result (spec.check_clients clients.now) }

@@ -16,9 +16,12 @@ use support::ReadError;
 use support::number::{NOT_TOML, TOO_MANY, UNKNOWN_KEY, WRONG_TYPE};
 use toml::{Table, Value};
 
-/// Parses the bytes as a TOML document and returns its table. Returns a fault if there are more
-/// bytes than a plan may have, if they are not UTF-8 or not TOML, or if a top-level key is not
-/// `pool`, `class` or `client`.
+/// Parses the bytes as a TOML document, and returns the table of the document. Returns a fault in
+/// these cases:
+///
+/// - There are more bytes than a plan may have.
+/// - The bytes are not UTF-8 or not TOML.
+/// - A top-level key is none of `pool`, `class` and `client`.
 #[tactic(auto, unfolding(crate::specs::Document::document_of))]
 pub fn document_of(alloc: Global, bytes: &[u8]) -> Result<Table, TextError>
     ensures { Gives table_view result (spec.document_of bytes.now) }
@@ -55,7 +58,7 @@ fn table_of(alloc: Global, text: &str) -> Result<Table, TextError>
     })
 }
 
-/// Returns whether every key of the table is one of `keys`.
+/// Returns true if every key of the table is one of `keys`.
 pub fn has_only(table: &Table, keys: &[&str]) -> bool
     ensures { result ≡ spec.has_only (map (λ key. key.now) keys.now) (table_view table.now) }
 {
@@ -70,7 +73,7 @@ fn are_among(table: &Table, known: &[&str]) -> bool
     table.keys().all(|key| known.contains(&key.as_str()))
 }
 
-/// Returns the value at a key, or `None` if the table does not have the key.
+/// Returns the value at this key, or `None` if the table does not have the key.
 pub fn value_at<'a>(table: &'a Table, key: &str) -> Option<&'a Value>
     ensures { option_map (λ value. view value.now) result
         ≡ get_member key.now (table_view table.now) }
@@ -78,7 +81,7 @@ pub fn value_at<'a>(table: &'a Table, key: &str) -> Option<&'a Value>
     table.get(key)
 }
 
-/// Returns the elements of the value, or `None` if it is not an array.
+/// Returns the elements of the value if it is an array, and `None` otherwise.
 pub fn list_in(value: &Value) -> Option<&[Value]>
     ensures { option_map (λ values. map view values.now) result ≡ spec.as_list (view value.now) }
 {
@@ -87,7 +90,7 @@ pub fn list_in(value: &Value) -> Option<&[Value]>
 }
 
 /// Returns the elements of the top-level array at this key, or an empty slice if the key is absent.
-/// Returns a fault if the value is not an array, or if it has more than `most` elements.
+/// Returns a fault if the value at the key is not an array or has more than `most` elements.
 #[tactic(auto, unfolding(crate::specs::Document::list_at))]
 pub fn list_at<'a>(document: &'a Table, key: &str, most: usize) -> Result<&'a [Value], TextError>
     ensures { Gives (λ values. map view values.now) result

@@ -17,7 +17,7 @@ use std::marker::Model;
 use support::read_each;
 use toml::{Table, Value};
 
-/// A class as it is written in the text: its pool is a name, and its actions are not parsed yet.
+/// A class whose body is not parsed yet. Its pool is still a name, and its actions are still texts.
 #[derive(Drop)]
 pub struct ClassEntry<'a> {
     pub name: &'a str,
@@ -31,7 +31,7 @@ impl<'a> Model for ClassEntry<'a> {
     ghost view = { λ k. record { name = k.name.now; pool = k.pool.now; body = map (λ text. text.now) k.body.items } };
 }
 
-/// A client kind as it is written in the text: its actions are not parsed yet.
+/// A client kind whose body is not parsed yet. Its actions are still texts.
 #[derive(Drop)]
 pub struct ClientEntry<'a> {
     pub name: &'a str,
@@ -143,8 +143,8 @@ fn client_entries_of(alloc: Global, values: &[Value]) -> Result<Vec<ClientEntry<
     )
 }
 
-/// Reads the entries of a document. Checks the length of each of the three lists, and then the
-/// shape of each entry. Returns the first fault that it finds.
+/// Reads the entries of a document. First checks the length of each of the three lists, and then
+/// the shape of each entry. Returns the first fault that these checks find.
 #[tactic(auto, unfolding(crate::specs::Entries::entries_of))]
 pub fn entries_of(alloc: Global, document: &Table) -> Result<Entries<'_>, TextError>
     ensures { Gives (λ entries. entries) result (spec.entries_of (table_view document.now)) }

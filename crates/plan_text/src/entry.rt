@@ -15,8 +15,8 @@ use support::number::{MISSING_KEY, TOO_MANY, UNKNOWN_KEY, WRONG_TYPE};
 use support::{ReadError, read_each};
 use toml::{Table, Value};
 
-/// The table of one entry. `part` is the kind of the list that contains the entry, and `index` is
-/// the entry's index in that list.
+/// The table of one entry. `part` says in which list the entry is (the pools, classes or client
+/// kinds), and `index` is the index of the entry in this list.
 #[derive(Drop)]
 pub struct Entry<'a> {
     table: &'a Table,
@@ -24,8 +24,8 @@ pub struct Entry<'a> {
     index: usize,
 }
 
-/// Converts an integer of the text to a count. A negative integer becomes a number that is out of
-/// range for every number of a plan.
+/// Converts an integer of the text to an unsigned number. A negative integer becomes a number that
+/// is out of range for every key of a plan.
 fn count_of(number: i64) -> u64
     ensures { result ≡ spec.count_of number }
 {
@@ -37,9 +37,8 @@ fn count_of(number: i64) -> u64
 }
 
 impl<'a> Entry<'a> {
-    /// Checks that the value is a table that has only these keys, and returns it as the entry at
-    /// `index` in the list for `part`. Returns a fault of this entry if the value is not a table,
-    /// or if the table has another key.
+    /// Returns the value as the entry at `index` in the list for `part`. Returns a fault of this
+    /// entry if the value is not a table, or if the table has a key that is not one of these.
     #[tactic(auto, unfolding(crate::specs::Entry::entry_of))]
     pub fn of(
         value: &'a Value,
@@ -72,8 +71,8 @@ impl<'a> Entry<'a> {
         value_at(self.table, key).ok_or(self.refuses(MISSING_KEY))
     }
 
-    /// Returns the string at this key. Returns a fault if the key is absent or the value has
-    /// another type.
+    /// Returns the string at this key. Returns a fault if the key is absent or the value is not a
+    /// string.
     #[tactic(auto, unfolding(crate::specs::Entry::text_at))]
     pub fn text(&self, key: &str) -> Result<&'a str, TextError>
         ensures { Gives (λ text. text.now) result (spec.text_at (entry_view self.now) key.now) }
@@ -83,7 +82,7 @@ impl<'a> Entry<'a> {
     }
 
     /// Returns the integer at this key. A negative integer becomes a number that is out of range.
-    /// Returns a fault if the key is absent or the value has another type.
+    /// Returns a fault if the key is absent or the value is not an integer.
     #[tactic(auto, unfolding(crate::specs::Entry::number_at))]
     pub fn number(&self, key: &str) -> Result<u64, TextError>
         ensures { Gives (λ number. number) result (spec.number_at (entry_view self.now) key.now) }
@@ -93,9 +92,9 @@ impl<'a> Entry<'a> {
         Ok(count_of(number))
     }
 
-    /// Returns the size at this key: the integer, or `None` if the value is the string `unbounded`.
-    /// A negative integer becomes a number that is out of range. Returns a fault if the key is
-    /// absent or the value is neither.
+    /// Returns the size at this key, which is the integer, or `None` if the value is the string
+    /// `unbounded`. A negative integer becomes a number that is out of range. Returns a fault if
+    /// the key is absent, or if the value is neither an integer nor this string.
     #[tactic(auto, unfolding(crate::specs::Entry::size_at))]
     pub fn size(&self, key: &str) -> Result<Option<u64>, TextError>
         ensures { Gives (λ size. size) result (spec.size_at (entry_view self.now) key.now) }
@@ -111,7 +110,7 @@ impl<'a> Entry<'a> {
     }
 
     /// Returns the boolean at this key, or `false` if the key is absent. Returns a fault if the
-    /// value has another type.
+    /// value is not a boolean.
     #[tactic(auto, unfolding(crate::specs::Entry::flag_at))]
     pub fn flag(&self, key: &str) -> Result<bool, TextError>
         ensures { Gives (λ flag. flag) result (spec.flag_at (entry_view self.now) key.now) }
@@ -122,8 +121,11 @@ impl<'a> Entry<'a> {
         value.as_bool().ok_or(self.refuses(WRONG_TYPE))
     }
 
-    /// Returns the strings in the array at this key. Returns a fault if the key is absent, if the
-    /// array is longer than a body may be, or if a value has another type.
+    /// Returns the strings in the array at this key. Returns a fault in these cases:
+    ///
+    /// - The key is absent, or the value is not an array.
+    /// - The array has more elements than a body may have actions.
+    /// - An element is not a string.
     #[tactic(auto, unfolding(crate::specs::Entry::texts_at))]
     pub fn texts(&self, alloc: Global, key: &str) -> Result<Vec<&'a str>, TextError>
         ensures { Gives (λ texts. map (λ text. text.now) texts.items) result

@@ -3,5 +3,6 @@
 use job_bodies::PlanFault;
 use support::ReadError;
 
-/// The error of a function that reads the text of a plan: out of memory, or the first fault.
+/// The error of a function that reads the text of a plan: the text's first fault, or that memory
+/// ran out.
 pub type TextError = ReadError<PlanFault>;

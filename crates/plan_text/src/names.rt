@@ -30,7 +30,7 @@ impl<'a> Names<'a> {
         }
     }
 
-    /// Appends the name if it is new, and returns whether it was new.
+    /// Appends the name if the list does not have it. Returns true if the name was appended.
     pub fn add(&mut self, name: &'a str) -> Result<bool, AllocError>
         ensures is_new { IfOk result
             (λ is_new. is_new ≡ not (list_any (bytes_eq name.now) self.old)) }
@@ -41,7 +41,7 @@ impl<'a> Names<'a> {
         Ok(is_new)
     }
 
-    /// Returns the index of the name, or `None` if it is not in the list.
+    /// Returns the index of the name, or `None` if the list does not have the name.
     pub fn place(&self, name: &str) -> Option<usize>
         ensures { result ≡ position (bytes_eq name.now) self.now }
     {

@@ -4,20 +4,21 @@
 use crate::token::{Kind, Token};
 use std::alloc::{AllocError, Global};
 
-/// A key with its range in the text (`start` to `end`), and the offset of its value.
+/// A key with its range in the text, from `start` to `end`, and the offset of the key's value.
 #[derive(Drop)]
 pub(crate) struct Key {
     pub(crate) start: usize,
     pub(crate) end: usize,
     /// The offset of the key's value.
     pub(crate) value: usize,
-    /// The offsets of the elements if the value is an array, or of the keys if it is an inline
-    /// table. The offset of the closing bracket follows if the value is empty or ends with a comma.
+    /// If the value is an array, the offsets of its elements. If the value is an inline table, the
+    /// offsets of its keys. If the value is empty or ends with a comma, the list ends with the
+    /// offset of the closing bracket.
     pub(crate) elements: Vec<usize>,
 }
 
-/// A table header, such as `[[pool]]`, with the keys after it. The first table has no header: its
-/// keys are those before any header.
+/// A table header, such as `[[pool]]`, with the keys after it. The first table of a text has no
+/// header, and its keys are those before the first header.
 #[derive(Drop)]
 pub(crate) struct Table {
     /// The offset of the first bracket of the header, or 0 for the first table.
@@ -39,13 +40,14 @@ enum LineState {
     /// After a key.
     Key,
     /// In a value, inside `depth` brackets. `is_next` says whether the next token begins the value
-    /// or an element.
+    /// or an element of the value.
     Value { depth: usize, is_next: bool },
-    /// In the rest of a line whose syntax no plan uses.
+    /// In the rest of a line that has a syntax which no plan uses.
     Rest,
 }
 
-/// The tables in the part of the text that was processed, and the parser's state after that part.
+/// The tables in the part of the text that was processed, and the state of the parser after this
+/// part.
 #[derive(Drop)]
 struct Outline {
     at: LineState,
@@ -188,8 +190,8 @@ impl Outline {
         Ok(())
     }
 
-    /// Records the offset of a token that begins the value of the last key (`depth` 0) or an
-    /// element of that value (`depth` 1). Does nothing for a greater depth.
+    /// Records the offset of a token. With `depth` 0, the token begins the value of the last key.
+    /// With `depth` 1, it begins an element of this value. With a greater depth, does nothing.
     fn record_start(&mut self, depth: usize, start: usize) -> Result<(), AllocError> {
         let Some(table) = self.tables.last_mut() else {
             return Ok(());

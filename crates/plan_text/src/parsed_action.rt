@@ -14,8 +14,8 @@ pub enum ParsedAction<'a> {
     Get(&'a str),
 }
 
-/// Parses an action. Returns `None` if the text has none of the four forms, or if a name or the
-/// number in it is not valid.
+/// Parses an action. Returns `None` if the text has none of the four forms of an action, or if a
+/// name or a number in the text is not valid.
 #[tactic(auto, unfolding(crate::specs::ParsedActions::parse_action))]
 pub fn parse_action(text: &str) -> Option<ParsedAction<'_>>
     ensures { option_map spec.parsed_action_view result ≡ spec.parse_action text.now }
@@ -57,7 +57,8 @@ fn parse_submit_as<'a>(class: &'a str, text: &'a str) -> Option<ParsedAction<'a>
     Some(ParsedAction::SubmitAs(name_of(class)?, name_of(slot)?))
 }
 
-/// Returns the parts of the text before and after its first space, or `None` if it has no space.
+/// Returns the parts of the text before and after its first space, or `None` if the text has no
+/// space.
 fn split_space(text: &str) -> Option<(&str, &str)>
     ensures { option_map (λ words. (words.0.now, words.1.now)) result ≡ spec.split_space text.now }
 {
@@ -74,8 +75,8 @@ fn name_of(text: &str) -> Option<&str>
     }
 }
 
-/// Parses the number of units of an action `work`: digits without a leading zero, from 1 to
-/// [`MAX_WORK`]. Returns `None` for any other text.
+/// Parses the number of units of a `work` action, which is a number from 1 to [`MAX_WORK`] in
+/// digits without a leading zero. Returns `None` for any other text.
 #[tactic(auto, unfolding(crate::specs::ParsedActions::parse_units))]
 fn parse_units(text: &str) -> Option<u32>
     ensures { result ≡ spec.parse_units text.now }

@@ -29,7 +29,7 @@ impl fmt::Display for TextPlace {
 }
 
 /// Returns the position of the byte at this offset of a UTF-8 text. If the offset is past the end
-/// of the text, returns the position of the end.
+/// of the text, returns the position of the end of the text.
 pub fn place_at(text: &[u8], offset: usize) -> TextPlace
     ensures { IsPositionAfter (take offset text.now) result }
 {
@@ -54,8 +54,8 @@ fn characters(text: &[u8]) -> usize
     text.iter().filter(|byte| **byte / 64 != 2).count()
 }
 
-/// Returns the offset of the last line of the text: the offset after the last newline, or 0 if
-/// there is none.
+/// Returns the offset at which the last line of the text begins. This is the offset after the last
+/// newline, or 0 if there is no newline.
 fn last_line_start(text: &[u8]) -> usize
     ensures within { result ≤ length text.now }
     ensures after_newline { IsAfterLastMatch is_newline text.now result }

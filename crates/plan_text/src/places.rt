@@ -7,10 +7,12 @@ use std::alloc::{AllocError, Global};
 
 /// An index of the positions of the parts of a plan in its text.
 ///
-/// Any text has an index. The index may lack a part if the text is not TOML, or if its entries do
-/// not have the headers `[[pool]]`, `[[class]]` and `[[client]]`. The functions then return `None`,
-/// and the caller uses the position of a larger part. The contracts do not say at which byte a part
-/// begins. Only [`place_at`] promises the line and column of a byte.
+/// Any text has an index. But the index may lack a part if the text is not TOML, or if its entries
+/// do not have the headers `[[pool]]`, `[[class]]` and `[[client]]`. The functions return `None`
+/// for such a part, and the caller then uses the position of a larger part.
+///
+/// The contracts do not say at which byte a part begins. Only the contract of [`place_at`] says
+/// what the line and the column of a byte are.
 #[derive(Drop)]
 pub struct Places<'a> {
     text: &'a [u8],
@@ -29,31 +31,31 @@ impl<'a> Places<'a> {
         Ok(Places { text, tables })
     }
 
-    /// Returns the position of the header of an entry, such as the `[[pool]]` of a pool. The entry
-    /// is at this index, counted from 0, in the list with this name. Returns `None` if no such
-    /// header was found.
+    /// Returns the position of an entry's header, such as `[[pool]]`. `index` is the index of the
+    /// entry, counted from 0, in the list with the name `list`. Returns `None` if no such header
+    /// was found.
     pub fn entry(&self, list: &str, index: usize) -> Option<TextPlace> {
         let table = self.table(list, index)?;
         Some(place_at(self.text, table.header))
     }
 
-    /// Returns the position of this key in the entry at this index of the list, or `None` if there
-    /// is no such key.
+    /// Returns the position of the key `key` in an entry, which is at `index` in the list `list`.
+    /// Returns `None` if no such key was found.
     pub fn key(&self, list: &str, index: usize, key: &str) -> Option<TextPlace> {
         let key = self.key_of(self.table(list, index)?, key)?;
         Some(place_at(self.text, key.start))
     }
 
-    /// Returns the position of the value at this key in the entry at this index of the list, or
-    /// `None` if there is no such key.
+    /// Returns the position of the value at the key `key` in an entry, which is at `index` in the
+    /// list `list`. Returns `None` if no such key was found.
     pub fn value(&self, list: &str, index: usize, key: &str) -> Option<TextPlace> {
         let key = self.key_of(self.table(list, index)?, key)?;
         Some(place_at(self.text, key.value))
     }
 
-    /// Returns the position of an element, such as an action of a body. The element is in the array
-    /// at this key, in the entry at this index of the list. Elements are counted from 0. Returns
-    /// `None` if no such element was found.
+    /// Returns the position of an element of an array, such as an action of a body. The array is
+    /// the value at the key `key` in an entry, which is at `index` in the list `list`. Elements are
+    /// counted from 0. Returns `None` if no such element was found.
     pub fn element(
         &self,
         list: &str,
@@ -67,7 +69,7 @@ impl<'a> Places<'a> {
     }
 
     /// Returns the position of the header of the first table with this name. If there is no such
-    /// table, returns the position of the first key with this name that comes before any header, or
+    /// table, returns the position of the first key with this name before the first header. Returns
     /// `None` if there is no such key either.
     pub fn top(&self, name: &str) -> Option<TextPlace> {
         for table in &self.tables {
@@ -99,7 +101,7 @@ impl<'a> Places<'a> {
             .find(|key| self.is_named((key.start, key.end), name))
     }
 
-    /// Returns whether this range of the text is the name, written with or without quotes.
+    /// Returns true if this range of the text is the name, with or without quotes.
     fn is_named(&self, range: (usize, usize), name: &str) -> bool {
         let (start, end) = range;
         match self.text.get(start..end) {

@@ -21,10 +21,12 @@ use support::number::MEMORY;
 
 /// Parses the bytes of a plan.
 ///
-/// The `max` and the `queue` of a pool are each an integer or the string `unbounded`. With
-/// `queue = "unbounded"`, the pool's queue is unbounded and its `max` has no effect: in the plan,
-/// the maximum is core, and the queue is 1,000,000. A `max` that is a number must still be in
-/// range. If the queue has a capacity, `max = "unbounded"` is out of range.
+/// The `max` and the `queue` of a pool are each an integer or the string `unbounded`:
+///
+/// - If `queue` is `unbounded`, the pool's queue is unbounded and its `max` has no effect. In the
+///   plan, the maximum is then the core size, and the queue is 1,000,000. If `max` is a number, it
+///   must still be in range.
+/// - If `queue` is a number and `max` is `unbounded`, `max` is out of range.
 ///
 /// # Errors
 ///
@@ -43,8 +45,8 @@ pub fn read_plan(alloc: Global, bytes: &[u8]) -> Result<Plan, PlanFault>
     }
 }
 
-/// Parses the bytes of a plan, and checks all rules of well-formed plans. It then creates the plan
-/// without [`Plan::build`], which would check them again.
+/// Parses the bytes of a plan, and checks all rules of well-formed plans. Creates the plan without
+/// [`Plan::build`], because `build` would check these rules again.
 #[tactic(auto, unfolding(crate::specs::PlanOf::plan_of))]
 fn plan_of(alloc: Global, bytes: &[u8]) -> Result<Plan, TextError>
     ensures { Gives (λ plan. plan) result (spec.plan_of bytes.now) }

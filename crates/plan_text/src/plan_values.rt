@@ -14,7 +14,7 @@ use job_bodies::{Class, Client, Plan, Pool};
 use std::alloc::{AllocError, Global};
 use toml::{Table, Value};
 
-/// Inserts the value at the key, replacing an earlier value.
+/// Stores the value at the key. Replaces the earlier value of the key, if there is one.
 fn insert_value(alloc: Global, table: &mut Table, key: &str, value: Value) -> Result<(), AllocError>
     ensures { OnOk result
         (table_view table.new ≡ spec.with_member key.now (view value) (table_view table.old)) }
@@ -24,7 +24,7 @@ fn insert_value(alloc: Global, table: &mut Table, key: &str, value: Value) -> Re
     Ok(())
 }
 
-/// Inserts `true` at the key if the flag is set. Otherwise does nothing.
+/// Stores `true` at the key if `flag` is true. Otherwise does nothing.
 fn insert_flag(alloc: Global, table: &mut Table, key: &str, flag: bool) -> Result<(), AllocError>
     ensures { OnOk result
         (table_view table.new
@@ -44,7 +44,7 @@ fn number_value(number: u64) -> Value
     Value::Integer(number as i64)
 }
 
-/// Returns the value of the key `queue`: the string `unbounded`, or the capacity.
+/// Returns the value of the key `queue`, which is the string `unbounded` or the capacity.
 fn queue_value(alloc: Global, pool: &Pool) -> Result<Value, AllocError>
     requires { is_valid_pool pool.now ≡ true }
     ensures { IfOk result (λ value. view value ≡ spec.queue_data pool.now) }

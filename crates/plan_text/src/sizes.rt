@@ -13,9 +13,9 @@ pub struct Sizes {
     pub unbounded: bool,
 }
 
-/// Returns the sizes of a pool with this core, given its `max` and its `queue`, each of which is
-/// `None` for the text `unbounded`. If the queue has a capacity, the maximum `unbounded` becomes a
-/// number that is out of range.
+/// Returns the sizes of a pool with this core, this `max` and this `queue`. `None` stands for the
+/// string `unbounded`. If `queue` is a number and `max` is `None`, the maximum becomes a number
+/// that is out of range.
 pub fn sizes_of(core: u64, max: Option<u64>, queue: Option<u64>) -> Sizes
     ensures { result ≡ spec.sizes_of core max queue }
 {
@@ -33,9 +33,10 @@ pub fn sizes_of(core: u64, max: Option<u64>, queue: Option<u64>) -> Sizes
     }
 }
 
-/// Returns the maximum of a pool with this core and an unbounded queue, given its `max`, which is
-/// `None` for the text `unbounded`. The maximum has no effect there, and is core. But a number that
-/// is out of range stays, so that it is a fault as in any other pool.
+/// Returns the maximum of a pool with this core and an unbounded queue. `max` is `None` for the
+/// string `unbounded`. The maximum has no effect in such a pool, so the result is `core`. If `max`
+/// is a number that is out of range, the result is this number, so that it is a fault as in any
+/// other pool.
 fn max_over_unbounded(core: u64, max: Option<u64>) -> u64
     ensures { result ≡ spec.max_over_unbounded core max }
 {

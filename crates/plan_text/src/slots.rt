@@ -48,7 +48,7 @@ impl<'a> Slots<'a> {
         Ok(())
     }
 
-    /// Marks the slot as empty. Has no effect if it is empty already.
+    /// Marks the slot as empty. Does nothing if the slot is already empty.
     pub fn set_empty(&mut self, slot: &str)
         ensures { (other : List ℕ)
             → position_in self.new other

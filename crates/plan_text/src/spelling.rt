@@ -11,7 +11,7 @@ use std::alloc::{AllocError, Global};
 use std::fmt;
 use toml::Value;
 
-/// Returns the name of the class at index `place`, or an empty name if there is none.
+/// Returns the name of the class at index `place`, or an empty name if there is no such class.
 fn class_name(classes: &[Class], place: usize) -> &str
     ensures { result.now ≡ spec.name_at (map (λ class. class.name) classes.now) place }
 {
@@ -21,8 +21,8 @@ fn class_name(classes: &[Class], place: usize) -> &str
     }
 }
 
-/// The end of the text of a submit: ` as SLOT` if the body has a get of the submit, and otherwise
-/// nothing.
+/// The end of the text of a submit. It formats as ` as SLOT` if the body has a get of the submit,
+/// and as nothing otherwise.
 #[derive(Clone, Copy)]
 struct SlotPart<'a> {
     body: &'a [Action],
@@ -41,7 +41,7 @@ impl<'a> fmt::Display for SlotPart<'a> {
     }
 }
 
-/// Returns the text of `action`, which is at `position` in the body.
+/// Returns the text of `action`, which is at index `position` in the body.
 #[tactic(auto, unfolding(crate::specs::Spelling::action_text))]
 fn action_text(
     alloc: Global,

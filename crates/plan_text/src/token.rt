@@ -3,10 +3,11 @@
 /// The kind of a token.
 #[derive(Clone, Copy, PartialEq, Eq)]
 pub(crate) enum Kind {
-    /// Any other text, such as a key without quotes or a number. It ends before white space, a
-    /// quote, a `#` or a mark.
+    /// Any token of another kind, such as a key without quotes or a number. It ends before white
+    /// space, a quote, a `#` or a mark.
     Word,
-    /// A string, with its quotes. A single-line string without a closing quote ends with its line.
+    /// A string, including its quotes. A single-line string without a closing quote ends at the end
+    /// of its line.
     Quoted,
     /// One of `[ ] { } = , .`
     Mark(u8),
@@ -14,7 +15,8 @@ pub(crate) enum Kind {
     LineEnd,
 }
 
-/// A token and its range in the text: the bytes from `start` up to, but excluding, `end`.
+/// A token with its range in the text. The range has the bytes from `start` to `end`, without the
+/// byte at `end`.
 #[derive(Clone, Copy, PartialEq, Eq)]
 pub(crate) struct Token {
     pub(crate) kind: Kind,

@@ -3,7 +3,7 @@
 use crate::token::{Kind, Token};
 use std::alloc::{AllocError, Global};
 
-/// The token or comment that is not complete yet.
+/// A token or comment whose end has not been read yet.
 #[derive(Clone, Copy)]
 enum OpenToken {
     Nothing,
@@ -16,15 +16,15 @@ enum OpenToken {
     Lines(Text),
 }
 
-/// A string that is not complete yet.
+/// A string whose end has not been read yet.
 #[derive(Clone, Copy)]
 struct Text {
     start: usize,
     quote: u8,
     /// Whether the last byte was a `\` that escapes the next byte.
     escaped: bool,
-    /// The number of consecutive quotes that were read last. Opening quotes and escaped quotes do
-    /// not count.
+    /// The number of consecutive quotes that were read last. Opening quotes and escaped quotes are
+    /// not counted.
     quotes: u8,
 }
 
@@ -53,7 +53,7 @@ impl Text {
     }
 }
 
-/// The complete tokens, and the token or comment that is not complete yet.
+/// The complete tokens, and the token or comment whose end has not been read yet.
 #[derive(Drop)]
 struct Tokens {
     open: OpenToken,
@@ -96,7 +96,7 @@ impl Tokens {
         }
     }
 
-    /// Processes a byte that is not part of a token or comment.
+    /// Processes a byte that is not in a token or comment that began earlier.
     fn begin(&mut self, offset: usize, byte: u8) -> Result<(), AllocError> {
         self.open = OpenToken::Nothing;
         match byte {
@@ -143,8 +143,8 @@ impl Tokens {
         }
     }
 
-    /// Processes a byte of a string that began with one quote. If the first three bytes are quotes,
-    /// the string is a multi-line string.
+    /// Processes a byte of a string that began with one quote. If the first three bytes of the
+    /// string are quotes, it is a multi-line string.
     fn line(&mut self, text: Text, offset: usize, byte: u8) -> Result<(), AllocError> {
         if text.quotes == 1 {
             if byte == text.quote && offset == text.start.saturating_add(2) {

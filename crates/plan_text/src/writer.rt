@@ -11,16 +11,15 @@ use crate::plan_values::plan_document;
 use job_bodies::Plan;
 use std::alloc::{AllocError, Global};
 
-/// Writes a plan as TOML. If the text is not longer than a plan's text may be,
-/// [`read_plan`](crate::read_plan) parses it as the same plan, except for the sizes of pools with
-/// an unbounded queue.
+/// Writes a plan as TOML. Let the text be no longer than a plan's text may be. Then
+/// [`read_plan`](crate::read_plan) parses it as the same plan, except for the two sizes below.
 ///
 /// An unbounded queue is written as `queue = "unbounded"`, and the `max` of its pool as a number.
-/// [`read_plan`](crate::read_plan) gives such a pool core as its maximum and 1,000,000 as its
-/// queue, whatever they were in the plan. Neither size has an effect there.
+/// [`read_plan`](crate::read_plan) then gives this pool its core size as the maximum and 1,000,000
+/// as the queue, whatever these sizes were before. They have no effect if the queue is unbounded.
 ///
-/// A submit that a get names fills a slot of its own. The slot's name is `s` followed by the
-/// position of the submit in its body. Other submits fill no slot.
+/// If a get names a submit, the submit fills a slot of its own, whose name is `s` followed by the
+/// submit's position in its body. Other submits fill no slot.
 ///
 /// # Errors
 ///
