@@ -4,20 +4,21 @@
 ghost use Rattle.soundness.specs.JavaSafe.{AtomicStatesAreReached};
 ghost use Rattle.soundness.specs.WithRoom.{RefusedWithRoom, StartedWithRoom};
 
-/// Proves that each state that atomic submits reach is also reachable in Java's steps, with no call
-/// in progress. The reason is that the steps of a submit can follow each other directly.
+/// States that each state that atomic submits reach is also reachable in the steps of Java's
+/// `execute`, with no call in progress. The reason is that the steps of a submit can follow each
+/// other directly.
 pub fn atomic_states_are_reached()
     ensures { AtomicStatesAreReached }
 {}
 
-/// Proves that Java can refuse a submit while the queue has room and a thread is idle. This happens
+/// States that Java can refuse a submit while the queue has room and a thread is idle. This happens
 /// if the queue was full when the call offered its job, and the pool has its maximum of threads
-/// when the call requests a thread.
+/// when the same call requests a thread.
 pub fn java_may_refuse_with_room()
     ensures { RefusedWithRoom }
 {}
 
-/// Proves that Java can start a thread above core while the queue has room and a thread is idle.
+/// States that Java can start a thread above core while the queue has room and a thread is idle.
 /// This happens if the queue was full when the call offered its job.
 pub fn java_may_start_with_room()
     ensures { StartedWithRoom }

@@ -2,8 +2,8 @@
 
 use weights::{Place, Rule};
 
-/// A section of a certificate's conditions: the conditions of the ranks, or of one vector of a
-/// pool. The field of a variant is the index of the pool.
+/// A section of a certificate's conditions: the conditions of the ranks, or those of one vector of
+/// a pool. The field of a variant is the index of this pool.
 #[derive(Clone, Copy, Debug, PartialEq, Eq)]
 pub enum Section {
     Ranks,
@@ -12,8 +12,8 @@ pub enum Section {
     Blocked(usize),
 }
 
-/// A condition of a certificate, and the section to which it belongs. The condition is the
-/// inequality `left <= right` that a rule requires at a place.
+/// A condition of a certificate: the inequality `left <= right`, which a rule requires at a place.
+/// `section` is the section to which the condition belongs.
 #[derive(Clone, Copy, Debug, PartialEq, Eq)]
 pub struct Note {
     pub section: Section,

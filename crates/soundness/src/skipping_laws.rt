@@ -6,23 +6,29 @@ ghost use Rattle.soundness.specs.Exchange.{ExchangesSwapTwoGets};
 ghost use Rattle.soundness.specs.Skipping.{DoneWithinQueued};
 ghost use Rattle.soundness.specs.Skipping.{AlikeJobsAreGotInAnyOrder};
 
-/// Proves that, if the rows of a vector and of the ranks hold, a done job of a class weighs at most
-/// as much as a queued job of that class. So a skipped submit, which creates a done job in place of
-/// a queued one, does not increase the weight of a state.
+/// States that a skipped submit does not increase the weight of a state, because it creates a done
+/// job in place of a queued job. Let the rows (the conditions) of a vector and of the ranks hold.
+/// Then a done job of a class weighs at most as much as a queued job of this class.
 pub fn done_within_queued()
     ensures { DoneWithinQueued }
 {}
 
-/// Proves what changes when an actor's jobs at two submits are exchanged. Afterwards, the get of
-/// each of the two submits finds the job that the get of the other one found before. Every other
-/// get finds the same job as before, and each job keeps its class, its creator and its stage.
+/// States what changes if an actor exchanges its jobs at two of its submits:
+///
+/// - The get of each of the two submits finds the job that the get of the other submit found
+///   before.
+/// - Every other get finds the same job as before.
+/// - Each job keeps its class, its creator and its stage.
 pub fn exchanges_swap_two_gets()
     ensures { ExchangesSwapTwoGets }
 {}
 
-/// Proves that an actor at a get can get another of its jobs instead. This job must be done and
-/// have the class of the job for which the get waits, and no get may have returned either of the
-/// two jobs. The actor exchanges the two jobs, and its next event gets the done job.
+/// States that an actor at a get can get another of its jobs instead. The actor exchanges the two
+/// jobs, and its next event gets the other job. These conditions must hold:
+///
+/// - The other job is done.
+/// - Both jobs have the same class.
+/// - No get has returned either of the two jobs.
 pub fn alike_jobs_are_got_in_any_order()
     ensures { AlikeJobsAreGotInAnyOrder }
 {}

@@ -7,30 +7,34 @@
 ghost use Rattle.soundness.specs.CountedGets.{FewerThanCoreMayBlock, NoLooseWaitingSets};
 ghost use Rattle.soundness.specs.Drain.{FullIsWhole, FullIsOfThePlan};
 
-/// Proves a limit on the jobs of a pool that can be blocked, if the rows of the ranks and of the
-/// pool's blocked vector hold. In every reachable state, the number of these jobs is at most the
-/// vector's total, and less than the pool's core size. A job can be blocked if it runs, and its
-/// current action or a later action is a counted get.
+/// States that only few jobs of a pool can be blocked, if the rows (the conditions) of the ranks
+/// and of the pool's blocked vector hold. In every reachable state, the number of jobs that can be
+/// blocked is at most the vector's total and less than the pool's core size.
+///
+/// A job can be blocked if it runs, and its current action or a later action is a counted get. The
+/// ranks determine which gets are counted. Any other get waits for a job that always makes
+/// progress.
 pub fn fewer_than_core_may_block()
     ensures { FewerThanCoreMayBlock }
 {}
 
-/// Proves that jobs never wait only for each other, if the rows of the ranks and of a blocked
-/// vector for each pool hold. No reachable state has a set of unfinished jobs that wait only for
-/// members of the set, now or at later gets. A running member of the set need not be at a get yet:
-/// it has created another unfinished member, and its own body still has a get of a job of that
-/// member's class.
+/// States that jobs never wait only for each other, if the rows (the conditions) of the ranks and
+/// of a blocked vector for each pool hold. No reachable state has a set of unfinished jobs that
+/// wait only for members of the set, now or at later gets. A running member of the set need not be
+/// at a get yet. It is enough that it has created another unfinished member, and that its body
+/// still has a get of a job of that member's class.
 pub fn no_loose_waiting_sets()
     ensures { NoLooseWaitingSets }
 {}
 
-/// Proves that, if the rows of the ranks hold, the work of a new job is one event for each action,
-/// one for its start and one for its end, plus the work of the jobs that it submits.
+/// States how the work of a new job adds up, if the rows (the conditions) of the ranks hold. The
+/// work is one event for each action, one for the job's take from the queue and one for its end,
+/// plus the work of the jobs that it submits.
 pub fn full_is_whole()
     ensures { FullIsWhole }
 {}
 
-/// Proves that the work of a new job does not depend on the ranks, if their rows hold. The work is
+/// States that the work of a new job is the same for all ranks whose rows (conditions) hold. It is
 /// the number of events of the job and of all jobs that it causes.
 pub fn full_is_of_the_plan()
     ensures { FullIsOfThePlan }

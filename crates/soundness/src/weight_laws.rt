@@ -10,35 +10,42 @@
 
 ghost use Rattle.soundness.specs.WeightLaws.{SumNeverRises, SumStaysWithinTotal, BoundsRefuseNothing, QueuesStayWithinTotal, JobsStayWithinTotal};
 
-/// Proves that no event increases the weight of a reachable state, if the rows of the vector hold
-/// and a rejected job weighs at most as much as a queued one.
+/// States that no event increases the weight of a reachable state. The rows (the conditions) of the
+/// vector must hold, and a rejected job must weigh at most as much as a queued job.
 pub fn sum_never_rises()
     ensures { SumNeverRises }
 {}
 
-/// Proves that the weight of every reachable state is at most the vector's total, if the rows of
-/// the vector hold and a rejected job weighs at most as much as a queued one.
+/// States that the weight of every reachable state is at most the vector's total. The rows (the
+/// conditions) of the vector must hold, and a rejected job must weigh at most as much as a queued
+/// job.
 pub fn sum_stays_within_total()
     ensures { SumStaysWithinTotal }
 {}
 
-/// Proves that a pool with a standing or a lifetime vector whose rows hold refuses and rejects no
-/// job in any reachable state. In this vector, a rejected job must weigh at most as much as a
-/// queued one. Nothing is assumed about the other pools.
+/// States that a pool refuses and rejects no job in any reachable state, if it has a standing or a
+/// lifetime vector whose rows (conditions) hold. In this vector, a rejected job must weigh at most
+/// as much as a queued job. Nothing is assumed about the other pools.
 pub fn bounds_refuse_nothing()
     ensures { BoundsRefuseNothing }
 {}
 
-/// Proves that in every reachable state the number of queued jobs of a pool is at most the total of
-/// a vector whose rows hold. In this vector, each queued job of the pool must weigh at least 1, and
-/// a rejected job at most as much as a queued one. This holds for an unbounded queue too.
+/// States that the total of a vector bounds the number of queued jobs of a pool in every reachable
+/// state, whether the queue is bounded or unbounded. These conditions must hold:
+///
+/// - The rows (the conditions) of the vector hold.
+/// - Each queued job of the pool weighs at least 1.
+/// - A rejected job weighs at most as much as a queued job.
 pub fn queues_stay_within_total()
     ensures { QueuesStayWithinTotal }
 {}
 
-/// Proves that in every reachable state the number of jobs ever submitted to a pool is at most the
-/// total of its lifetime vector, if the rows of this vector hold. The queue of the pool must be
-/// bounded, and a rejected job must weigh at most as much as a queued one.
+/// States that the total of a pool's lifetime vector bounds the number of jobs ever submitted to
+/// the pool, in every reachable state. These conditions must hold:
+///
+/// - The rows (the conditions) of the vector hold.
+/// - The queue of the pool is bounded.
+/// - A rejected job weighs at most as much as a queued job.
 pub fn jobs_stay_within_total()
     ensures { JobsStayWithinTotal }
 {}
