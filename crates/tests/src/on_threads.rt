@@ -24,39 +24,46 @@ use std::alloc::{AllocError, Global};
 use std::sync::Wait;
 use std::thread::Threads;
 
-/// Returns the answer to an input of this kind. If the answer contains the output of a command, the
-/// exit status or the fault follows on the last line. An input is the text of a plan, unless a kind
-/// says otherwise. "With single bytes" means that the source and the sink transfer one byte in each
-/// call.
+/// Returns the answer to an input of this kind. If the answer has the output of a command, its last
+/// line is the exit status or the fault. An input is the text of a plan, unless a kind below says
+/// otherwise.
+///
+/// Some tests repeat the command "with single bytes": the source and the sink then transfer one
+/// byte in each call.
 ///
 /// - `certify`: the output of `certify` with one worker. The test repeats the command with 64
-///   workers. If the text is short, it also repeats it with two workers, with single bytes, and
-///   with a source and a sink that fail.
-/// - `certify and check`: the same, but if `certify` writes a bundle, the answer is the first line
-///   of the output of `check` for this bundle.
+///   workers. If the text is short, the test also repeats the command with two workers, with single
+///   bytes, and with a source and a sink that fail.
+/// - `certify and check`: if `certify` writes a bundle, the first line of the output of `check` for
+///   this bundle. Otherwise the answer is the same as for `certify`.
 /// - `check`: the verdict or the fault of the check. The input is a bundle. The test repeats the
 ///   check on threads, with several numbers of workers.
 /// - `fit` and `fit bundle`: the output of `fit` as sizes and as a bundle. If the text is short,
 ///   the test repeats the command with single bytes, and with a source and a sink that fail. It
 ///   also does so for `refute`, for `refute bundle`, and for each kind of `ask` except `ask head`
 ///   and `ask html`.
-/// - `fit and check`: the output of `fit` as a bundle. If `fit` writes a bundle, the answer is the
-///   first line of the output of `check` for this bundle, followed by the output of `fit` for the
-///   plan in it.
-/// - `run`: the output of `run`. The input is a line with the number of rounds, and a bundle. If
-///   there are few rounds, the test repeats the command with single bytes, and with a source and a
-///   sink that fail.
-/// - `refute`, `refute head` and `refute bundle`: the output of `refute` as a description, the
-///   first line of it, and the output as a bundle. `refute briefly` is the first line with a limit
-///   of one state. `refute and replay` is the output of `replay` for the bundle, or the output of
-///   `refute` if it writes no bundle.
-/// - `ask` and `ask strict`: the output of `ask`. `ask head` is the first line of it. For `ask
-///   with` and `ask with strict`, the input is a bundle of a plan and a certificate. `ask json`,
-///   `ask json strict`, `ask json with`, `ask dot`, `ask github`, `ask github with`, `ask sarif`
-///   and `ask sarif with` are the same in another format. `ask html` is the JSON object in the HTML
-///   page.
-/// - `sizes`: the lines of the sizes that the search finds, without a search for a certificate
-///   first. They have no exit status.
+/// - `fit and check`: if `fit` writes a bundle, the first line of the output of `check` for this
+///   bundle, and then the output of `fit` for the plan in the bundle. Otherwise the answer is the
+///   output of `fit`.
+/// - `run`: the output of `run`. The input is a line with the number of rounds, and then a bundle.
+///   If there are few rounds, the test repeats the command with single bytes, and with a source and
+///   a sink that fail.
+/// - `refute`: the output of `refute` as a description.
+/// - `refute head`: the first line of this output.
+/// - `refute briefly`: the first line of the output of `refute` with a limit of one state.
+/// - `refute bundle`: the output of `refute` as a bundle.
+/// - `refute and replay`: the output of `replay` for the bundle that `refute` writes. If it writes
+///   no bundle, the answer is the output of `refute`.
+/// - `ask` and `ask strict`: the output of `ask`.
+/// - `ask head`: the first line of the output of `ask`.
+/// - `ask with` and `ask with strict`: the output of `ask` for an input that is a bundle of a plan
+///   and a certificate.
+/// - `ask json`, `ask json strict`, `ask json with`, `ask dot`, `ask github`, `ask github with`,
+///   `ask sarif` and `ask sarif with`: the output of `ask` in the format that the second word
+///   names.
+/// - `ask html`: the JSON object in the HTML page that `ask` writes.
+/// - `sizes`: the sizes that the search for sizes finds, as lines, without a search for a
+///   certificate first. The answer has no exit status.
 pub fn answered<R: Threads + Wait + Sync>(
     rt: &R,
     alloc: Global,

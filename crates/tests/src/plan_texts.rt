@@ -8,18 +8,18 @@ use crate::plan_texts::answers::answered;
 use crate::plan_texts::lists::{built, written};
 use std::alloc::{AllocError, Global};
 
-/// The suite for texts of plans. The answer to an input is its plan or its fault, in one line,
-/// unless this list of the kinds of input says otherwise:
+/// The suite for texts of plans. The kinds of input are these. The answer is the plan or the fault
+/// of the input, in one line, unless the list says otherwise.
 ///
 /// - `plan`: the text of a plan.
-/// - `spelling`: the text of a plan. The test also reads it with a carriage return before each
-///   newline, and with a byte order mark in addition. If the three answers differ, the answer has
-///   all of them.
+/// - `spelling`: the text of a plan. The test also reads this text with a carriage return before
+///   each newline, and then with a byte order mark in addition. If the three results differ, the
+///   answer has all of them.
 /// - `lists`: the lists of a plan, with a line for each entry.
-/// - `written`: the lists of a plan. The answer is the text that is written for the plan, or the
+/// - `written`: the lists of a plan. The answer is the text that is written for this plan, or the
 ///   fault of the lists.
-/// - `change`: the text of a plan, a line `%%`, and a line `OLD -> NEW`. The text is read with NEW
-///   in place of OLD.
+/// - `change`: the text of a plan, a line `%%`, and a line `OLD -> NEW`. The test reads the text
+///   with NEW in place of OLD.
 pub struct PlanTexts;
 
 impl Suite for PlanTexts {

@@ -10,24 +10,25 @@ use interleaving::World;
 use plan_text::read_plan;
 use std::alloc::{AllocError, Global};
 
-/// The suite for worlds. An input is the text of a plan, a line `%%`, and lines for a world of the
-/// plan.
+/// The suite for worlds. A world is a state of a plan's machine. An input is the text of a plan, a
+/// line `%%`, and lines for a world of the plan. Clients, jobs and pools are identified by their
+/// numbers. A line is an event or a look-up:
 ///
-/// A line is an event (`client 0`, `job 0`, `take 0` or `retire 0`) or a look-up: `start` prints
-/// the results of all look-ups; `stuck 0 1` tests whether these jobs wait only for each other; and
-/// `see client 0` and `see job 0` print a client or a job. Clients, jobs and pools are identified
-/// by their numbers.
+/// - `client 0`, `job 0`, `take 0` and `retire 0` are events.
+/// - `start` prints the results of all look-ups.
+/// - `stuck 0 1` tests whether these jobs wait only for each other.
+/// - `see client 0` and `see job 0` print a client or a job.
 ///
-/// The answer has a line for each line of the input: the outcome of the event or the result of the
-/// look-up, followed by
+/// The answer has a line for each of these lines: the outcome of the event or the result of the
+/// look-up. What follows in the line depends on the kind of the input:
 ///
-/// - each result of a look-up that changed, if the kind is `facts`;
-/// - the sets among the first six jobs that wait only for each other, if the kind is `sets`;
-/// - nothing, if the kind is `outcomes`.
+/// - If the kind is `facts`, each result of a look-up that changed follows.
+/// - If the kind is `sets`, the sets among the first six jobs that wait only for each other follow.
+/// - If the kind is `outcomes`, nothing follows.
 ///
-/// The answer to an input of the kind `counts` is one line: the number of events that were
-/// possible, and the counts of the world after the last event. If the text of the plan has a fault,
-/// the answer to an input of any kind is the fault.
+/// If the kind is `counts`, the answer is only one line: the number of events that were possible,
+/// and the counts of the world after the last event. If the text of the plan has a fault, the
+/// answer to an input of any kind is this fault.
 pub struct Worlds;
 
 impl Suite for Worlds {

@@ -9,15 +9,15 @@ use std::io;
 use std::io::{ErrorKind, Read, Write};
 use std::test::Fail;
 
-/// Cases: a limit, the bytes that are read of `one two three` with this limit, and the remaining
-/// bytes.
+/// Cases: a limit, the bytes of `one two three` that are read with this limit, and the bytes that
+/// remain.
 const LIMITED: &[(usize, &[u8], &[u8])] = &[
     (100, b"one two three", b""),
     (7, b"one two", b" three"),
 ];
 
-/// `read_up_to` reads all bytes up to the limit in pieces, and no byte after the limit. It returns
-/// the fault of a source that fails before the end.
+/// Tests that `read_up_to` reads all bytes up to the limit in pieces, and no byte after the limit.
+/// If a source fails before its end, `read_up_to` returns the fault of the source.
 #[test]
 fn inputs_of_memory(rt: HostRuntime) -> Result<(), Fail> {
     for (limit, read, left) in LIMITED.iter().copied() {
@@ -38,8 +38,8 @@ fn inputs_of_memory(rt: HostRuntime) -> Result<(), Fail> {
     Ok(())
 }
 
-/// `write_all` writes all bytes in pieces, up to the first call that fails. A sink that accepts no
-/// byte fails.
+/// Tests that `write_all` writes all bytes in pieces, and stops at the first call that fails. A
+/// sink that accepts no byte counts as a failure.
 #[test]
 fn outputs_of_memory(rt: HostRuntime) -> Result<(), Fail> {
     let mut sink = MemorySink::new(rt.alloc()).at_most(3);
@@ -57,7 +57,7 @@ fn outputs_of_memory(rt: HostRuntime) -> Result<(), Fail> {
     Ok(())
 }
 
-/// A reader that is interrupted before each byte, and fails after it has returned `left` bytes.
+/// A reader that is interrupted before each byte. It fails after it has returned `left` bytes.
 struct Interrupted {
     is_next: bool,
     left: u8,
@@ -81,7 +81,7 @@ impl Read for Interrupted {
     }
 }
 
-/// `StdSource` reads a std reader to its end, and retries interrupted calls.
+/// Tests that `StdSource` reads a reader of `std` to its end, and retries interrupted calls.
 #[test]
 fn std_readers(rt: HostRuntime) -> Result<(), Fail> {
     let mut source = StdSource::new(b"one two three".as_slice());
@@ -101,7 +101,7 @@ fn std_readers(rt: HostRuntime) -> Result<(), Fail> {
     Ok(())
 }
 
-/// A std writer that accepts no byte.
+/// A writer of `std` that accepts no byte.
 struct Full;
 
 impl Write for Full {
@@ -114,7 +114,8 @@ impl Write for Full {
     }
 }
 
-/// `StdSink` writes all bytes to a std writer. A writer that accepts no byte fails.
+/// Tests that `StdSink` writes all bytes to a writer of `std`, and fails if the writer accepts no
+/// byte.
 #[test]
 fn std_writers(rt: HostRuntime) -> Result<(), Fail> {
     let mut sink = StdSink::new(Vec::new(rt.alloc()));

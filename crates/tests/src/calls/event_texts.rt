@@ -47,8 +47,8 @@ const EVENTS_READ: &[Event] = &[
     Event::Retire(0),
 ];
 
-/// Each form of line is parsed. A line with none of the forms is reported in its place, and the
-/// lines before and after it are parsed.
+/// Tests that each form of line is parsed. A line with none of the forms is reported at its place
+/// in the text, and the lines before and after it are parsed.
 #[test]
 fn lines_that_are_read(rt: HostRuntime) -> Result<(), Fail> {
     let plan = plan_of_p_and_q(rt.alloc())?;

@@ -3,7 +3,8 @@
 use report::{fault_github, fault_sarif};
 use std::test::*;
 
-/// A case: the name of a file, the URI reference of the name, and its text in a workflow command.
+/// A case: the name of a file, the URI reference of the file, and the name as it is written in a
+/// workflow command.
 type Case = (&'static str, &'static str, &'static str);
 
 const NAMES: &[Case] = &[

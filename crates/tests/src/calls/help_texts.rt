@@ -142,15 +142,15 @@ const REFUSED: &[(&[&str], &[&str])] = &[
     ),
 ];
 
-/// The help of the program names the first steps. The help of a command names its usage, its
-/// answers and its options.
+/// Tests that the help of the program names the first steps. Also tests that the help of a command
+/// has its usage, its answers and its options.
 #[test]
 fn arguments_that_ask_for_help(rt: HostRuntime) -> Result<(), Fail> {
     assert_eq!(rt; incomplete_error(rt.alloc(), TABLE)?, None);
     Ok(())
 }
 
-/// If `ask` refuses options that `clap` accepts, the error says what is wrong with them.
+/// Tests that the error says what is wrong if `ask` refuses options that `clap` accepts.
 #[test]
 fn arguments_that_ask_refuses(rt: HostRuntime) -> Result<(), Fail> {
     assert_eq!(rt; incomplete_error(rt.alloc(), REFUSED)?, None);

@@ -23,8 +23,8 @@ fn read(alloc: Global, plan: &str, cert: &str) -> Result<(Plan, Cert), Fail> {
     Ok((plan, cert))
 }
 
-/// The results for the first pool of a plan and a certificate: the total of the vector in the
-/// pool's bound, and for each part of the certificate the first condition that fails.
+/// The results for a plan and a certificate: the total of the vector in the bound of the first
+/// pool, and, for each part of the certificate, the first condition that fails.
 #[derive(Clone, Copy, Debug, PartialEq, Eq)]
 struct Findings {
     total: u64,
@@ -173,9 +173,11 @@ fn the_first_condition_that_fails(rt: HostRuntime) -> Result<(), Fail> {
     Ok(())
 }
 
-/// Returns whether the action at this position of the class's body is a counted get: a get that may
-/// block a thread that other jobs need. Returns `None` if the plan has no such class, if its body
-/// has no such position, or if the ranks do not have the shape of the plan.
+/// Returns whether the action at this position of the class's body is a counted get. This is a get
+/// that may block a thread that other jobs need. Returns `None` in these cases:
+///
+/// - The plan has no such class, or the class's body has no such position.
+/// - The ranks do not have the shape of the plan.
 fn is_counted(plan: &Plan, ranks: &Ranks, class: usize, position: usize) -> Option<bool> {
     let found = plan.class_at(class)?;
     if position >= found.body.len() || !ranks.fits(plan) {
@@ -184,8 +186,8 @@ fn is_counted(plan: &Plan, ranks: &Ranks, class: usize, position: usize) -> Opti
     Some(RanksOf::new(plan, ranks).counted(class, position))
 }
 
-/// Jobs of class `a` wait for jobs of class `b`, which wait for jobs of class `d`. The ranks decide
-/// which of these gets are counted.
+/// Tests which gets are counted in a plan where jobs of class `a` wait for jobs of class `b`, and
+/// these wait for jobs of class `d`. The ranks determine which of these gets are counted.
 #[test]
 fn gets_that_are_counted(rt: HostRuntime) -> Result<(), Fail> {
     let (plan, cert) = read(rt.alloc(), THERE_AND_BACK, THERE_AND_BACK_CERT)?;
@@ -210,8 +212,8 @@ fn higher(alloc: Global) -> Result<Ranks, AllocError> {
     })
 }
 
-/// A case: a plan, a certificate, whether `accepts_standing` accepts them, and whether `accepts`
-/// does.
+/// A case: a plan, a certificate, whether `accepts_standing` accepts the two, and whether `accepts`
+/// accepts them.
 type Judged = (&'static str, &'static str, bool, bool);
 
 const JUDGED: &[Judged] = &[
@@ -239,8 +241,8 @@ fn what_is_accepted(rt: HostRuntime) -> Result<(), Fail> {
     Ok(())
 }
 
-/// `Certified::check` returns the plan and the certificate unchanged, whether it accepts them or
-/// not.
+/// Tests that `Certified::check` returns the plan and the certificate unchanged, whether or not it
+/// accepts them.
 #[test]
 fn what_is_certified(rt: HostRuntime) -> Result<(), Fail> {
     for (plan, cert, _, is_accepted) in JUDGED.iter().copied() {
@@ -273,7 +275,7 @@ fn standing(total: u64, limit: u64) -> BoundTotal {
     }
 }
 
-/// The verdict has the totals and limits of each pool, in plan order.
+/// Tests that the verdict has the totals and the limits of each pool, in plan order.
 #[test]
 fn verdicts(rt: HostRuntime) -> Result<(), Fail> {
     let (plan, cert) = read(rt.alloc(), THERE_AND_BACK, THERE_AND_BACK_CERT)?;
@@ -295,8 +297,8 @@ fn verdicts(rt: HostRuntime) -> Result<(), Fail> {
     Ok(())
 }
 
-/// For the texts of a plan and a certificate, `check` returns a verdict, or the fault of the plan's
-/// text, or the fault of the certificate's text.
+/// Tests the result of `check` for the texts of a plan and a certificate. It is a verdict, the
+/// fault of the plan's text, or the fault of the certificate's text.
 #[test]
 fn what_is_checked(rt: HostRuntime) -> Result<(), Fail> {
     let line = PoolLine {

@@ -5,8 +5,8 @@ ghost use Rattle.std.specs.Prelude.{None, if◌then◌else◌};
 use sizing_cli::{IoFault, MemorySink, ReviewCommand, ServeFault, Source, Status, serve_alone};
 use std::test::Fail;
 
-/// A source of `left` bytes. Each call returns one byte. The call after the last byte fails, and
-/// later calls return no byte.
+/// A source of `left` bytes, of which each call returns one. The call after the last byte fails,
+/// and any later call returns no byte.
 #[derive(Drop)]
 struct Failing {
     left: usize,
@@ -32,8 +32,9 @@ impl Source for Failing {
     }
 }
 
-/// If a source fails after 2,097,155 bytes, the program reports that it failed. After 2,097,156
-/// bytes, the program makes no further call, and reports that the input is too long.
+/// Tests a source that fails after a number of bytes. If it fails after 2,097,155 bytes, the
+/// program reports the failure. If it has 2,097,156 bytes, the program reports that the input is
+/// too long, without the call that would fail.
 #[test]
 fn a_source_that_fails_at_the_limit(rt: HostRuntime) -> Result<(), Fail> {
     for (left, ended, written) in [

@@ -174,8 +174,12 @@ const CASES: &[Case] = &[
     (REJECTING, &REJECTED, &[], "none"),
 ];
 
-/// A list of events is a witness if its last event is a refused submit, or if the given jobs wait
-/// only for each other after the last event. The numbers of the jobs must be in ascending order.
+/// Tests which lists of events are witnesses. A list is a witness in these cases:
+///
+/// - The last event is a refused submit.
+/// - The given jobs wait only for each other after the last event. The numbers of these jobs must
+///   be in ascending order.
+///
 /// The jobs wait permanently if the pool has all its threads.
 #[test]
 fn lists_that_are_witnesses(rt: HostRuntime) -> Result<(), Fail> {
@@ -190,7 +194,7 @@ fn lists_that_are_witnesses(rt: HostRuntime) -> Result<(), Fail> {
     Ok(())
 }
 
-/// A witness ends at the first refused submit, and later events are ignored.
+/// Tests that a witness ends at the first refused submit, so that later events are ignored.
 #[test]
 fn a_witness_ends_at_its_first_refusal(rt: HostRuntime) -> Result<(), Fail> {
     let plan = read_plan(rt.alloc(), TWO_CLIENTS.as_bytes())?;
@@ -205,9 +209,12 @@ fn a_witness_ends_at_its_first_refusal(rt: HostRuntime) -> Result<(), Fail> {
     Ok(())
 }
 
-/// If the conditions of a vector hold, the pool never has more than its one core thread, so the
-/// jobs wait permanently. A vector shows nothing if it breaks a rule, or if its total exceeds the
-/// queue of 5, as it does for three clients of weight 2.
+/// Tests that a standing vector can show that jobs wait permanently. If the conditions of the
+/// vector hold, the pool never has more than its one core thread. The vector shows nothing in these
+/// cases:
+///
+/// - It breaks a condition.
+/// - Its total exceeds the queue of 5, as it does for three clients of weight 2.
 #[test]
 fn a_standing_vector_shows_that_jobs_wait_for_ever(rt: HostRuntime) -> Result<(), Fail> {
     let alloc = rt.alloc();
@@ -233,8 +240,8 @@ fn a_standing_vector_shows_that_jobs_wait_for_ever(rt: HostRuntime) -> Result<()
     Ok(())
 }
 
-/// A pool that may reject jobs rejects the first job that finds its thread busy and its queue full.
-/// A pool that must not reject jobs rejects none.
+/// Tests that a pool that may reject jobs rejects the first job that finds its thread busy and its
+/// queue full. A pool that must not reject jobs rejects none.
 #[test]
 fn a_full_pool_rejects(rt: HostRuntime) -> Result<(), Fail> {
     let plan = read_plan(rt.alloc(), REJECTING.as_bytes())?;

@@ -40,7 +40,7 @@ client 0
 client 0
 ";
 
-/// A file system in memory: files that are found by name.
+/// A file system in memory, which finds files by their names.
 #[derive(Clone, Copy)]
 struct FakeFiles;
 
@@ -198,8 +198,8 @@ const ANSWERS: &[Case] = &[
     ),
 ];
 
-/// Texts are read from the named files, and from standard input if the file is `-` or no file is
-/// named.
+/// Tests that texts are read from the named files. A text is read from standard input if its file
+/// is `-` or if no file is named.
 #[test]
 fn texts_come_from_files(rt: HostRuntime) -> Result<(), Fail> {
     for (words, given, status, written) in ANSWERS.iter().copied() {
@@ -220,7 +220,7 @@ fn texts_come_from_files(rt: HostRuntime) -> Result<(), Fail> {
     Ok(())
 }
 
-/// Cases without an answer: the arguments, the message and the exit status.
+/// Cases in which the command gives no answer: the arguments, the message and the exit status.
 const NO_ANSWERS: &[(&[&str], &str, u8)] = &[
     (
         &["sizing", "check", "none.toml", "cert.json"],
@@ -295,7 +295,7 @@ const NO_ANSWERS: &[(&[&str], &str, u8)] = &[
     (&["sizing", "--help"], "words DisplayHelp", 2),
 ];
 
-/// Each command line in [`NO_ANSWERS`] fails with the expected message and exit status.
+/// Tests that each command line in [`NO_ANSWERS`] fails with the expected message and exit status.
 #[test]
 fn words_without_an_answer(rt: HostRuntime) -> Result<(), Fail> {
     for (words, wanted, code) in NO_ANSWERS.iter().copied() {
@@ -334,9 +334,9 @@ fn words_without_an_answer(rt: HostRuntime) -> Result<(), Fail> {
     Ok(())
 }
 
-/// If the certificate cannot be written, because its folder is missing or its file cannot be
-/// replaced, the call writes the whole answer and returns the error. A file that has a certificate
-/// may be overwritten, even if it is the certificate of another plan.
+/// Tests a certificate that cannot be written, because its folder is missing or its file cannot be
+/// replaced. The call then writes the whole answer and returns the error. A file that has a
+/// certificate may be overwritten, even if it is the certificate of another plan.
 #[test]
 fn an_unwritten_certificate(rt: HostRuntime) -> Result<(), Fail> {
     for name in ["none/kept.json", "cert.json", "older.json"] {

@@ -70,9 +70,12 @@ const LIFETIME: &str = r#"{"version":2,"pools":[
 "blocked":{"workers":[0],"classes":[[0,0,0,0]],"clients":[[0,0,0]]}}],
 "ranks":{"pools":[0],"reach":[0],"levels":[0]}}"#;
 
-/// Returns the text of the sample certificate that the first word names, or `None` if there is
-/// none. The other words are pairs of an old and a new text. The first occurrence of each old text
-/// is replaced by the new text.
+/// Returns the text of a sample certificate with some replacements. `words` has these parts:
+///
+/// - The first word is the name of the certificate. The result is `None` if there is no such
+///   certificate.
+/// - The other words are pairs of an old and a new text. For each pair, the first occurrence of the
+///   old text is replaced by the new text.
 pub fn sample_cert(alloc: Global, words: &str) -> Result<Option<String>, AllocError> {
     let (name, changes) = words.split_once(' ').unwrap_or((words, ""));
     let Some(template) = template(name) else {

@@ -9,8 +9,8 @@ use std::alloc::{AllocError, Global};
 // The names of the columns, one character each.
 const COLUMNS: &str = "123456789";
 
-/// Returns the text with the first column in place of `$1`, the second in place of `$2`, and so on.
-/// A `$` that names no column stays as it is.
+/// Returns the text with the first column in place of `$1`, the second column in place of `$2`, and
+/// so on. A `$` that names no column is not replaced.
 pub fn with_columns(alloc: Global, text: &str, columns: &[&str]) -> Result<String, AllocError> {
     let mut filled = String::new(alloc);
     for (number, piece) in text.split('$').enumerate() {
@@ -36,8 +36,9 @@ fn push_column(filled: &mut String, piece: &str, columns: &[&str]) -> Result<(),
     filled.push_str(piece)
 }
 
-/// Returns the text with each `$(NAME)` replaced by the text of the row's part `let NAME`. If the
-/// row has no such part, NAME is the name of a sample certificate or a sample plan.
+/// Returns the text with each `$(NAME)` replaced. The replacement is the text of the part `let
+/// NAME` of the row. If the row has no such part, it is the sample certificate or the sample plan
+/// with this name.
 pub fn with_names(alloc: Global, text: &str, row: &Row) -> Result<String, AllocError> {
     let mut filled = String::new(alloc);
     for (number, piece) in text.split("$(").enumerate() {

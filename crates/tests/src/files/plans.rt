@@ -215,8 +215,8 @@ count = 1
 repeat = true
 body = ["work 1"]"#;
 
-/// Returns the text of the sample plan that the first word names, with the sizes in the other
-/// words. The text for an unknown name is not a valid plan.
+/// Returns the text of a sample plan. The first word of `words` is the name of the plan, and the
+/// other words are its sizes. If there is no such plan, the result is not the text of a valid plan.
 pub fn sample_plan(alloc: Global, words: &str) -> Result<String, AllocError> {
     let (name, sizes) = words.split_once(' ').unwrap_or((words, ""));
     let columns = sizes.split(' ').collect::<Vec<&str>>(alloc)?;

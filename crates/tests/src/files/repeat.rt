@@ -3,9 +3,14 @@
 use crate::files::spelling::spelled;
 use std::alloc::{AllocError, Global};
 
-/// Returns the text with TEXT repeated N times in place of each `^<N TEXT^>`. For `^<to N TEXT^>`,
-/// the number of bytes before it is subtracted from N. In TEXT, `^#` is the number of the
-/// repetition, from 0, and `^+` is that number plus 1.
+/// Returns the text with its repetitions written out. A repetition has one of two forms:
+///
+/// - `^<N TEXT^>` is replaced by N copies of TEXT.
+/// - `^<to N TEXT^>` is replaced by as many copies of TEXT as N minus the number of bytes before
+///   it.
+///
+/// In TEXT, `^#` is the number of the copy, counted from 0, and `^+` is the number of the copy,
+/// counted from 1.
 pub fn repeated(alloc: Global, text: &str) -> Result<String, AllocError> {
     let mut whole = String::new(alloc);
     for (number, piece) in text.split("^<").enumerate() {

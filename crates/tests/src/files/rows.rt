@@ -2,14 +2,15 @@
 
 use std::alloc::{AllocError, Global};
 
-/// A row of a file: its name, and its parts in order.
+/// A row of a file of test inputs: the name of the row, and its parts in order.
 #[derive(Drop)]
 pub struct Row<'a> {
     pub name: &'a str,
     pub parts: Vec<Part<'a>>,
 }
 
-/// A part of a row: the text of its first line after `-- `, and the lines after that line.
+/// A part of a row. Its head is the text after `-- ` in its first line, and its text is the lines
+/// after this line.
 #[derive(Clone, Copy)]
 pub struct Part<'a> {
     pub head: &'a str,

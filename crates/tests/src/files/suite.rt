@@ -8,15 +8,15 @@ use std::alloc::{AllocError, Global};
 use std::rt::Files;
 use std::{fs, io};
 
-/// A suite: the code under test, which answers inputs.
+/// A suite, which runs the code under test and returns answers to inputs.
 pub trait Suite {
     /// Returns the answer to the input of this kind.
     fn answer(&self, alloc: Global, kind: &str, input: &[u8]) -> Result<String, AllocError>;
 }
 
-/// Runs all inputs in the files. For each unexpected answer, prints the name of the row, the place
-/// of the input, the answer and the expected answer. Then prints the number of inputs and the
-/// number of unexpected answers.
+/// Runs the inputs in all files. For each unexpected answer, prints the name of the row, the place
+/// of the input, the answer and the expected answer. At the end, prints the number of inputs and
+/// the number of unexpected answers.
 pub fn run_files<S: Suite, R: Files + Print + AllocGlobal>(
     rt: &R,
     suite: &S,

@@ -24,8 +24,9 @@ pub fn certified<R: Threads + Wait + Sync>(
     Ok(answer)
 }
 
-/// Returns the output of `certify` for a plan's text. If that is a bundle, returns the first line
-/// of the output of `check` for the bundle instead, with a note if the bundle has another plan.
+/// Runs `certify` for a plan's text. If the output is a bundle, returns the first line of the
+/// output of `check` for this bundle, with a note if the bundle has another plan. Otherwise returns
+/// the output of `certify`.
 pub fn certified_and_checked<R: Threads + Wait + Sync>(
     rt: &R,
     alloc: Global,

@@ -6,7 +6,7 @@ use plan_text::read_plan;
 use std::alloc::{AllocError, Global};
 use std::thread::Threads;
 
-/// A gate that always opens.
+/// A gate that never stops a check.
 #[derive(Clone, Copy)]
 struct Open;
 
@@ -16,9 +16,9 @@ impl PoolGate for Open {
     }
 }
 
-/// Checks a bundle without threads, and then on threads. Returns the result without threads,
-/// followed by each result on threads that differs from it. Returns a note if the bundle has no
-/// line `%%`.
+/// Checks a bundle without threads, and then on threads. Returns the result without threads. If a
+/// result on threads differs, it follows in the answer. If the bundle has no line `%%`, returns a
+/// note.
 pub fn checked<R: Threads + Sync>(
     rt: &R,
     alloc: Global,

@@ -31,8 +31,8 @@ impl Ended {
         Ended::of_source(rt, alloc, command, &mut MemorySource::new(input), sink)
     }
 
-    /// Runs the command on the input that the source provides, with a sink in memory. Returns its
-    /// result.
+    /// Runs the command on the input that the source provides, and returns its result. The sink is
+    /// in memory.
     pub fn of_source<R: Threads + Wait + Sync, S: Source>(
         rt: &R,
         alloc: Global,
@@ -77,8 +77,8 @@ impl Ended {
         Ok(text)
     }
 
-    /// Returns the JSON object in the HTML page that the command wrote, or `no object` if there is
-    /// none, followed by the exit status or the fault.
+    /// Returns the JSON object in the HTML page that the command wrote, followed by the exit status
+    /// or the fault. If the page has no such object, `no object` takes its place.
     pub fn object_in_page(&self, alloc: Global) -> Result<String, AllocError> {
         let written = String::from_utf8_lossy(alloc, &self.written)?;
         let mut text = String::new(alloc);

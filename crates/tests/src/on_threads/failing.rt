@@ -15,9 +15,11 @@ const WRITE_FAILED: ServeFault = ServeFault { number: 61 };
 // The maximum number of bytes that a call of a failing source or sink reads or writes.
 const PIECE: usize = 250;
 
-/// Returns the output of the command. Appends a note if the result differs with a source and a sink
-/// that handle one byte in each call. Appends a note for each failing call with an unexpected
-/// result.
+/// Returns the output of the command, followed by a note for each unexpected result of a
+/// repetition. The command is repeated with these sources and sinks:
+///
+/// - a source and a sink that transfer one byte in each call;
+/// - a source or a sink of which one call fails.
 pub fn run_with_failures<R: Threads + Wait + Sync>(
     rt: &R,
     alloc: Global,
@@ -32,9 +34,11 @@ pub fn run_with_failures<R: Threads + Wait + Sync>(
     Ok(answer)
 }
 
-/// Appends notes to the answer: one if the result of the command differs from `ended` with a source
-/// and a sink that handle one byte in each call, and one for each failing call with an unexpected
-/// result.
+/// Repeats the command, and appends a note to the answer for each unexpected result. The command is
+/// repeated with these sources and sinks:
+///
+/// - a source and a sink that transfer one byte in each call. The result must be `ended`;
+/// - a source or a sink of which one call fails.
 pub fn push_differences<R: Threads + Wait + Sync>(
     rt: &R,
     alloc: Global,

@@ -38,9 +38,10 @@ pub fn fitted_bundle<R: Threads + Wait + Sync>(
     output_of(rt, alloc, BUNDLE, plan)
 }
 
-/// Runs `fit` for a plan's text. If `fit` writes a bundle, runs `check` for the bundle and `fit`
-/// for the plan in it. Returns the first line of the output of `check`, followed by the output of
-/// the second `fit`. If `fit` writes no bundle, returns its output.
+/// Runs `fit` for a plan's text. If `fit` writes a bundle, runs `check` for this bundle, and runs
+/// `fit` again for the plan in the bundle. Returns the first line of the output of `check`,
+/// followed by the output of the second `fit`. If the first `fit` writes no bundle, returns its
+/// output.
 pub fn fitted_and_checked<R: Threads + Wait + Sync>(
     rt: &R,
     alloc: Global,

@@ -40,7 +40,8 @@ pub fn refuted_head<R: Threads + Wait + Sync>(
     Ended::of_input(rt, alloc, STORY, plan)?.first_line(alloc)
 }
 
-/// Returns the first line of the output of `refute` for a plan's text, with a limit of one state.
+/// Returns the first line of the output of `refute` for a plan's text, where `refute` may search
+/// only one state.
 pub fn refuted_briefly<R: Threads + Wait + Sync>(
     rt: &R,
     alloc: Global,
@@ -59,7 +60,7 @@ pub fn refuted_bundle<R: Threads + Wait + Sync>(
 }
 
 /// Returns the output of `replay` for the bundle that `refute` writes for a plan's text. If
-/// `refute` writes no bundle, returns its output.
+/// `refute` writes no bundle, returns the output of `refute`.
 pub fn refuted_and_replayed<R: Threads + Wait + Sync>(
     rt: &R,
     alloc: Global,

@@ -30,7 +30,7 @@ pub fn ran<R: Threads + Wait + Sync>(
 }
 
 /// Returns the output of `run` for this input. The first line of the input is the number of rounds,
-/// from 1 to 1,000,000. The rest is a bundle. If the first line is not such a number, returns a
+/// from 1 to 1,000,000, and the rest is a bundle. If the first line is not such a number, returns a
 /// note.
 pub fn ran_for<R: Threads + Wait + Sync>(
     rt: &R,

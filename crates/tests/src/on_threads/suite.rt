@@ -7,8 +7,8 @@ use std::alloc::{AllocError, Global};
 /// input, and the input.
 pub type Answer = Box<dyn Fn(Global, &str, &[u8]) -> Result<String, AllocError> + Drop>;
 
-/// A suite that calls a function for each answer. The method of a suite cannot start threads, but
-/// the function can.
+/// A suite that calls a function to get each answer. The function can start threads, which the
+/// method of a suite cannot do.
 #[derive(Drop)]
 pub struct OnThreads {
     answer: Answer,

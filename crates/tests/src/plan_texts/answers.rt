@@ -4,7 +4,7 @@ use job_bodies::{Action, Plan, PlanFault};
 use plan_text::read_plan;
 use std::alloc::{AllocError, Global};
 
-/// Returns the plan of the text or the fault of the text, in one line.
+/// Returns the plan that the text describes, or the fault of the text, in one line.
 pub fn answered(alloc: Global, text: &[u8]) -> Result<String, AllocError> {
     line_of(alloc, read_plan(alloc, text))
 }

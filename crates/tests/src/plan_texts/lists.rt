@@ -5,14 +5,17 @@ use job_bodies::{Action, Class, Client, Plan, PlanFault, Pool};
 use plan_text::{read_plan, write_plan};
 use std::alloc::{AllocError, Global};
 
-/// Returns the plan of the lists or the fault of the lists, in one line.
+/// Returns the plan that is built from the lists in `lines`, or the fault of the lists, in one
+/// line.
 pub fn built(alloc: Global, lines: &[u8]) -> Result<String, AllocError> {
     line_of(alloc, plan_of(alloc, lines)?)
 }
 
-/// Returns the text that is written for the plan of the lists, or the fault of the lists. Also
-/// reads the text again, and writes the plan that is read. If the text has a fault, returns the
-/// fault instead. If the second text differs from the first, returns both texts.
+/// Returns the text that is written for the plan that is built from the lists in `lines`, or the
+/// fault of the lists. As a test, parses this text and writes the parsed plan again:
+///
+/// - If the text has a fault, returns the fault instead.
+/// - If the second text differs from the first, returns both texts.
 pub fn written(alloc: Global, lines: &[u8]) -> Result<String, AllocError> {
     let text = match plan_of(alloc, lines)? {
         Ok(plan) => write_plan(alloc, &plan)?,

@@ -15,7 +15,7 @@ const WRITE_FAILED: ServeFault = ServeFault { number: 61 };
 // The maximum number of bytes that a stalling writer accepts in a call, before it accepts none.
 const STALLING_PIECE: usize = 60;
 
-/// An input of a command, and the result of the command if no call fails.
+/// An input of a command, and the result that the command has if no call fails.
 #[derive(Drop)]
 pub struct Case<'a> {
     pub input: &'a [u8],
@@ -23,9 +23,9 @@ pub struct Case<'a> {
 }
 
 impl Case<'_> {
-    /// Runs the command again for each call of the source and of the sink. Each time, that call
-    /// fails, or the sink accepts no byte in that call and later calls. Appends a note to the
-    /// answer for each unexpected result.
+    /// Runs the command again for each call of the source and of the sink. In each of these runs,
+    /// this call fails, or the sink accepts no byte in this call and all later calls. Appends a
+    /// note to the answer for each unexpected result.
     pub fn push_differences(
         &self,
         alloc: Global,

@@ -3,8 +3,11 @@
 use command_line::{Cli, Command, read_words};
 use std::alloc::{AllocError, Global};
 
-/// Returns the command and the files that the arguments name, `None` if they name no command, or
-/// the kind of their error. `lines` has one argument in each line.
+/// Returns a text about the arguments in `lines`, which has one argument in each line:
+///
+/// - the command and the files that the arguments name;
+/// - the text `None` if the arguments name no command;
+/// - the kind of the error if the arguments have an error.
 pub fn asked(alloc: Global, lines: &[u8]) -> Result<String, AllocError> {
     let lines = String::from_utf8_lossy(alloc, lines)?;
     let words = lines.lines().collect::<Vec<&str>>(alloc)?;

@@ -42,8 +42,8 @@ const TWO_POOLS_CERT: &str = r#"{"version": 1, "pools": [
         "clients": [[0, 0, 0], [1, 0, 1]]}}],
     "ranks": {"pools": [1, 0], "reach": [1, 0, 1, 1], "levels": [1, 0, 1, 0]}}"#;
 
-/// A gate that holds the first call until there is another call. If there is none within 10,000
-/// waits of a millisecond, it refuses the pool of the first call.
+/// A gate that holds the first call until another call is made. If no other call is made within
+/// 10,000 waits of a millisecond, the gate refuses the pool of the first call.
 #[derive(Drop)]
 struct Rendezvous<'a, C> {
     clock: &'a C,
@@ -75,7 +75,8 @@ impl PoolGate for Only {
     }
 }
 
-/// Two workers check two pools at the same time. The gate would refuse one worker alone.
+/// Tests that two workers check two pools at the same time. The gate would refuse a pool if only
+/// one worker checked at a time.
 #[test]
 fn two_pools_are_looked_at_at_once(rt: HostRuntime) -> Result<(), Fail> {
     let gate = Rendezvous {
@@ -91,8 +92,8 @@ fn two_pools_are_looked_at_at_once(rt: HostRuntime) -> Result<(), Fail> {
     Ok(())
 }
 
-/// If the gate refuses one of two pools, the check returns the fault of the gate, with 1, 2, 3 and
-/// 64 workers.
+/// Tests that the check returns the fault of the gate if the gate refuses one of two pools. The
+/// check runs with 1, 2, 3 and 64 workers.
 #[test]
 fn a_no_of_the_gate(rt: HostRuntime) -> Result<(), Fail> {
     let (plan, cert) = (TWO_POOLS.as_bytes(), TWO_POOLS_CERT.as_bytes());
@@ -120,7 +121,7 @@ impl PoolGate for AllBut {
 /// The maximum number of pools of a plan.
 const MANY: usize = 64;
 
-/// Returns the text of a plan with the maximum number of pools, and no client.
+/// Returns the text of a plan that has the maximum number of pools and no client.
 fn many_pools(alloc: Global) -> Result<String, AllocError> {
     let mut text = String::new(alloc);
     for pool in 0..MANY {
@@ -142,7 +143,7 @@ fn zeros(alloc: Global) -> Result<String, AllocError> {
     Ok(text)
 }
 
-/// Returns the text of a certificate for [`many_pools`] in which all weights are 0.
+/// Returns the text of a certificate for the plan of [`many_pools`], in which all weights are 0.
 fn cert_of_many(alloc: Global) -> Result<String, AllocError> {
     let zeros = zeros(alloc)?;
     let nobody = format!(in alloc; "{{\"workers\":[{zeros}],\"classes\":[],\"clients\":[]}}")?;
@@ -159,8 +160,8 @@ fn cert_of_many(alloc: Global) -> Result<String, AllocError> {
     Ok(text)
 }
 
-/// If the gate refuses any of 64 pools, the check and the search return the fault of the gate, with
-/// one worker and with a worker for each pool.
+/// Tests that the check and the search return the fault of the gate if the gate refuses one of 64
+/// pools. Both run for each of these pools, with one worker and with a worker for each pool.
 #[test]
 fn a_no_for_each_of_many_pools(rt: HostRuntime) -> Result<(), Fail> {
     let plan = many_pools(rt.alloc()).expect(&rt, "there is memory");

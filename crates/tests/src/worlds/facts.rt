@@ -12,7 +12,8 @@ use std::alloc::{AllocError, Global};
 const CLIENTS_SHOWN: usize = 4;
 
 /// Returns the results of all look-ups of the world: the counts, the pools, the first four clients
-/// and the jobs. Also looks up the two numbers after the last job, which have no job.
+/// and the jobs. Also has the results for the two numbers after the last job, which are numbers of
+/// no job.
 pub fn facts(alloc: Global, plan: &Plan, world: &World) -> Result<Vec<String>, AllocError>
     requires { IsReachableView plan.now world.now.view }
 {
@@ -33,8 +34,8 @@ pub fn facts(alloc: Global, plan: &Plan, world: &World) -> Result<Vec<String>, A
     Ok(facts)
 }
 
-/// Returns the counts of the world: its refused submits, created jobs, unfinished jobs, and places
-/// for live jobs.
+/// Returns the counts of the world: the numbers of its refused submits, created jobs, unfinished
+/// jobs and places for live jobs.
 pub fn counts(alloc: Global, world: &World) -> Result<Vec<String>, AllocError> {
     let mut facts = Vec::new(alloc);
     facts.push(format!(in alloc; "refusals {}", world.refusals())?)?;
@@ -68,8 +69,8 @@ pub fn push_number(text: &mut String, number: Option<usize>) -> Result<(), Alloc
     }
 }
 
-/// Appends the job's class, parent, slot and phase, or `none` if the job is `None`. The slot is the
-/// position of the submit in the parent's body.
+/// Appends the class, parent, slot and phase of the job. Appends `none` if `job` is `None`. The
+/// slot is the position, in the parent's body, of the submit that created the job.
 pub fn push_job(text: &mut String, job: Option<JobView>) -> Result<(), AllocError> {
     let Some(job) = job else {
         return text.push_str("none");
@@ -89,9 +90,11 @@ pub fn push_job(text: &mut String, job: Option<JobView>) -> Result<(), AllocErro
     }
 }
 
-/// Appends each result in `now` that differs from the result at the same index of `before`. If
-/// `before` is shorter than `now`, also appends the additional results, except those that end with
-/// `none`. If `before` is empty, appends all results.
+/// Appends each result in `now` that differs from the result at the same index of `before`:
+///
+/// - If `before` is empty, appends all results.
+/// - If `before` is shorter than `now`, also appends the additional results, except those that end
+///   with `none`.
 pub fn push_changed(
     said: &mut String,
     before: &[String],
