@@ -8,17 +8,17 @@ ghost use Rattle.job_bodies.specs.Plan as spec;
 pub enum Action {
     /// The actor works for this number of units, from 1 to 1,000,000.
     Work(u32),
-    /// The actor submits a job of the class with this index to the pool of the class, as Java's
-    /// `submit` does, and continues.
+    /// The actor submits a job of the class with this index to the pool of this class, and
+    /// continues. This is what Java's `submit` does.
     Submit(usize),
-    /// The actor waits, as Java's `Future.get` does, for the job that it submitted at this position
-    /// of the same body. If it submitted several there, because its body repeats, it waits for the
-    /// latest. A body has at most one get for each of its submits.
+    /// The actor waits, as in Java's `Future.get`, for the job that it submitted at this position
+    /// of the same body. If the body repeats, so that the actor submitted several jobs there, it
+    /// waits for the latest one. A body has at most one get for each of its submits.
     Get(usize),
 }
 
 impl Action {
-    /// Returns whether this action is a get of the submit at position `submit` of the same body.
+    /// Returns true if this action is a get of the submit at position `submit` of the same body.
     pub fn gets(self, submit: usize) -> bool
         ensures { result ≡ spec.gets submit self }
     {
@@ -29,7 +29,8 @@ impl Action {
     }
 }
 
-/// Returns whether one of these actions is a get of the submit at position `submit` of their body.
+/// Returns true if at least one of these actions is a get of the submit at position `submit` of the
+/// same body.
 pub fn has_get_of(actions: &[Action], submit: usize) -> bool
     ensures { result ≡ spec.has_get_of actions.now submit }
 {

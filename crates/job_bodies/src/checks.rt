@@ -15,7 +15,8 @@ use crate::names::check_name;
 use crate::{Action, Class, Client, Part, PlanFault, Pool, has_get_of};
 use support::number::{BAD_NUMBER, NO_SUCH_CLASS, NO_SUCH_POOL, SLOT_EMPTY, TOO_MANY};
 
-/// Checks that the pool at this index has a valid name that no earlier pool has, and valid sizes.
+/// Checks the pool at this index. Its name must be valid, no earlier pool may have the same name,
+/// and its sizes must be valid.
 pub(crate) fn check_pool(pools: &[Pool], index: usize) -> Result<(), PlanFault>
     requires { index < length pools.now }
     ensures { let names = map (λ pool. pool.name) pools.now in
@@ -27,8 +28,8 @@ pub(crate) fn check_pool(pools: &[Pool], index: usize) -> Result<(), PlanFault>
     ensure(valid, PlanFault::at_entry(Part::Pool, index, BAD_NUMBER))
 }
 
-/// Checks that the class at this index has a valid name that no earlier class has, and that its
-/// pool is below `pools`, the number of the plan's pools.
+/// Checks the class at this index. Its name must be valid, and no earlier class may have the same
+/// name. The number of its pool must be below `pools`, the number of the plan's pools.
 pub(crate) fn check_class(pools: usize, classes: &[Class], index: usize) -> Result<(), PlanFault>
     requires { index < length classes.now }
     ensures { let names = map (λ class. class.name) classes.now in
@@ -40,8 +41,8 @@ pub(crate) fn check_class(pools: usize, classes: &[Class], index: usize) -> Resu
     ensure(found, PlanFault::at_entry(Part::Class, index, NO_SUCH_POOL))
 }
 
-/// Checks that the client kind at this index has a valid name that no earlier client kind has, and
-/// a valid count.
+/// Checks the client kind at this index. Its name must be valid, no earlier client kind may have
+/// the same name, and its count must be valid.
 pub(crate) fn check_client(clients: &[Client], index: usize) -> Result<(), PlanFault>
     requires { index < length clients.now }
     ensures { let names = map (λ client. client.name) clients.now in
@@ -53,8 +54,8 @@ pub(crate) fn check_client(clients: &[Client], index: usize) -> Result<(), PlanF
     ensure(valid, PlanFault::at_entry(Part::Client, index, BAD_NUMBER))
 }
 
-/// Checks that the body has at most [`MAX_ACTIONS`] actions. A fault names the entry at `index` in
-/// the list for `part`, which has the body.
+/// Checks that the body has at most [`MAX_ACTIONS`] actions. If it has more, the fault names the
+/// entry to which the body belongs: the entry at `index` in the list for `part`.
 pub(crate) fn check_length(part: Part, index: usize, body: &[Action]) -> Result<(), PlanFault>
     ensures { result ≡ check_length part index body.now }
 {
@@ -62,10 +63,11 @@ pub(crate) fn check_length(part: Part, index: usize, body: &[Action]) -> Result<
     ensure(short, PlanFault::at_entry(part, index, TOO_MANY))
 }
 
-/// Returns whether one of these actions is a get of the submit at position `submit`.
+/// Returns true if at least one of these actions is a get of the submit at position `submit`.
 ///
-/// `got` is a table of these actions: the element at a position is true if one of them is a get of
-/// the submit at that position. The function reads only the table, unless `submit` is past its end.
+/// `got` is a table of these actions. Its element at a position is true if one of the actions is a
+/// get of the submit at this position. If `submit` is within the table, the function reads only the
+/// table.
 fn has_get_in_table(actions: &[Action], got: &[bool; MAX_ACTIONS], submit: usize) -> bool
     requires { IsTableOf actions.now got.now }
     ensures { result ≡ has_get_of actions.now submit }
@@ -76,8 +78,8 @@ fn has_get_in_table(actions: &[Action], got: &[bool; MAX_ACTIONS], submit: usize
     }
 }
 
-/// Adds an action to the table `got`. If the action is a get, the element at the position of its
-/// submit becomes true.
+/// Adds an action to the table `got`. If the action is a get, sets the element at the position of
+/// the submit that it names to true.
 fn add_to_table(got: &mut [bool; MAX_ACTIONS], action: Action)
     ensures { (actions : List Action)
         → IsTableOf actions got.old
@@ -90,8 +92,8 @@ fn add_to_table(got: &mut [bool; MAX_ACTIONS], action: Action)
     }
 }
 
-/// Returns whether a get at `position` that names `submit` is valid: `submit` is the position of an
-/// earlier submit of the body, and no earlier get names `submit`.
+/// Returns true if a get at `position` of the body may name `submit`. This is so if `submit` is the
+/// position of an earlier submit of the body, and no earlier get names `submit`.
 fn is_valid_get(body: &[Action], got: &[bool; MAX_ACTIONS], position: usize, submit: usize) -> bool
     requires position { position < length body.now }
     requires table { IsTableOf (take position body.now) got.now }
@@ -102,9 +104,12 @@ fn is_valid_get(body: &[Action], got: &[bool; MAX_ACTIONS], position: usize, sub
         && !has_get_in_table(&body[..position], got, submit)
 }
 
-/// Checks the action at `position` of the body. `classes` is the number of the plan's classes, and
-/// `got` is the table of the actions before `position`. A fault names the entry at `index` in the
-/// list for `part`, which has the body.
+/// Checks the action at `position` of the body.
+///
+/// - `classes` is the number of the plan's classes.
+/// - `got` is the table of the actions before `position`.
+/// - A fault names the entry to which the body belongs: the entry at `index` in the list for
+///   `part`.
 fn check_action(
     classes: usize,
     part: Part,
@@ -126,8 +131,11 @@ fn check_action(
     ensure(valid, PlanFault::at_action(part, index, position, number))
 }
 
-/// Checks each action of the body in order. `classes` is the number of the plan's classes. A fault
-/// names the entry at `index` in the list for `part`, which has the body.
+/// Checks each action of the body, in order.
+///
+/// - `classes` is the number of the plan's classes.
+/// - A fault names the entry to which the body belongs: the entry at `index` in the list for
+///   `part`.
 #[tactic(auto, using(crate::proofs::Loops::check_each_turn))]
 pub(crate) fn check_body(
     classes: usize,

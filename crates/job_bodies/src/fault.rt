@@ -15,23 +15,23 @@ pub enum Part {
     Client,
 }
 
-/// A fault of a plan: its number, and the entry and the action that have the fault.
+/// A fault of a plan: the number of the fault, and the entry and the action that have it.
 #[derive(Clone, Copy, Debug, PartialEq, Eq)]
 pub struct PlanFault {
-    /// The fault's number: 1 to 13, or 20 if memory ran out.
+    /// The number of the fault, which is 1 to 13, or 20 if memory ran out.
     pub number: u8,
     /// The part of the plan that has the fault.
     pub part: Part,
-    /// The index of the pool, class or client kind in its list, counted from 0. It is 0 if the part
-    /// is `Text`.
+    /// The index of the pool, class or client kind in its list, counted from 0. If `part` is
+    /// `Text`, the index is 0.
     pub index: usize,
-    /// The position in its body of the action that has the fault, counted from 0, or `None` if no
-    /// action has the fault.
+    /// The position of the action that has the fault, counted from 0 in its body. It is `None` if
+    /// no action has the fault.
     pub action: Option<usize>,
 }
 
 impl PlanFault {
-    /// Creates a fault of the text or of the plan as a whole, with this fault number.
+    /// Creates a fault with this number that belongs to the text or to the plan as a whole.
     pub fn at_text(number: u8) -> PlanFault
         ensures { result ≡ at_text number }
     {
@@ -43,7 +43,8 @@ impl PlanFault {
         }
     }
 
-    /// Creates a fault of the entry at `index` in the list for `part`, with this fault number.
+    /// Creates a fault with this number that belongs to the entry at `index` in the list for
+    /// `part`.
     pub fn at_entry(part: Part, index: usize, number: u8) -> PlanFault
         ensures { result ≡ at_entry part index number }
     {
@@ -55,8 +56,8 @@ impl PlanFault {
         }
     }
 
-    /// Creates a fault of the action at position `action` in the body of the entry at `index` in
-    /// the list for `part`, with this fault number.
+    /// Creates a fault with this number that belongs to the action at position `action` of a body.
+    /// The body is that of the entry at `index` in the list for `part`.
     pub fn at_action(part: Part, index: usize, action: usize, number: u8) -> PlanFault
         ensures { result ≡ at_action part index action number }
     {
@@ -69,7 +70,7 @@ impl PlanFault {
     }
 }
 
-/// Returns `Ok` if `holds` is true, and otherwise the fault.
+/// Returns `Ok` if `holds` is true, and `fault` as the error otherwise.
 pub(crate) fn ensure(holds: bool, fault: PlanFault) -> Result<(), PlanFault>
     ensures { result ≡ ensure holds fault }
 {

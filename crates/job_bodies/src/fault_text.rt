@@ -7,8 +7,8 @@ use crate::{Part, PlanFault};
 use std::fmt;
 use support::FaultHead;
 
-/// The entry that has a fault, formatted as ` at pool 0`, or as an empty text if the part is
-/// `Text`.
+/// The entry that has a fault. It formats as ` at pool 0`, for example, or as an empty text if the
+/// part is `Text`.
 #[derive(Clone, Copy)]
 struct FaultEntry {
     part: Part,
@@ -28,8 +28,8 @@ impl fmt::Display for FaultEntry {
     }
 }
 
-/// The position of the action that has a fault, formatted as ` action 2`, or as an empty text if no
-/// action has the fault.
+/// The position of the action that has a fault. It formats as ` action 2`, for example, or as an
+/// empty text if no action has the fault.
 #[derive(Clone, Copy)]
 struct Position(Option<usize>);
 
@@ -44,8 +44,8 @@ impl fmt::Display for Position {
     }
 }
 
-/// Formats the number and name of the fault, and the entry and the action that have it, such as
-/// `fault 13 SlotEmpty at client 0 action 2`.
+/// Formats the number and the name of the fault, and the entry and the action that have the fault.
+/// An example is `fault 13 SlotEmpty at client 0 action 2`.
 impl fmt::Display for PlanFault {
     ghost output = { λ fault. Some (fault_line fault) };
 

@@ -14,14 +14,14 @@ pub const MAX_CLIENT_KINDS: usize = 256;
 /// The maximum number of actions of a body. The minimum is 0.
 pub const MAX_ACTIONS: usize = 256;
 /// The maximum of each size of a pool (core, maximum and queue capacity) and of the count of a
-/// client kind. The minimum is 1, or 0 for the queue of a pool that may reject jobs.
+/// client kind. The minimum is 1. For the queue of a pool that may reject jobs, the minimum is 0.
 pub const MAX_SIZE: u64 = 1_000_000;
 /// The maximum number of units of a `Work` action. The minimum is 1.
 pub const MAX_WORK: u64 = 1_000_000;
 /// The maximum length of a name, in bytes. The minimum is 1.
 pub const MAX_NAME_BYTES: usize = 32;
 
-/// The maximum of each number in a certificate: its weights, ranks, reaches and levels. The minimum
+/// The maximum of each number in a certificate: a weight, a rank, a reach or a level. The minimum
 /// is 0.
 pub const MAX_WEIGHT: u64 = 1_000_000_000;
 
@@ -31,15 +31,16 @@ pub const MAX_PLAN_BYTES: usize = 1_048_576;
 pub const MAX_CERT_BYTES: usize = 1_048_576;
 /// The maximum size of the event lines of a replay, in bytes.
 pub const MAX_EVENT_BYTES: usize = 1_048_576;
-/// The maximum size of a whole input, in bytes: a plan, a separator line, and event lines or a
-/// certificate. The program reads at most one byte more, which shows that an input is too long.
+/// The maximum size of a whole input, in bytes. Such an input has a plan, a separator line, and
+/// event lines or a certificate. The program reads at most one byte more, which shows that an input
+/// is too long.
 pub const MAX_INPUT_BYTES: usize = 2_097_155;
 /// The maximum size of a whole input that contains a recording, in bytes.
 pub const MAX_RECORDED_BYTES: usize = 268_435_456;
 /// The maximum of each number in event lines and in lines of recordings. The minimum is 0.
 pub const MAX_LINE_NUMBER: usize = 1_000_000_000;
-/// The maximum number of rounds in a recording. A round is one pass of a client through its body.
-/// The rounds are numbered from 0 to [`MAX_LINE_NUMBER`].
+/// The maximum number of rounds in a recording, which are numbered from 0 to [`MAX_LINE_NUMBER`]. A
+/// round is one pass of a client through its body.
 pub const MAX_RECORDED_ROUNDS: u64 = 1_000_000_001;
 /// The maximum number of steps in which a body is compared with a recorded path.
 pub const MAX_PATH_STEPS: u64 = 1_000_000;
@@ -53,17 +54,18 @@ pub const MAX_STATES: u64 = 10_000_000;
 /// The default number of states that a search for a witness may visit.
 pub const DEFAULT_STATES: u64 = 100_000;
 
-/// The maximum number of rounds of each repeating client in a run. The minimum is 1.
+/// The maximum number of rounds of each repeating client in a run, where a round is one pass
+/// through its body. The minimum is 1.
 pub const MAX_ROUNDS: u64 = 1_000_000;
 /// The maximum number of clients of a run.
 pub const MAX_RUN_CLIENTS: u64 = 64;
-/// The maximum number of threads that the pools of a run have in total.
+/// The maximum number of threads that all pools of a run may have together.
 pub const MAX_RUN_CARRIERS: u64 = 64;
 /// The maximum number of events of a run. The number of events is computed from the plan before the
-/// run.
+/// run starts.
 pub const MAX_RUN_EVENTS: u64 = 1_000_000;
 
-/// Returns whether `n` is from `low` to `high`, both included.
+/// Returns true if `n` is from `low` to `high`, both included.
 pub fn is_within(low: u64, high: u64, n: u64) -> bool
     ensures { result ≡ is_within low high n }
 {

@@ -30,8 +30,8 @@ fn are_name_bytes(bytes: &[u8]) -> bool
     bytes.iter().all(|byte| is_name_byte(*byte))
 }
 
-/// Returns whether the text is a valid name: a letter from `a` to `z` followed by at most 31 bytes,
-/// each of them one of `a` to `z`, `0` to `9` and `_`.
+/// Returns true if the text is a valid name. A valid name is a letter from `a` to `z`, followed by
+/// at most 31 bytes, each of which is one of `a` to `z`, `0` to `9` and `_`.
 pub fn is_valid_name(name: &str) -> bool
     ensures { result ≡ is_valid_name name.now }
 {
@@ -79,8 +79,8 @@ fn has_name<T: Named>(entries: &[T], name: &str) -> bool
     entries.iter().any(|entry| name == entry.name())
 }
 
-/// Checks that `name`, the name of the entry at `index`, is valid and that no earlier entry has the
-/// same name.
+/// Checks that `name`, which is the name of the entry at `index`, is valid. Also checks that no
+/// earlier entry has the same name.
 #[tactic(auto, using(crate::proofs::Loops::list_any_of_names))]
 pub(crate) fn check_name<T: Named>(
     entries: &[T],

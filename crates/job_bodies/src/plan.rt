@@ -11,39 +11,46 @@ use crate::{Action, PlanFault};
 use std::alloc::Global;
 use std::marker::Model;
 
-/// A pool of threads with a queue, as Java's `ThreadPoolExecutor` with an `ArrayBlockingQueue` or a
-/// `LinkedBlockingQueue` and the default handler, `AbortPolicy`. `PoolState::offer` of
-/// `pool_machine` defines what the pool does with a submitted job.
+/// A pool of threads with a queue. It is like Java's `ThreadPoolExecutor` with an
+/// `ArrayBlockingQueue` or a `LinkedBlockingQueue` and the default handler, `AbortPolicy`.
+/// `PoolState::offer` of `pool_machine` defines what the pool does with a submitted job.
 ///
-/// The ranges of the sizes are those of the constructor in the Javadoc (a maximum of at least 1 and
-/// of at least core, a capacity of at least 1), with two restrictions: core is at least 1, and no
-/// size is above [`MAX_SIZE`]. If `may_reject` is true, the capacity can also be 0, that of a
-/// `SynchronousQueue`.
+/// The ranges of the sizes are those that the Javadoc states for the constructors, with these
+/// differences:
+///
+/// - The core size is at least 1.
+/// - No size is above [`MAX_SIZE`].
+/// - If `may_reject` is true, the capacity of the queue can also be 0, which stands for a
+///   `SynchronousQueue`.
 #[derive(Debug, Drop)]
 pub struct Pool {
     /// The name of the pool, as plans and answers show it.
     pub name: String,
-    /// The core pool size in threads: from 1 to `max`. While the pool has fewer threads, each
-    /// submitted job starts one. The core threads never end.
+    /// The core pool size in threads, from 1 to `max`. While the pool has fewer threads than this,
+    /// each submitted job starts one. The core threads never end.
     pub core: u64,
-    /// The maximum pool size in threads: from `core` to 1,000,000.
+    /// The maximum pool size in threads, from `core` to 1,000,000.
     pub max: u64,
-    /// The capacity of the queue in jobs: from 1 to 1,000,000. If `may_reject` is true, it can also
-    /// be 0, which stands for a `SynchronousQueue`.
+    /// The capacity of the queue in jobs, from 1 to 1,000,000. If `may_reject` is true, the
+    /// capacity can also be 0, which stands for a `SynchronousQueue`.
     pub queue: u64,
-    /// Whether all core threads are started before the first job is submitted, as Java's
-    /// `prestartAllCoreThreads` does. The first jobs then wait in the queue until idle threads take
+    /// Whether all core threads are started before the first job is submitted, as by Java's
+    /// `prestartAllCoreThreads`. The first jobs then wait in the queue until idle threads take
     /// them. If `prestart` is false, the first jobs start threads.
     pub prestart: bool,
-    /// Whether the pool may reject jobs, because its callers expect that: they handle the exception
-    /// of `AbortPolicy`, or the pool has another handler, such as `CallerRunsPolicy`. If the pool
-    /// rejects a job, the submit counts as skipped together with its get. If `may_reject` is false,
-    /// no submit to the pool should ever be refused.
+    /// Whether the pool may reject jobs, because its callers expect rejections. They may handle the
+    /// exception of `AbortPolicy`, or the pool may have another handler, such as
+    /// `CallerRunsPolicy`.
+    ///
+    /// If the pool rejects a job, the submit counts as skipped together with its get. If
+    /// `may_reject` is false, no submit to the pool should ever be refused.
     pub may_reject: bool,
-    /// Whether the queue is unbounded, as a `LinkedBlockingQueue` without a capacity. The pool then
-    /// refuses no job and starts no thread above core, so `max` and `queue` have no effect on what
-    /// it does. In a plan that is read from a text, `max` is then `core`, because the totals of a
-    /// certificate count `max` threads, and `queue` is 1,000,000.
+    /// Whether the queue is unbounded, like a `LinkedBlockingQueue` that is created without a
+    /// capacity. The pool then refuses no job and starts no thread above core, so `max` and `queue`
+    /// do not affect what it does.
+    ///
+    /// In a plan that is read from a text, the `max` of such a pool is `core`, because the totals
+    /// of a certificate count `max` threads. The `queue` is 1,000,000.
     pub unbounded: bool,
 }
 
@@ -54,8 +61,12 @@ impl Model for Pool {
 }
 
 impl Pool {
-    /// Returns whether the sizes are in range: core is at least 1, the maximum at least core, the
-    /// queue at least [`least_queue`](Pool::least_queue), and none of them above 1,000,000.
+    /// Returns true if the sizes are in range:
+    ///
+    /// - The core size is at least 1.
+    /// - The maximum is at least the core size.
+    /// - The queue is at least [`least_queue`](Pool::least_queue).
+    /// - No size is above 1,000,000.
     pub fn has_valid_sizes(&self) -> bool
         ensures { result ≡ has_valid_sizes self.now }
     {
@@ -64,23 +75,24 @@ impl Pool {
             && is_within(self.least_queue(), MAX_SIZE, self.queue)
     }
 
-    /// Returns the least capacity of the queue: 1, or 0 if the pool may reject jobs.
+    /// Returns the least capacity that the queue can have, which is 0 if the pool may reject jobs,
+    /// and 1 otherwise.
     pub fn least_queue(&self) -> u64
         ensures { result ≡ least_queue self.now }
     {
         if self.may_reject { 0 } else { 1 }
     }
 
-    /// Returns whether a certificate needs no bound of the pool's queue: the pool may reject jobs,
-    /// or its queue is unbounded.
+    /// Returns true if a certificate needs no bound for the pool's queue. This is so if the pool
+    /// may reject jobs or its queue is unbounded.
     pub fn needs_no_bound(&self) -> bool
         ensures { result ≡ spec.needs_no_bound self.now }
     {
         self.may_reject || self.unbounded
     }
 
-    /// Returns the number of threads that the pool has at first, all idle: core if the core threads
-    /// are prestarted, and otherwise 0.
+    /// Returns the number of threads that the pool has before the first event. This is the core
+    /// size if the core threads are prestarted, and 0 otherwise. All these threads are idle.
     pub fn first_workers(&self) -> u64
         ensures { result ≡ spec.first_workers self.now }
     {
@@ -89,14 +101,14 @@ impl Pool {
 }
 
 /// A class of jobs. Each job of the class runs in the same pool and performs the actions of the
-/// body in order.
+/// same body in order.
 #[derive(Debug, Drop)]
 pub struct Class {
     /// The name of the class, as plans and answers show it.
     pub name: String,
     /// The index of the pool that runs the jobs, counted from 0 in plan order.
     pub pool: usize,
-    /// The actions of a job of this class, in order: at most 256.
+    /// The actions of a job of this class, in order. There are at most 256.
     pub body: Vec<Action>,
 }
 
@@ -115,7 +127,7 @@ pub struct Client {
     pub count: u64,
     /// Whether each client starts its body again after the last action.
     pub repeat: bool,
-    /// The actions of a client of this kind, in order: at most 256.
+    /// The actions of a client of this kind, in order. There are at most 256.
     pub body: Vec<Action>,
 }
 
@@ -125,11 +137,12 @@ impl Model for Client {
     ghost view = { λ c. record { name = string_bytes c.name; count = c.count; repeat = c.repeat; body = c.body.items } };
 }
 
-/// A well-formed plan.
+/// A well-formed plan. Every plan satisfies these rules:
 ///
-/// Every plan satisfies these rules: its numbers are within their limits; each name is valid and
-/// unique in its list; each class names an existing pool, and each submit an existing class; each
-/// get names an earlier submit of its body, and no two gets of a body name the same submit.
+/// - Its numbers are within their limits.
+/// - Each name is valid and unique in its list.
+/// - Each class names a pool that exists, and each submit names a class that exists.
+/// - Each get names an earlier submit of its body, and no two gets of a body name the same submit.
 #[derive(Debug, Drop)]
 pub struct Plan {
     pools: Vec<Pool>,
@@ -151,18 +164,18 @@ impl Plan {
     ///
     /// # Errors
     ///
-    /// Returns the first fault with the entry that has it, and with the action if an action has it.
-    /// The faults are checked in this order:
+    /// Returns the first fault, with the entry and, if an action has the fault, the action. The
+    /// lists are checked for these faults, in this order:
     ///
     /// 1. Fault 2 of the text: a list of pools, classes or client kinds has too many entries.
     /// 2. Fault 2 of a class, then of a client kind: its body has too many actions.
-    /// 3. For each pool, then each class, then each client kind: fault 6 if its name is invalid;
-    ///    fault 7 if an earlier entry of the list has the name; then fault 8 if a size of a pool is
-    ///    out of range, fault 9 if the pool of a class does not exist, fault 8 if the count of a
-    ///    client kind is out of range.
+    /// 3. For each pool, then each class, then each client kind: fault 6 if its name is invalid,
+    ///    and fault 7 if an earlier entry of the list has the same name. Then fault 8 if a size of
+    ///    a pool is out of range, fault 9 if the pool of a class does not exist, and fault 8 if the
+    ///    count of a client kind is out of range.
     /// 4. For each action of each class, then of each client kind: fault 8 if a number of units of
-    ///    work is out of range; fault 10 if a submit names a class that does not exist; fault 13 if
-    ///    a get does not name an earlier submit, or names one that an earlier get names.
+    ///    work is out of range, and fault 10 if a submit names a class that does not exist. Fault
+    ///    13 if a get does not name an earlier submit, or names a submit that an earlier get names.
     pub fn build(
         _alloc: Global,
         pools: Vec<Pool>,
@@ -181,8 +194,8 @@ impl Plan {
         Ok(Plan::of_well_formed(pools, classes, clients))
     }
 
-    /// Creates a plan from lists that are known to be well-formed. A parser calls it after it has
-    /// made all checks itself.
+    /// Creates a plan from lists that are known to be well-formed. A parser calls this function
+    /// after it has made all checks itself.
     pub fn of_well_formed(pools: Vec<Pool>, classes: Vec<Class>, clients: Vec<Client>) -> Plan
         requires { IsWellFormed (plan_of_lists pools.items classes.items clients.items) }
         ensures { result ≡ plan_of_lists pools.items classes.items clients.items }
@@ -194,8 +207,8 @@ impl Plan {
         }
     }
 
-    /// Returns the plan with its pools replaced by these. The result must be well-formed. Allocates
-    /// no memory, and drops the old pools.
+    /// Returns the plan with `pools` in place of its pools. The result must be well-formed.
+    /// Allocates no memory, and drops the old pools.
     pub fn with_pools(self, pools: Vec<Pool>) -> Plan
         requires { IsWellFormed (plan_of_lists pools.items self.classes self.clients) }
         ensures { result ≡ record self { pools = pools.items } }
@@ -207,7 +220,7 @@ impl Plan {
         }
     }
 
-    /// Returns the pools, in plan order: at most 64.
+    /// Returns the pools, of which there are at most 64, in plan order.
     pub fn pools(&self) -> &[Pool]
         ensures value { result.now ≡ self.now.pools }
         ensures well_formed { IsWellFormed self.now }
@@ -215,7 +228,7 @@ impl Plan {
         self.pools.as_slice()
     }
 
-    /// Returns the classes of jobs, in plan order: at most 256.
+    /// Returns the classes of jobs, of which there are at most 256, in plan order.
     pub fn classes(&self) -> &[Class]
         ensures value { result.now ≡ self.now.classes }
         ensures well_formed { IsWellFormed self.now }
@@ -223,7 +236,7 @@ impl Plan {
         self.classes.as_slice()
     }
 
-    /// Returns the client kinds, in plan order: at most 256.
+    /// Returns the client kinds, of which there are at most 256, in plan order.
     pub fn clients(&self) -> &[Client]
         ensures value { result.now ≡ self.now.clients }
         ensures well_formed { IsWellFormed self.now }
@@ -231,7 +244,7 @@ impl Plan {
         self.clients.as_slice()
     }
 
-    /// Returns the pool with this index, counted from 0, or `None` if there is none.
+    /// Returns the pool with this index, counted from 0, or `None` if there is no such pool.
     pub fn pool_at(&self, pool: usize) -> Option<&Pool>
         ensures found { IfSome result (λ found. found.now ≡ spec.pool_at self.now pool) }
         ensures absent { IfNone result (spec.pool_at self.now pool ≡ spec.no_pool) }
@@ -240,7 +253,7 @@ impl Plan {
         self.pools.get(pool)
     }
 
-    /// Returns the class with this index, counted from 0, or `None` if there is none.
+    /// Returns the class with this index, counted from 0, or `None` if there is no such class.
     pub fn class_at(&self, class: usize) -> Option<&Class>
         ensures found { IfSome result (λ found. found.now ≡ spec.class_at self.now class) }
         ensures absent { IfNone result (spec.class_at self.now class ≡ spec.no_class) }
@@ -249,7 +262,7 @@ impl Plan {
         self.classes.get(class)
     }
 
-    /// Returns the client kind with this index, counted from 0, or `None` if there is none.
+    /// Returns the client kind with this index, counted from 0, or `None` if there is no such kind.
     pub fn client_at(&self, client: usize) -> Option<&Client>
         ensures found { IfSome result (λ found. found.now ≡ spec.client_at self.now client) }
         ensures absent { IfNone result (spec.client_at self.now client ≡ spec.no_client) }
@@ -259,7 +272,7 @@ impl Plan {
     }
 
     /// Returns the name of the pool with this index, counted from 0, or an empty name if there is
-    /// none.
+    /// no such pool.
     pub fn pool_name(&self, pool: usize) -> &str
         ensures { result.now ≡ (spec.pool_at self.now pool).name }
     {
@@ -270,7 +283,7 @@ impl Plan {
     }
 
     /// Returns the name of the class with this index, counted from 0, or an empty name if there is
-    /// none.
+    /// no such class.
     pub fn class_name(&self, class: usize) -> &str
         ensures { result.now ≡ (spec.class_at self.now class).name }
     {
@@ -281,7 +294,7 @@ impl Plan {
     }
 
     /// Returns the name of the client kind with this index, counted from 0, or an empty name if
-    /// there is none.
+    /// there is no such kind.
     pub fn client_name(&self, client: usize) -> &str
         ensures { result.now ≡ (spec.client_at self.now client).name }
     {
