@@ -27,7 +27,7 @@ pub enum Command {
 /// A command on a plan and a second text.
 #[derive(Clone, Copy, Debug, PartialEq, Eq)]
 pub enum ReviewCommand {
-    /// Replays events on a plan and reports the outcome of each.
+    /// Replays events on a plan, and reports the outcome of each event.
     Replay,
     /// Decides whether a certificate shows that no submit is refused and that no jobs wait for each
     /// other forever.
@@ -43,8 +43,8 @@ pub enum RecordingCommand {
     Conform,
     /// Derives a plan from a recording.
     Learn {
-        /// If the recording does not conform to the learned plan, and this is `true`, the command
-        /// writes the differences in place of the plan.
+        /// Whether the command writes differences in place of the learned plan, if the recording
+        /// does not conform to this plan.
         strict: bool,
     },
 }
@@ -54,7 +54,7 @@ pub enum RecordingCommand {
 pub enum Task {
     /// Searches for a certificate.
     Certify {
-        /// The number of threads that search, 1 to 64. The default is 4.
+        /// The number of threads that search, from 1 to 64. The default is 4.
         workers: usize,
     },
     /// Searches for sizes with which a certificate accepts the plan.
@@ -62,15 +62,16 @@ pub enum Task {
         /// The output format for the sizes.
         sizes_form: SizesForm,
     },
-    /// Runs a plan on threads if a certificate accepts it, and counts the jobs and the units of
-    /// work.
+    /// Runs a plan on threads if a certificate accepts the plan, and counts the jobs and the units
+    /// of work.
     Run {
-        /// The number of times that each repeating client goes through its body, 1 to 1,000,000.
+        /// The number of times that each repeating client passes through its body, from 1 to
+        /// 1,000,000.
         rounds: u64,
     },
     /// Searches for events that show that a plan is unsafe.
     Refute {
-        /// The maximum number of states to search, 1 to 10,000,000. The default is 100,000.
+        /// The maximum number of states to search, from 1 to 10,000,000. The default is 100,000.
         states: usize,
         /// The output format for a witness.
         refute_format: RefuteFormat,
@@ -88,21 +89,22 @@ pub enum Task {
 #[derive(Clone, Copy, PartialEq, Eq)]
 pub struct Cli<'a> {
     pub command: Command,
-    /// The first file. It holds the plan or, if it is the only file, the whole input. `None` and
-    /// `-` mean standard input.
+    /// The first file, which holds the plan. If it is the only file, it holds the whole input.
+    /// `None` and `-` mean standard input.
     pub first: Option<&'a str>,
-    /// The second file, which holds the text that follows the plan. `None` means that only one file
-    /// is named, and `-` means standard input.
+    /// The second file, which holds the text that follows the plan. `None` means that no second
+    /// file is named, and `-` means standard input.
     pub second: Option<&'a str>,
-    /// The file to which a certificate is written if one is found, or `None` if none is to be
-    /// written.
+    /// The file to which a certificate is written if one is found. `None` means that no certificate
+    /// is to be written.
     pub certificate: Option<&'a str>,
 }
 
 /// An output format of `fit`.
 #[derive(Clone, Copy, Debug, PartialEq, Eq)]
 pub enum SizesForm {
-    /// A line for each pool, which marks the sizes that change, and then the number of changes.
+    /// A line for each pool, in which the sizes that change are marked, and then the number of
+    /// changes.
     Sizes,
     /// The plan with the new sizes, and its certificate.
     Bundle,
@@ -129,7 +131,7 @@ pub enum AskInput {
 /// The options of `ask`.
 #[derive(Clone, Copy, Debug, PartialEq, Eq)]
 pub struct AskOptions {
-    /// Whether a safe plan with a warning has the exit status 1 in place of 0.
+    /// Whether the exit status is 1 in place of 0 if the plan is safe but has a warning.
     pub strict: bool,
     pub form: Form,
 }
@@ -151,17 +153,21 @@ pub enum Form {
     Sarif,
 }
 
-/// Parses the arguments of a command line, of which the first is the program's name.
-///
-/// Returns `None` if the arguments name no command. The numbers of a returned command are in their
-/// ranges.
+/// Parses the arguments of a command line, of which the first is the program's name. Returns `None`
+/// if the arguments name no command. The numbers in a returned command are in their ranges.
 ///
 /// # Errors
 ///
-/// Fails if `clap` rejects the arguments, if a number is out of its range, if `--format` names no
-/// format, if two of `--format`, `--json` and `--dot` are given, or if the value of `--certificate`
-/// is empty or `-`. A request for help is returned as an error too. The `Display` of the error is a
-/// text for the user. If memory runs out, the error's `kind` is `ErrorKind::OutOfMemory`.
+/// Returns an error in these cases:
+///
+/// - `clap` rejects the arguments.
+/// - A number is out of its range.
+/// - `--format` names no format, or two of `--format`, `--json` and `--dot` are given.
+/// - The value of `--certificate` is empty or `-`.
+/// - The arguments ask for help.
+/// - Memory runs out. The `kind` of the error is then `ErrorKind::OutOfMemory`.
+///
+/// The `Display` of the error is a text for the user.
 pub fn read_words<'a>(alloc: Global, words: &'a [&'a str]) -> Result<Option<Cli<'a>>, Error>
     ensures command { IfOk result (λ found.
         option_map (λ cli. cli.command) found

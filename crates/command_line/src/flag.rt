@@ -5,7 +5,7 @@ ghost use Rattle.command_line.specs.Command as spec;
 
 use clap::ArgMatches;
 
-/// Returns whether the option with this id was given.
+/// Returns true if the option with this id was given.
 pub(crate) fn is_set(options: &ArgMatches<'_>, id: &str) -> bool
     ensures { result ≡ spec.is_set id.now (rows_of (found_of options.now)) }
 {

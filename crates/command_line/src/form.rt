@@ -8,8 +8,9 @@ use crate::flag::is_set;
 use crate::text::text_of;
 use clap::ArgMatches;
 
-/// Returns the output format that an option requests, or [`Form::Words`] if none does. Returns
-/// `None` if no format has the given name, or if two options request a format.
+/// Returns the output format that an option requests, or [`Form::Words`] if no option requests a
+/// format. Returns `None` if there is no format with the requested name, or if two options request
+/// a format.
 pub(crate) fn form_in(options: &ArgMatches<'_>) -> Option<Form>
     ensures { result ≡ spec.form_in (rows_of (found_of options.now)) }
 {
@@ -34,7 +35,7 @@ fn form_of(name: Option<&str>, json: bool, dot: bool) -> Option<Form>
     }
 }
 
-/// Returns the output format with this name, or `None` if no format has it.
+/// Returns the output format with this name, or `None` if there is no such format.
 pub(crate) fn form_named(name: &str) -> Option<Form>
     ensures { result ≡ spec.form_named name.now }
 {

@@ -1,6 +1,6 @@
 //! The help texts of the program and its commands.
 
-/// The help of a command, except for the list of its arguments, which `clap` writes.
+/// The help of a command, without the list of the command's arguments, which `clap` writes.
 #[derive(Clone, Copy)]
 pub(crate) struct Help {
     /// The position of the command in the list of commands.
@@ -9,7 +9,8 @@ pub(crate) struct Help {
     pub(crate) about: &'static str,
     /// The usage lines, which list the command's arguments.
     pub(crate) usage: &'static str,
-    /// The text after the list of arguments: the input, the answer and the exit statuses.
+    /// The text after the list of arguments, which describes the input, the answer and the exit
+    /// statuses.
     pub(crate) notes: &'static str,
 }
 

@@ -10,8 +10,8 @@ use clap::error::ErrorKind;
 use clap::{ArgMatches, Command, Error};
 use std::alloc::{AllocError, Global};
 
-/// Creates the error for the arguments in `matches`, which `ask` rejects. Its message says what is
-/// wrong with them.
+/// Creates the error for arguments that `ask` rejects. `matches` has these arguments. The message
+/// of the error says what is wrong with them.
 pub(crate) fn refusal(
     alloc: Global,
     sizing: &mut Command<'_>,
