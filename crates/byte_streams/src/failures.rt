@@ -5,7 +5,7 @@ ghost use Rattle.std.specs.Borrow.{ftrue};
 use std::marker::Model;
 
 /// A natural number that only contracts see. It takes no memory and never overflows. An invariant
-/// of [`Failures`] ties it to the counter that the program stores.
+/// of [`Failures`] relates it to the counter that the program stores.
 #[derive(Drop)]
 pub(crate) struct GhostCount {
     pub ghost value: { ℕ },
@@ -29,8 +29,8 @@ impl GhostCount {
     }
 }
 
-/// The number of failed calls of a stream. Contracts see the exact number, but the stored counter
-/// stops at `u64::MAX`.
+/// The number of failed calls of a stream. Contracts see the exact number. The stored counter does
+/// not exceed `u64::MAX`.
 #[derive(Drop)]
 pub(crate) struct Failures {
     pub(crate) exact: GhostCount,

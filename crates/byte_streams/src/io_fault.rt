@@ -4,7 +4,8 @@ ghost use Rattle.std.specs.Prelude.{Some, codes};
 use std::error::Error;
 use std::fmt;
 
-/// The failure of a read from a source or a write to a sink. It does not store the reason.
+/// The failure of a read from a source or of a write to a sink. It has no information about the
+/// reason.
 #[derive(Clone, Copy, Debug, PartialEq, Eq)]
 pub struct IoFault;
 

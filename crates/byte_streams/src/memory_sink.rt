@@ -36,8 +36,8 @@ impl MemorySink {
         }
     }
 
-    /// Limits the number of bytes that each call accepts. With a limit of 0, each call with at
-    /// least one byte fails.
+    /// Sets the maximum number of bytes that each call accepts. If the maximum is 0, each call with
+    /// at least one byte fails.
     pub fn at_most(mut self, max_bytes: usize) -> MemorySink
         ensures written { written_to result ≡ written_to self }
         ensures max_bytes { max_bytes_of result ≡ max_bytes }
@@ -48,7 +48,7 @@ impl MemorySink {
         self
     }
 
-    /// Makes one call fail: the one after the next `calls` calls.
+    /// Makes one call fail, which is the call after the next `calls` calls.
     pub fn failing_after(mut self, calls: u64) -> MemorySink
         ensures written { written_to result ≡ written_to self }
         ensures max_bytes { max_bytes_of result ≡ max_bytes_of self }

@@ -21,8 +21,8 @@ pub struct MemorySource<'a> {
 impl<'a> MemorySource<'a> {
     ghost use Rattle.byte_streams.specs.MemorySource.{left, max_bytes_of, calls_before_fault, failure_count};
 
-    /// Creates a source of `bytes` whose calls never fail. Each call returns as many bytes as fit
-    /// into the slice that it fills.
+    /// Creates a source of `bytes` whose calls never fail. Each call returns as many of the
+    /// remaining bytes as fit into the slice that it fills.
     pub fn new(bytes: &'a [u8]) -> MemorySource<'a>
         ensures left { left result ≡ bytes.now }
         ensures max_bytes { max_bytes_of result ≡ 2 ^ 64 - 1 }
@@ -37,7 +37,7 @@ impl<'a> MemorySource<'a> {
         }
     }
 
-    /// Limits the number of bytes that each call returns. The limit must be at least 1.
+    /// Sets the maximum number of bytes that each call returns. The maximum must be at least 1.
     pub fn at_most(mut self, max_bytes: usize) -> MemorySource<'a>
         requires { 0 < max_bytes }
         ensures left { left result ≡ left self.entry }
@@ -49,7 +49,7 @@ impl<'a> MemorySource<'a> {
         self
     }
 
-    /// Makes one call fail: the one after the next `calls` calls.
+    /// Makes one call fail, which is the call after the next `calls` calls.
     pub fn failing_after(mut self, calls: u64) -> MemorySource<'a>
         ensures left { left result ≡ left self.entry }
         ensures max_bytes { max_bytes_of result ≡ max_bytes_of self.entry }
@@ -60,7 +60,7 @@ impl<'a> MemorySource<'a> {
         self
     }
 
-    /// Returns the bytes that were not read yet.
+    /// Returns the bytes that have not been read yet.
     pub fn remaining(&self) -> &'a [u8]
         ensures { result.now ≡ left self.now }
     {

@@ -18,8 +18,9 @@ pub trait Source {
     // The number of failed calls.
     ghost failures: { Self → ℕ };
 
-    /// Reads the next bytes into the start of `piece`, and returns how many were read. A result of
-    /// 0 means the end of the input, if `piece` is not empty. A call that fails loses no bytes.
+    /// Reads the next bytes into the start of `piece`, and returns the number of bytes that were
+    /// read. If `piece` is not empty, a result of 0 means the end of the input. A call that fails
+    /// loses no bytes.
     fn read(&mut self, piece: &mut [u8]) -> Result<usize, IoFault>
         ensures bound { ReadsAtMost result piece.new }
         ensures bytes { ReadConsumes (remaining self.old) (remaining self.new) result piece.new }
@@ -68,17 +69,19 @@ impl From<IoFault> for InputError {
 const INITIAL_SIZE: usize = 4096;
 
 /// The maximum number of bytes by which the buffer grows in one step. New space is filled with
-/// zeros, so this limit keeps a long input from needing much more memory than its own size.
+/// zeros. With this limit, a long input does not need much more memory than its own size.
 const MAX_GROWTH: usize = 65_536;
 
-/// Reads to the end of the input, or until `limit` bytes were read.
+/// Reads to the end of the input, or until `limit` bytes were read, and returns the bytes.
 ///
 /// Each iteration except the last reads at least one byte, so the loop ends.
 ///
 /// # Errors
 ///
-/// Returns `Memory` if memory runs out, and `Fault` if a call of the source fails. In both cases at
-/// most `limit` bytes were taken from the source.
+/// - Returns `Memory` if memory runs out.
+/// - Returns `Fault` if a call of the source fails.
+///
+/// In both cases, at most `limit` bytes were read from the source.
 pub fn read_up_to<S: Source>(
     alloc: Global,
     source: &mut S,

@@ -2,7 +2,7 @@
 ghost use Rattle.std.specs.Prelude.{◌≡◌, ◌-◌, None, Some, IsTrue, ◌↔◌};
 ghost use Rattle.byte_streams.specs.ScriptedFault.{calls_after};
 
-/// The number of calls before the call that is to fail, or `None` if no call is to fail.
+/// The number of calls before the call that must fail, or `None` if no call must fail.
 #[derive(Clone, Copy)]
 pub(crate) struct ScriptedFault {
     pub(crate) calls_before: Option<u64>,
@@ -23,7 +23,8 @@ impl ScriptedFault {
         }
     }
 
-    /// Counts this call and returns whether it is to fail. Returns `true` at most once.
+    /// Counts this call, and returns `true` if this call must fail. This is so for at most one
+    /// call.
     pub(crate) fn is_due(&mut self) -> bool
         ensures due { IsTrue result ↔ (self.old.calls_before ≡ Some 0) }
         ensures left { self.new.calls_before ≡ calls_after self.old.calls_before }

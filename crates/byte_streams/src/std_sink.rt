@@ -8,7 +8,8 @@ use crate::std_source::TRIES;
 use crate::{IoFault, Sink};
 use std::io::{ErrorKind, Write};
 
-/// A sink that writes to `W`. Contracts know the written bytes if the contracts of `W` state them.
+/// A sink that writes to a writer of type `W`. If the contracts of `W` state which bytes were
+/// written, so do the contracts of this sink.
 #[derive(Drop)]
 pub struct StdSink<W> {
     writer: W,
@@ -29,7 +30,8 @@ impl<W: Write> StdSink<W> {
         }
     }
 
-    /// Returns the writer. It is not flushed: if it has a buffer, the caller must flush it.
+    /// Returns the writer without flushing it. If the writer has a buffer, the caller must flush
+    /// it.
     pub fn into_inner(self) -> W
         ensures { result ≡ writer_of self }
     {
@@ -44,9 +46,16 @@ impl<W: Write> Sink for StdSink<W> {
 
     ghost failures = { failure_count };
 
-    /// Writes to the writer once. If a signal interrupts the call, tries again, up to a million
-    /// times in total. It is a fault if all tries are interrupted, if the writer returns another
-    /// error, or if it accepts no byte of a nonempty slice.
+    /// Makes one call of the writer. If a signal interrupts the call, repeats it, up to a million
+    /// calls in total.
+    ///
+    /// # Errors
+    ///
+    /// Returns a fault in these cases:
+    ///
+    /// - All calls are interrupted.
+    /// - The writer returns another error.
+    /// - The writer accepts no byte of a slice that is not empty.
     fn write(&mut self, bytes: &[u8]) -> Result<usize, IoFault> {
         let outcome = write_retrying(&mut self.writer, bytes);
         if outcome.is_err() {

@@ -7,11 +7,11 @@ use crate::failures::Failures;
 use crate::{IoFault, Source};
 use std::io::{ErrorKind, Read};
 
-/// The maximum number of tries of a call if signals interrupt it.
+/// The maximum number of times that a call is made if signals interrupt it.
 pub(crate) const TRIES: u32 = 1_000_000;
 
-/// A source that reads from `R`. Contracts know the remaining bytes if the contracts of `R` state
-/// them.
+/// A source that reads from a reader of type `R`. If the contracts of `R` state which bytes remain,
+/// so do the contracts of this source.
 #[derive(Drop)]
 pub struct StdSource<R> {
     reader: R,
@@ -32,8 +32,8 @@ impl<R: Read> StdSource<R> {
         }
     }
 
-    /// Returns the reader. The source has no buffer, so the reader is exactly after the bytes that
-    /// were read.
+    /// Returns the reader. The source has no buffer, so the next byte of the reader is the first
+    /// one that this source has not returned.
     pub fn into_inner(self) -> R
         ensures { result ≡ reader_of self }
     {
@@ -48,9 +48,12 @@ impl<R: Read> Source for StdSource<R> {
 
     ghost failures = { failure_count };
 
-    /// Reads from the reader once. If a signal interrupts the call, tries again, up to a million
-    /// times in total. It is a fault if all tries are interrupted, or if the reader returns another
-    /// error.
+    /// Makes one call of the reader. If a signal interrupts the call, repeats it, up to a million
+    /// calls in total.
+    ///
+    /// # Errors
+    ///
+    /// Returns a fault if all calls are interrupted, or if the reader returns another error.
     fn read(&mut self, piece: &mut [u8]) -> Result<usize, IoFault> {
         let outcome = read_retrying(&mut self.reader, piece);
         if outcome.is_err() {

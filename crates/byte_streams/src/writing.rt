@@ -14,8 +14,8 @@ pub trait Sink {
     // The number of failed calls.
     ghost failures: { Self → ℕ };
 
-    /// Writes a prefix of `bytes` and returns its length, which is at least 1 unless `bytes` is
-    /// empty. A call that fails writes nothing.
+    /// Writes a prefix of `bytes`, and returns the length of this prefix. The length is at least 1
+    /// unless `bytes` is empty. A call that fails writes nothing.
     fn write(&mut self, bytes: &[u8]) -> Result<usize, IoFault>
         ensures bound { WritesAtMost result bytes.now }
         ensures some { 0 < length bytes.now → IfOk result (λ count. 0 < count) }
@@ -23,8 +23,12 @@ pub trait Sink {
         ensures failed { failures self.new ≡ failures self.old + (if is_ok result then 0 else 1) };
 }
 
-/// Writes all of `bytes`, in as many calls as the sink needs. Stops at the first call that fails;
-/// part of `bytes` may then be written.
+/// Writes all of `bytes`, in as many calls as the sink needs.
+///
+/// # Errors
+///
+/// Stops at the first call that fails, and returns its fault. A prefix of `bytes` may then be
+/// written.
 pub fn write_all<K: Sink>(sink: &mut K, bytes: &[u8]) -> Result<(), IoFault>
     ensures ok { OnOk result (Appends (K.written sink.old) (K.written sink.new) bytes.now) }
     ensures err { OnErr result (AppendsFront (K.written sink.old) (K.written sink.new) bytes.now) }
