@@ -8,7 +8,7 @@ ghost use Rattle.report_page.specs.Page as spec;
 use crate::page_template::{AFTER, BEFORE};
 use std::alloc::{AllocError, Global};
 
-/// Returns the page of an answer, given the answer's JSON text on one line.
+/// Returns the HTML page of an answer. `json` is the JSON text of the answer, on one line.
 ///
 /// # Errors
 ///
@@ -19,8 +19,8 @@ pub fn page_of(alloc: Global, json: &str) -> Result<String, AllocError>
     page_between(alloc, BEFORE, json, AFTER)
 }
 
-/// Returns a page of three parts: the text `before`, the JSON text, escaped for a script element,
-/// and the text `after`.
+/// Returns a page with three parts, one after the other: the text `before`, the JSON text and the
+/// text `after`. The JSON text is escaped for a script element.
 fn page_between(alloc: Global, before: &str, json: &str, after: &str) -> Result<String, AllocError>
     ensures { IfOk result (λ page.
         string_bytes page ≡ (before.now ++ spec.script_text json.now) ++ after.now) }
@@ -41,8 +41,8 @@ fn push_script_text(page: &mut String, json: &str) -> Result<(), AllocError>
     Ok(())
 }
 
-/// Appends a character, escaped for a script element. Replaces `<` by an escape, so that no tag
-/// begins in the text. Omits a newline, which a JSON text has only at its end.
+/// Appends a character, escaped for a script element. `<` is replaced by an escape, so that no tag
+/// begins in the text. A newline is omitted, because a JSON text has a newline only at its end.
 fn push_script_char(page: &mut String, c: char) -> Result<(), AllocError>
     ensures { Pushes result page.old page.new (spec.script_char c) }
 {
