@@ -14,23 +14,26 @@ const PLAN: &str = "a plan";
 
 const CERTIFICATE: &str = "a certificate";
 
-/// A likely mistake in a file that the arguments name. It explains why the command found a fault in
-/// a text.
+/// A likely mistake in a file that the arguments name. The mistake explains why the command found a
+/// fault in a text.
 #[derive(Clone, Copy)]
 pub(crate) enum Hint {
-    /// The file holds only one text, but the command also needs this second text.
+    /// The file has only one text, but the command also needs a second text. The field is the name
+    /// of this second text.
     MissingText(&'static str),
-    /// The separator `%%` in the file is followed by a carriage return, so it separates nothing.
+    /// The separator `%%` in the file is followed by a carriage return, so it does not separate two
+    /// texts.
     ReturnAfterSeparator,
-    /// The file looks like a text of the kind `found`, but the command reads it as one of the kind
-    /// `wanted`.
+    /// The file looks like a text of the kind `found`, but the command reads it as a text of the
+    /// kind `wanted`.
     Misplaced {
         found: &'static str,
         wanted: &'static str,
     },
-    /// The command reads the file as a recording, but the file does not begin as one.
+    /// The command reads the file as a recording, but the file does not begin like a recording.
     NotRecording,
-    /// The command reads the file as events, but its first line ends with a carriage return.
+    /// The command reads the file as events, but the first line of the file ends with a carriage
+    /// return.
     ReturnsInEvents,
 }
 
@@ -49,8 +52,10 @@ pub(crate) fn reason_of(rt: &impl Files, name: &str) -> &'static str {
 }
 
 /// Returns the reason why the file could not be written, or an empty text if the reason is not
-/// known. Opens the file again, but neither creates nor changes it. Opens only a regular file,
-/// because opening a pipe could block.
+/// known.
+///
+/// To find the reason, opens the file again, but neither creates nor changes it. Opens the file
+/// only if it is a regular file, because opening a pipe could block.
 pub(crate) fn reason_unwritten(rt: &impl Files, name: &str) -> &'static str {
     if is_special(rt, name) {
         return "";
@@ -67,8 +72,7 @@ pub(crate) fn reason_unwritten(rt: &impl Files, name: &str) -> &'static str {
     }
 }
 
-/// Returns whether the directory part of this file name exists. Returns `true` if the name has no
-/// directory part.
+/// Returns `true` if the directory in this file name exists, or if the name has no directory.
 fn has_directory(rt: &impl Files, name: &str) -> bool {
     match name.rsplit_once('/') {
         Some((directory, _)) if !directory.is_empty() => fs::metadata(rt, directory).is_ok(),
@@ -76,7 +80,7 @@ fn has_directory(rt: &impl Files, name: &str) -> bool {
     }
 }
 
-/// Returns whether there is a file of this name that is not a regular file, such as a pipe.
+/// Returns `true` if there is a file of this name and it is not a regular file, for example a pipe.
 fn is_special(rt: &impl Files, name: &str) -> bool {
     match fs::metadata(rt, name) {
         Ok(found) => !found.is_file(),
@@ -91,9 +95,9 @@ fn is_directory(rt: &impl Files, name: &str) -> bool {
     }
 }
 
-/// Returns the name of a file that the arguments `words` name, and a hint about a likely mistake in
-/// it. To be called after the command found a fault in a text. Returns `None` if no file shows a
-/// known mistake.
+/// Returns the name of a file with a likely mistake, and a hint about this mistake. The file is one
+/// that the arguments `words` name. Returns `None` if no such file shows a known mistake. The
+/// caller must have run the command, and the command must have found a fault in a text.
 pub(crate) fn hint_of<'a>(
     rt: &impl Files,
     alloc: Global,
@@ -120,8 +124,8 @@ fn text_of(rt: &impl Files, alloc: Global, command: Command, name: &str) -> Opti
 }
 
 /// Returns a hint about the first file, whose content is `text`. Returns `None` if the file shows
-/// no known mistake, and for `ask`, whose answer explains the mistake. `is_alone` says that the
-/// arguments name no second file.
+/// no known mistake. Also returns `None` for `ask`, whose answer already explains the mistake.
+/// `is_alone` says whether the first file is the only file that the arguments name.
 fn hint_of_first(command: Command, text: &[u8], is_alone: bool) -> Option<Hint> {
     if let Command::OnRecording(RecordingCommand::Learn { .. }) = command {
         return hint_of_recording(text);
@@ -139,8 +143,8 @@ fn hint_of_first(command: Command, text: &[u8], is_alone: bool) -> Option<Hint> 
     hint_of_misplaced(text, PLAN)
 }
 
-/// Returns the hint about a file that has only one text: the text `second` is missing, or a
-/// carriage return follows the separator `%%`.
+/// Returns the hint about a file that has only one text. The hint says that a carriage return
+/// follows the separator `%%`, or that the text `second` is missing.
 fn missing_text(text: &[u8], second: &'static str) -> Hint {
     if has_line(text, b"%%\r") {
         Hint::ReturnAfterSeparator
@@ -162,7 +166,7 @@ fn hint_of_recording(text: &[u8]) -> Option<Hint> {
 }
 
 /// Returns a hint about the second file, whose content is `text`. Returns `None` if the file shows
-/// no known mistake, and for `ask`, whose answer explains the mistake.
+/// no known mistake. Also returns `None` for `ask`, whose answer already explains the mistake.
 fn hint_of_second(command: Command, text: &[u8]) -> Option<Hint> {
     match command {
         Command::OnRecording(RecordingCommand::Conform) => hint_of_recording(text),
@@ -185,8 +189,8 @@ fn hint_of_events(text: &[u8]) -> Option<Hint> {
     }
 }
 
-/// Returns a hint if the text looks like a text of a known kind other than `wanted`, and otherwise
-/// `None`.
+/// Returns a hint if the text looks like a text of a known kind other than `wanted`. Returns `None`
+/// otherwise.
 fn hint_of_misplaced(text: &[u8], wanted: &'static str) -> Option<Hint> {
     let found = kind_of(text)?;
     if found == wanted {
@@ -196,8 +200,8 @@ fn hint_of_misplaced(text: &[u8], wanted: &'static str) -> Option<Hint> {
     }
 }
 
-/// Returns which kind of text this looks like: a recording, a certificate or a plan. Returns `None`
-/// if it looks like none of them.
+/// Returns the kind of text that this text looks like: a recording, a certificate or a plan.
+/// Returns `None` if it looks like none of these.
 fn kind_of(text: &[u8]) -> Option<&'static str> {
     if text.starts_with(b"recording 1") {
         Some("a recording")
@@ -210,7 +214,7 @@ fn kind_of(text: &[u8]) -> Option<&'static str> {
     }
 }
 
-/// Returns whether a line of the text begins with `[[pool]]`, `[[class]]` or `[[client]]`.
+/// Returns `true` if a line of the text begins with `[[pool]]`, `[[class]]` or `[[client]]`.
 fn has_header(text: &[u8]) -> bool {
     text.split(|byte| *byte == b'\n')
         .any(|line| is_header(line))
@@ -222,7 +226,7 @@ fn is_header(line: &[u8]) -> bool {
         || line.starts_with(b"[[client]]")
 }
 
-/// Returns whether the first line of the text ends with a carriage return.
+/// Returns `true` if the first line of the text ends with a carriage return.
 fn ends_with_return(text: &[u8]) -> bool {
     match text.split(|byte| *byte == b'\n').next() {
         Some(line) => line.ends_with(b"\r"),
@@ -231,7 +235,7 @@ fn ends_with_return(text: &[u8]) -> bool {
 }
 
 /// Returns the name of the command's second text. Returns `None` if the command needs only one
-/// text, and for `ask`.
+/// text. Also returns `None` for `ask`.
 fn second_text(command: Command) -> Option<&'static str> {
     match command {
         Command::Sequential(ReviewCommand::Replay) => Some("the events"),

@@ -78,7 +78,7 @@ fn print_hint(rt: &impl Eprint, name: &str, hint: Hint) -> io::Result<()> {
     }
 }
 
-/// Returns whether the error is a request for the version.
+/// Returns `true` if the error is a request for the version.
 fn asks_for_version(fault: &CliError<'_>) -> bool {
     match fault {
         CliError::Words(error) => error.kind() == ErrorKind::DisplayVersion,
@@ -99,7 +99,8 @@ fn print_version(rt: &(impl Print + Eprint + Files)) -> ExitCode {
     }
 }
 
-/// Returns the arguments of the command line. Fails if one is not UTF-8, or if memory runs out.
+/// Returns the arguments of the command line. Returns an error if an argument is not UTF-8, or if
+/// memory runs out.
 fn words_of(rt: &HostRuntime) -> io::Result<Vec<String>> {
     let mut words: Vec<String> = Vec::new(rt.alloc());
     for word in env::args(rt)? {
@@ -108,7 +109,7 @@ fn words_of(rt: &HostRuntime) -> io::Result<Vec<String>> {
     Ok(words)
 }
 
-/// Reports that the arguments could not be read, or that memory ran out, and returns the exit
+/// Reports that the arguments could not be read or that memory ran out, and returns the exit
 /// status.
 fn unread_words(rt: &(impl Eprint + Files), kind: io::ErrorKind) -> ExitCode {
     if kind == io::ErrorKind::OutOfMemory {
@@ -118,8 +119,8 @@ fn unread_words(rt: &(impl Eprint + Files), kind: io::ErrorKind) -> ExitCode {
     ExitCode::from(USAGE)
 }
 
-/// Reports an error on standard error and returns its exit status. Ignores a failure of standard
-/// error.
+/// Reports an error on standard error, and returns the exit status of the error. Does nothing more
+/// if standard error fails.
 fn ended(rt: &(impl Eprint + Files), fault: &CliError<'_>) -> ExitCode {
     let _ = print_error(rt, fault);
     ExitCode::from(fault.code())
