@@ -303,7 +303,7 @@ def void_text(word, what, jobs=None):
     """Returns what happened, to a job or, with a number of jobs, to jobs of a pool."""
     if word == "unseen":
         return f"{jobs} jobs were run in pool {what} that no line mentions"
-    did = {"refused": "was refused", "cancel": "was cancelled", "removed": "was removed from its queue", "threw": "ended its thread with an exception"}
+    did = {"refused": "was refused", "cancel": "was cancelled", "removed": "was removed from its queue", "threw": "threw an exception"}
     return f"{described(what)} {did[word]}"
 
 

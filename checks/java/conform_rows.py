@@ -106,7 +106,7 @@ ROWS = [
     ("a timeout whose path is there", PLAN.replace(', "get y"', ""), round_of("round 0 submit 0 b p", "round 0 timeout 0"), [], []),
     ("a cancel", PLAN, round_of("round 0 submit 0 b p", "round 0 cancel 0", "round 0 got 0"), [], ["line 5: a yes is void from here on: job 0 of class b in pool p was cancelled"]),
     ("a job that threw", PLAN.replace(', "get y"', ""), round_of("round 0 submit 0 b p", "job 0 start", "job 0 threw"), [],
-     ["line 6: a yes is void from here on: job 0 of class b in pool p ended its thread with an exception"]),
+     ["line 6: a yes is void from here on: job 0 of class b in pool p threw an exception"]),
     ("a call of invokeAny", PLAN, round_of("round 0 any p"), [], ["line 4: a yes is void from here on: round 0 of kind c called invokeAny in pool p"]),
     ("a job that is removed", PLAN.replace(', "get y"', ""), round_of("round 0 submit 0 b p", "removed 0"), [],
      ["line 5: a yes is void from here on: job 0 of class b in pool p was removed from its queue"]),

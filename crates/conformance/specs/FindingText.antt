@@ -72,7 +72,7 @@ event_text (event.TimedOut actor job) name pool = (codes "a get of " ++ job_text
 event_text (event.Interrupted actor job) name pool = (codes "a get of " ++ job_text job name pool) ++ codes " was interrupted"
 event_text (event.Cancelled actor job) name pool = job_text job name pool ++ codes " was cancelled"
 event_text (event.Removed job) name pool = job_text job name pool ++ codes " was removed from its queue"
-event_text (event.Threw job) name pool = job_text job name pool ++ codes " ended its thread with an exception"
+event_text (event.Threw job) name pool = job_text job name pool ++ codes " threw an exception"
 event_text (event.AnyInvoked actor) name pool = short_actor_text actor name ++ (codes " called invokeAny in pool " ++ pool)
 event_text (event.Unseen jobs) name pool = decimal jobs ++ codes " jobs were run in pool " ++ pool ++ codes " that no line mentions"
 

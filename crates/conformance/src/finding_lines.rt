@@ -190,7 +190,7 @@ fn push_event(
         }
         InvalidatingEvent::Threw { job } => {
             push_job(text, job, name, pool)?;
-            text.push_str(" ended its thread with an exception")
+            text.push_str(" threw an exception")
         }
         InvalidatingEvent::AnyInvoked { actor } => {
             push_short_actor(text, actor, name)?;

@@ -11,5 +11,5 @@ event_text (event.Interrupted actor job) = codes "a get of job " ++ decimal job 
 event_text (event.Cancelled actor job) = codes "job " ++ decimal job ++ codes " was cancelled"
 event_text (event.AnyInvoked actor) = codes "invokeAny was called"
 event_text (event.Removed job) = codes "job " ++ decimal job ++ codes " was removed from its queue"
-event_text (event.Threw job) = codes "job " ++ decimal job ++ codes " ended its thread with an exception"
+event_text (event.Threw job) = codes "job " ++ decimal job ++ codes " threw an exception"
 event_text (event.Unseen jobs) = decimal jobs ++ codes " jobs were run that no line mentions"

@@ -72,10 +72,7 @@ impl fmt::Display for InvalidatingEvent {
             InvalidatingEvent::Cancelled { job, .. } => write!(f, "job {job} was cancelled"),
             InvalidatingEvent::AnyInvoked { .. } => write!(f, "invokeAny was called"),
             InvalidatingEvent::Removed { job } => write!(f, "job {job} was removed from its queue"),
-            InvalidatingEvent::Threw { job } => write!(
-                f,
-                "job {job} ended its thread with an exception"
-            ),
+            InvalidatingEvent::Threw { job } => write!(f, "job {job} threw an exception"),
             InvalidatingEvent::Unseen { jobs } => write!(
                 f,
                 "{jobs} jobs were run that no line mentions"
