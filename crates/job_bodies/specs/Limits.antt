@@ -1,6 +1,6 @@
 -- The documented values of the limits. All other definitions and the code use the constants.
 use Rattle.std.specs.Prelude.{◌≡◌}
-use Rattle.job_bodies.specs.declared.limits.TheConstants.{MAX_POOLS, MAX_CLASSES, MAX_CLIENT_KINDS, MAX_ACTIONS, MAX_SIZE, MAX_WORK, MAX_NAME_BYTES, MAX_WEIGHT, MAX_PLAN_BYTES, MAX_CERT_BYTES, MAX_EVENT_BYTES, MAX_INPUT_BYTES, MAX_RECORDED_BYTES, MAX_LINE_NUMBER, MAX_RECORDED_ROUNDS, MAX_PATH_STEPS, MAX_WORKERS, DEFAULT_WORKERS, MAX_ROUNDS, MAX_STATES, DEFAULT_STATES, MAX_RUN_CLIENTS, MAX_RUN_CARRIERS, MAX_RUN_EVENTS}
+use Rattle.job_bodies.specs.declared.limits.TheConstants.{MAX_POOLS, MAX_CLASSES, MAX_CLIENT_KINDS, MAX_ACTIONS, MAX_SIZE, MAX_WORK, MAX_NAME_BYTES, MAX_WEIGHT, MAX_PLAN_BYTES, MAX_CERT_BYTES, MAX_EVENT_BYTES, MAX_INPUT_BYTES, MAX_RECORDED_BYTES, MAX_LINE_NUMBER, MAX_RECORDED_ROUNDS, MAX_WORKERS, DEFAULT_WORKERS, MAX_ROUNDS, MAX_STATES, DEFAULT_STATES, MAX_RUN_CLIENTS, MAX_RUN_CARRIERS, MAX_RUN_EVENTS}
 
 -- the limits of a plan and of its numbers, and of the weights of a certificate
 pub record PlanLimitsAreStated : Type 0 where
@@ -13,7 +13,7 @@ pub record PlanLimitsAreStated : Type 0 where
   pub name : MAX_NAME_BYTES ≡ 32
   pub weight : MAX_WEIGHT ≡ 1000000000
 
--- the limits of texts, of numbers in lines, of recordings, and of the comparison of a body with a recorded path
+-- the limits of texts, of numbers in lines, and of recordings
 pub record TextLimitsAreStated : Type 0 where
   pub plan : MAX_PLAN_BYTES ≡ 1048576
   pub certificate : MAX_CERT_BYTES ≡ 1048576
@@ -22,7 +22,6 @@ pub record TextLimitsAreStated : Type 0 where
   pub recorded : MAX_RECORDED_BYTES ≡ 268435456
   pub number : MAX_LINE_NUMBER ≡ 1000000000
   pub recorded_rounds : MAX_RECORDED_ROUNDS ≡ 1000000001
-  pub path_steps : MAX_PATH_STEPS ≡ 1000000
 
 -- the limits and defaults of the threads of a search or check and of the states of a search, and the limits of a run
 pub record RunLimitsAreStated : Type 0 where

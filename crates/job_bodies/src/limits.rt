@@ -42,8 +42,6 @@ pub const MAX_LINE_NUMBER: usize = 1_000_000_000;
 /// The maximum number of rounds in a recording, which are numbered from 0 to [`MAX_LINE_NUMBER`]. A
 /// round is one pass of a client through its body.
 pub const MAX_RECORDED_ROUNDS: u64 = 1_000_000_001;
-/// The maximum number of steps in which a body is compared with a recorded path.
-pub const MAX_PATH_STEPS: u64 = 1_000_000;
 
 /// The maximum number of threads of a search or a check. The minimum is 1.
 pub const MAX_WORKERS: u64 = 64;
