@@ -243,7 +243,7 @@ fn words_of_max(alloc: Global, plan: &Plan, number: usize) -> Result<String, All
     let core = pool.core;
     let max = pool.max;
     format!(in alloc;
-        "pool {name}: max {max} has no effect: a thread above core {core} starts only if a submit finds the queue full, and none does"
+        "pool {name}: max {max} has no effect, and max = {core} does the same: a thread above core {core} starts only if a submit finds the queue full, and none does"
     )
 }
 
