@@ -31,9 +31,9 @@ pub record Parts : Type 0 where
   pub warnings : Data
   pub witness : Data
 
--- the members of an answer about a plan, which has no faults
+-- the members that these parts give
 abbrev pub parts_of : AnswerParts → Parts
-parts_of m = record { assumptions = view m.assumptions; faults = array (items_of []); omitted = 0; plan = view m.plan; pools = view m.pools; sizes = view m.sizes; warnings = view m.warnings; witness = view m.witness }
+parts_of m = record { assumptions = view m.assumptions; faults = view m.faults; omitted = m.omitted; plan = view m.plan; pools = view m.pools; sizes = view m.sizes; warnings = view m.warnings; witness = view m.witness }
 
 -- the object of an answer with this name, its keys in ascending order
 unfoldable pub answer_data : List ℕ → List ℕ → Parts → Data

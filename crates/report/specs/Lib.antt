@@ -9,6 +9,7 @@ pub mod Picture
 pub mod Waits
 pub mod Places
 pub mod Json
+pub mod JsonObject
 pub mod EventRows
 pub mod EventSteps
 pub mod Performed

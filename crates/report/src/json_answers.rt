@@ -5,26 +5,30 @@
 ghost use Rattle.std.specs.Prelude.{◌≡◌, IfOk, string_bytes};
 ghost use Rattle.serde_json.specs.View.{view as data_of};
 ghost use Rattle.report.specs.Json as spec;
+ghost use Rattle.report.specs.JsonLine.{IsLineOf};
 
 use crate::PlanFinding;
 use crate::json_faults::{faults_value, single_fault};
 use crate::json_findings::finding_parts;
 use crate::json_line::line_of;
+use crate::json_object::Object;
 use crate::json_plan::text_only_value;
+use crate::json_values::empty_list;
 use crate::version::VERSION;
 use diagnostics::{Faults, PlanPlaces, Warning};
 use job_bodies::Plan;
-use serde_json::{Value, json};
+use serde_json::Value;
 use std::alloc::{AllocError, Global};
 
 /// The version of the JSON format, which each answer states as its member `format`.
 const FORMAT: u8 = 1;
 
-/// The values of some members in the JSON object of an answer about a plan. Each field has the name
-/// of its member.
+/// Values in the JSON object of an answer. Each field is named after its member of the object.
 #[derive(Drop)]
 pub(crate) struct AnswerParts {
     pub(crate) assumptions: Value,
+    pub(crate) faults: Value,
+    pub(crate) omitted: usize,
     pub(crate) plan: Value,
     pub(crate) pools: Value,
     pub(crate) sizes: Value,
@@ -72,8 +76,7 @@ pub fn faults_json(
         (λ line. spec.TellsFaults file.now text.now faults.now (string_bytes line)) }
 {
     let fault_list = faults_value(alloc, faults)?;
-    let value = faulty_value(alloc, file, text, fault_list, faults.omitted)?;
-    line_of(alloc, &value)
+    faulty_line(alloc, file, text, fault_list, faults.omitted)
 }
 
 /// Returns the JSON text of a fault that has no place in the plan's text. `number` is the number of
@@ -94,8 +97,7 @@ pub fn fault_json(
         (λ line. spec.TellsFault file.now text.now number words.now (string_bytes line)) }
 {
     let fault_list = single_fault(alloc, number, words)?;
-    let value = faulty_value(alloc, file, text, fault_list, 0)?;
-    line_of(alloc, &value)
+    faulty_line(alloc, file, text, fault_list, 0)
 }
 
 /// Returns the name of the answer, such as `NOT SAFE`.
@@ -109,8 +111,8 @@ fn word_of(finding: &PlanFinding) -> &'static str
     }
 }
 
-/// Creates the JSON object of an answer about a plan. `word` is the name of the answer, such as
-/// `NOT SAFE`. `file` is the name of the plan's file.
+/// Creates the object of an answer. `word` is the name of the answer, such as `NOT SAFE`, and `file`
+/// is the name of the plan's file.
 #[tactic(auto, unfolding(crate::specs::Json::answer_data))]
 fn answer_value(
     alloc: Global,
@@ -123,54 +125,54 @@ fn answer_value(
 {
     let AnswerParts {
         assumptions,
+        faults,
+        omitted,
         plan,
         pools,
         sizes,
         warnings,
         witness,
     } = parts;
-    json!(in alloc; {
-        "answer": word,
-        "assumptions": assumptions,
-        "faults": [],
-        "file": file,
-        "format": FORMAT,
-        "omitted": 0_u64,
-        "plan": plan,
-        "pools": pools,
-        "sizes": sizes,
-        "version": VERSION,
-        "warnings": warnings,
-        "witness": witness
-    })
+    Object::new(alloc)
+        .text("answer", word)
+        .value("assumptions", assumptions)
+        .value("faults", faults)
+        .text("file", file)
+        .value("format", Value::from(FORMAT))
+        .value("omitted", Value::from(omitted))
+        .value("plan", plan)
+        .value("pools", pools)
+        .value("sizes", sizes)
+        .text("version", VERSION)
+        .value("warnings", warnings)
+        .value("witness", witness)
+        .done()
 }
 
-/// Creates the JSON object of the answer `FAULTS`. `faults` is the JSON list of the reported
-/// faults, and `omitted` is the number of faults that are left out. `file` is the name of the
-/// plan's file, and `text` is the content of this file.
-#[tactic(auto, unfolding(crate::specs::Json::answer_data))]
-fn faulty_value(
+/// Returns the JSON text of the answer `FAULTS`. `faults` lists the faults that are reported, and
+/// `omitted` is the number of those that are left out. `file` is the name of the plan's file, and
+/// `text` its content.
+fn faulty_line(
     alloc: Global,
     file: &str,
     text: &[u8],
     faults: Value,
     omitted: usize,
-) -> Result<Value, AllocError>
-    ensures { IfOk result
-        (λ value. data_of value ≡ spec.faulty_data file.now text.now (data_of faults) omitted) }
+) -> Result<String, AllocError>
+    ensures { IfOk result (λ line. IsLineOf
+        (spec.faulty_data file.now text.now (data_of faults) omitted) (string_bytes line)) }
 {
-    json!(in alloc; {
-        "answer": "FAULTS",
-        "assumptions": [],
-        "faults": faults,
-        "file": file,
-        "format": FORMAT,
-        "omitted": omitted,
-        "plan": text_only_value(alloc, text)?,
-        "pools": [],
-        "sizes": null,
-        "version": VERSION,
-        "warnings": [],
-        "witness": null
-    })
+    let plan = text_only_value(alloc, text)?;
+    let parts = AnswerParts {
+        assumptions: empty_list(alloc),
+        faults,
+        omitted,
+        plan,
+        pools: empty_list(alloc),
+        sizes: Value::Null,
+        warnings: empty_list(alloc),
+        witness: Value::Null,
+    };
+    let value = answer_value(alloc, "FAULTS", file, parts)?;
+    line_of(alloc, &value)
 }

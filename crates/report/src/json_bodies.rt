@@ -4,11 +4,12 @@ ghost use Rattle.std.specs.Prelude.{◌≡◌, IfOk};
 ghost use Rattle.serde_json.specs.View.{view};
 ghost use Rattle.report.specs.JsonPlan as spec;
 
+use crate::json_object::Object;
 use crate::json_places::{action_place, column_value, line_value};
 use diagnostics::BodyPlaces;
 use job_bodies::{Action, Plan, has_get_of};
 use plan_text::TextPlace;
-use serde_json::{Value, json};
+use serde_json::Value;
 use std::alloc::{AllocError, Global};
 
 /// Converts a body to a JSON list of its actions. `index` is the index of the class or client kind
@@ -48,6 +49,7 @@ fn action_entry(
     action_value(alloc, plan, place, body, number, *action)
 }
 
+#[tactic(auto, unfolding(crate::specs::JsonPlan::work_data, crate::specs::JsonPlan::submit_data, crate::specs::JsonPlan::get_data))]
 fn action_value(
     alloc: Global,
     plan: &Plan,
@@ -60,11 +62,25 @@ fn action_value(
         (λ value. view value ≡ spec.action_data plan.now place body.now number action) }
 {
     match action {
-        Action::Work(units) => work_value(alloc, place, units),
-        Action::Submit(class) => {
-            submit_value(alloc, place, plan.class_name(class), body, number)
-        }
-        Action::Get(submit) => get_value(alloc, place, submit),
+        Action::Work(units) => Object::new(alloc)
+            .text("action", "work")
+            .value("column", column_value(place))
+            .value("line", line_value(place))
+            .value("units", Value::from(units))
+            .done(),
+        Action::Submit(class) => Object::new(alloc)
+            .text("action", "submit")
+            .text("class", plan.class_name(class))
+            .value("column", column_value(place))
+            .value("line", line_value(place))
+            .value("slot", slot_value(body, number))
+            .done(),
+        Action::Get(submit) => Object::new(alloc)
+            .text("action", "get")
+            .value("column", column_value(place))
+            .value("line", line_value(place))
+            .value("slot", Value::from(submit))
+            .done(),
     }
 }
 
@@ -78,48 +94,4 @@ fn slot_value(body: &[Action], submit: usize) -> Value
     } else {
         Value::Null
     }
-}
-
-#[tactic(auto, unfolding(crate::specs::JsonPlan::work_data))]
-fn work_value(alloc: Global, place: Option<TextPlace>, units: u32) -> Result<Value, AllocError>
-    ensures { IfOk result (λ value. view value ≡ spec.work_data place units) }
-{
-    json!(in alloc; {
-        "action": "work",
-        "column": column_value(place),
-        "line": line_value(place),
-        "units": units
-    })
-}
-
-#[tactic(auto, unfolding(crate::specs::JsonPlan::submit_data))]
-fn submit_value(
-    alloc: Global,
-    place: Option<TextPlace>,
-    class: &str,
-    body: &[Action],
-    submit: usize,
-) -> Result<Value, AllocError>
-    ensures { IfOk result (λ value.
-        view value ≡ spec.submit_data place class.now (spec.slot_data body.now submit)) }
-{
-    json!(in alloc; {
-        "action": "submit",
-        "class": class,
-        "column": column_value(place),
-        "line": line_value(place),
-        "slot": slot_value(body, submit)
-    })
-}
-
-#[tactic(auto, unfolding(crate::specs::JsonPlan::get_data))]
-fn get_value(alloc: Global, place: Option<TextPlace>, slot: usize) -> Result<Value, AllocError>
-    ensures { IfOk result (λ value. view value ≡ spec.get_data place slot) }
-{
-    json!(in alloc; {
-        "action": "get",
-        "column": column_value(place),
-        "line": line_value(place),
-        "slot": slot
-    })
 }

@@ -7,10 +7,11 @@ ghost use Rattle.serde_json.specs.View.{view};
 ghost use Rattle.weights.specs.Vector.{vector_fits};
 ghost use Rattle.report.specs.JsonPools as spec;
 
+use crate::json_object::Object;
 use crate::places::bounds_jobs;
 use crate::{Shares, shares_of, total_of};
 use job_bodies::{Plan, Pool};
-use serde_json::{Value, json};
+use serde_json::Value;
 use std::alloc::{AllocError, Global};
 use weights::{Bound, Vector};
 
@@ -80,12 +81,12 @@ fn bound_object(
         (spec.clients_data plan.now shares.now.clients.items) kind.now
         (spec.threads_data plan.now shares.now.workers.items) total) }
 {
-    json!(in alloc; {
-        "clients": clients_value(alloc, plan, &shares.clients)?,
-        "kind": kind,
-        "threads": threads_value(alloc, plan, &shares.workers)?,
-        "total": total
-    })
+    Object::new(alloc)
+        .part("clients", clients_value(alloc, plan, &shares.clients))
+        .text("kind", kind)
+        .part("threads", threads_value(alloc, plan, &shares.workers))
+        .value("total", Value::from(total))
+        .done()
 }
 
 /// Converts the shares of the client kinds in a bound to JSON, except the shares that are 0.
@@ -111,7 +112,7 @@ fn threads_value(alloc: Global, plan: &Plan, shares: &[u64]) -> Result<Value, Al
 }
 
 /// Appends the JSON object of one share, unless the share is 0.
-#[tactic(auto, using(std::proofs::lemmas::List::map_push))]
+#[tactic(auto, using(std::proofs::lemmas::List::map_push), unfolding(crate::specs::JsonPools::share_data))]
 fn push_share(
     alloc: Global,
     values: &mut Vec<Value>,
@@ -124,21 +125,19 @@ fn push_share(
     if share == 0 {
         return Ok(());
     }
-    values.push(share_value(alloc, share, name)?)?;
+    let value = Object::new(alloc)
+        .value("jobs", Value::from(share))
+        .text("name", name)
+        .done()?;
+    values.push(value)?;
     Ok(())
 }
 
-#[tactic(auto, unfolding(crate::specs::JsonPools::share_data))]
-fn share_value(alloc: Global, jobs: u64, name: &str) -> Result<Value, AllocError>
-    ensures { IfOk result (λ value. view value ≡ spec.share_data jobs name.now) }
-{
-    json!(in alloc; {"jobs": jobs, "name": name})
-}
-
 /// Creates a JSON object with two numbers: the maximum number of core threads that wait at counted
-/// gets at once, and the number of the other core threads. A counted get is one that can block a
-/// thread that other jobs need. The maximum is the total of the vector `blocked`. The value is null
-/// if this vector does not fit the plan.
+/// gets at once, and the number of the other core threads. A counted get can block a thread that
+/// other jobs need. The maximum is the total of `blocked`; the value is null if this vector does
+/// not fit the plan.
+#[tactic(auto, unfolding(crate::specs::JsonPools::waiting_data))]
 pub(crate) fn blocked_value(
     alloc: Global,
     plan: &Plan,
@@ -147,15 +146,11 @@ pub(crate) fn blocked_value(
 ) -> Result<Value, AllocError>
     ensures { IfOk result (λ value. view value ≡ spec.blocked_data plan.now pool.now blocked.now) }
 {
-    match total_of(plan, blocked) {
-        Some(most) => waiting_value(alloc, pool.core.saturating_sub(most), most),
-        None => Ok(Value::Null),
-    }
-}
-
-#[tactic(auto, unfolding(crate::specs::JsonPools::waiting_data))]
-fn waiting_value(alloc: Global, left: u64, most: u64) -> Result<Value, AllocError>
-    ensures { IfOk result (λ value. view value ≡ spec.waiting_data left most) }
-{
-    json!(in alloc; {"left": left, "most": most})
+    let Some(most) = total_of(plan, blocked) else {
+        return Ok(Value::Null);
+    };
+    Object::new(alloc)
+        .value("left", Value::from(pool.core.saturating_sub(most)))
+        .value("most", Value::from(most))
+        .done()
 }

@@ -1,17 +1,17 @@
 //! The reason why no sizes were found, as JSON.
 
-ghost use Rattle.std.specs.Prelude.{◌≡◌, IfOk, string_bytes};
-ghost use Rattle.serde_json.specs.Data.{null, string};
+ghost use Rattle.std.specs.Prelude.{◌≡◌, IfOk, IsOkAnd, string_bytes};
 ghost use Rattle.serde_json.specs.View.{view};
 ghost use Rattle.report.specs.Cause.{cause_words};
 ghost use Rattle.report.specs.JsonSizes as spec;
 
 use crate::cause_lines::push_cause_words;
+use crate::json_object::Object;
 use crate::json_places::{cause_place, column_value, line_value};
 use diagnostics::PlanPlaces;
 use job_bodies::Plan;
 use plan_text::TextPlace;
-use serde_json::{Value, json};
+use serde_json::Value;
 use size_search::{Cause, NoSizes};
 use std::alloc::{AllocError, Global};
 
@@ -53,10 +53,12 @@ fn cause_object(
             cycle_value(alloc, place, plan.class_name(class), words)
         }
         NoSizes::Cause(Cause::ClientNeverGets(client, action)) => {
-            client_never_gets(alloc, place, action, plan.client_name(client), words)
+            let client = Value::try_from_str(alloc, plan.client_name(client));
+            never_got_value(alloc, place, action, Ok(Value::Null), client, words)
         }
         NoSizes::Cause(Cause::ClassNeverGets(class, action)) => {
-            class_never_gets(alloc, place, action, plan.class_name(class), words)
+            let class = Value::try_from_str(alloc, plan.class_name(class));
+            never_got_value(alloc, place, action, class, Ok(Value::Null), words)
         }
         NoSizes::TooLarge(pool) => limit_value(alloc, place, plan.pool_name(pool), words),
     }
@@ -71,44 +73,16 @@ fn cycle_value(
 ) -> Result<Value, AllocError>
     ensures { IfOk result (λ value. view value ≡ spec.cycle_data place class.now words.now) }
 {
-    json!(in alloc; {
-        "action": null,
-        "class": class,
-        "client": null,
-        "column": column_value(place),
-        "kind": "cycle",
-        "line": line_value(place),
-        "pool": null,
-        "text": words
-    })
-}
-
-fn client_never_gets(
-    alloc: Global,
-    place: Option<TextPlace>,
-    action: usize,
-    client: &str,
-    words: &str,
-) -> Result<Value, AllocError>
-    ensures { IfOk result (λ value.
-        view value ≡ spec.never_got_data place action null (string client.now) words.now) }
-{
-    let client = Value::try_from_str(alloc, client)?;
-    never_got_value(alloc, place, action, Value::Null, client, words)
-}
-
-fn class_never_gets(
-    alloc: Global,
-    place: Option<TextPlace>,
-    action: usize,
-    class: &str,
-    words: &str,
-) -> Result<Value, AllocError>
-    ensures { IfOk result (λ value.
-        view value ≡ spec.never_got_data place action (string class.now) null words.now) }
-{
-    let class = Value::try_from_str(alloc, class)?;
-    never_got_value(alloc, place, action, class, Value::Null, words)
+    Object::new(alloc)
+        .value("action", Value::Null)
+        .text("class", class)
+        .value("client", Value::Null)
+        .value("column", column_value(place))
+        .text("kind", "cycle")
+        .value("line", line_value(place))
+        .value("pool", Value::Null)
+        .text("text", words)
+        .done()
 }
 
 #[tactic(auto, unfolding(crate::specs::JsonSizes::never_got_data))]
@@ -116,23 +90,23 @@ fn never_got_value(
     alloc: Global,
     place: Option<TextPlace>,
     action: usize,
-    class: Value,
-    client: Value,
+    class: Result<Value, AllocError>,
+    client: Result<Value, AllocError>,
     words: &str,
 ) -> Result<Value, AllocError>
-    ensures { IfOk result (λ value. view value
-        ≡ spec.never_got_data place action (view class) (view client) words.now) }
+    ensures { IfOk result (λ value. IsOkAnd class (λ class. IsOkAnd client (λ client.
+        view value ≡ spec.never_got_data place action (view class) (view client) words.now))) }
 {
-    json!(in alloc; {
-        "action": action,
-        "class": class,
-        "client": client,
-        "column": column_value(place),
-        "kind": "never got",
-        "line": line_value(place),
-        "pool": null,
-        "text": words
-    })
+    Object::new(alloc)
+        .value("action", Value::from(action))
+        .part("class", class)
+        .part("client", client)
+        .value("column", column_value(place))
+        .text("kind", "never got")
+        .value("line", line_value(place))
+        .value("pool", Value::Null)
+        .text("text", words)
+        .done()
 }
 
 #[tactic(auto, unfolding(crate::specs::JsonSizes::limit_data))]
@@ -144,14 +118,14 @@ fn limit_value(
 ) -> Result<Value, AllocError>
     ensures { IfOk result (λ value. view value ≡ spec.limit_data place pool.now words.now) }
 {
-    json!(in alloc; {
-        "action": null,
-        "class": null,
-        "client": null,
-        "column": column_value(place),
-        "kind": "limit",
-        "line": line_value(place),
-        "pool": pool,
-        "text": words
-    })
+    Object::new(alloc)
+        .value("action", Value::Null)
+        .value("class", Value::Null)
+        .value("client", Value::Null)
+        .value("column", column_value(place))
+        .text("kind", "limit")
+        .value("line", line_value(place))
+        .text("pool", pool)
+        .text("text", words)
+        .done()
 }

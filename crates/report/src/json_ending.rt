@@ -13,11 +13,12 @@ ghost use Rattle.report.specs.JsonEnding as spec;
 ghost use Rattle.report.specs.WaitsSeen as seen;
 
 use crate::event_steps::pool_of;
+use crate::json_object::Object;
 use crate::json_values::{array_value, numbers_value};
 use counterexample::Ending;
 use interleaving::{JobView, Parent, Phase, World};
 use job_bodies::{Action, Plan};
-use serde_json::{Value, json};
+use serde_json::Value;
 use std::alloc::{AllocError, Global};
 
 /// Converts the ending of a witness to JSON: the pool that refuses a submit, or the jobs that wait
@@ -34,12 +35,13 @@ pub(crate) fn ending_value(
         (flat_map (seen.wait_seen plan.now world.now.view) (stuck_members ending.now))) }
 {
     let members = members_of(ending);
-    json!(in alloc; {
-        "jobs": numbers_value(alloc, members)?,
-        "kind": kind_word(ending),
-        "pool": refusing_pool(alloc, plan, ending)?,
-        "waits": array_value(wait_values(alloc, plan, world, members)?)
-    })
+    let waits = wait_values(alloc, plan, world, members)?;
+    Object::new(alloc)
+        .part("jobs", numbers_value(alloc, members))
+        .text("kind", kind_word(ending))
+        .part("pool", refusing_pool(alloc, plan, ending))
+        .value("waits", array_value(waits))
+        .done()
 }
 
 /// Returns the numbers of the jobs that wait only for each other after the last event. The list is
@@ -138,7 +140,7 @@ fn push_wait(
 /// Appends a JSON value that says that the job `number` of the pool `pool` waits for the jobs
 /// `awaited`. `place` is `queue` if the job waits in the pool's queue, and `get` if it waits at a
 /// get.
-#[tactic(auto, using(std::proofs::lemmas::List::map_push))]
+#[tactic(auto, using(std::proofs::lemmas::List::map_push), unfolding(crate::specs::JsonEnding::wait_data))]
 fn push_wait_for(
     values: &mut Vec<Value>,
     alloc: Global,
@@ -150,7 +152,13 @@ fn push_wait_for(
     ensures { OnOk result (map view values.new.items
         ≡ map view values.old.items ++ spec.wait_data place.now awaited.now number pool.now ∷ []) }
 {
-    values.push(wait_value(alloc, place, awaited, number, pool)?)?;
+    let value = Object::new(alloc)
+        .text("at", place)
+        .part("for", numbers_value(alloc, awaited))
+        .value("job", Value::from(number))
+        .text("pool", pool)
+        .done()?;
+    values.push(value)?;
     Ok(())
 }
 
@@ -158,25 +166,6 @@ pub(crate) fn pool_name(plan: &Plan, class: usize) -> &str
     ensures { result.now ≡ spec.pool_name plan.now class }
 {
     plan.pool_name(pool_of(plan, class))
-}
-
-#[tactic(auto, unfolding(crate::specs::JsonEnding::wait_data))]
-fn wait_value(
-    alloc: Global,
-    place: &str,
-    awaited: &[usize],
-    number: usize,
-    pool: &str,
-) -> Result<Value, AllocError>
-    ensures { IfOk result
-        (λ value. view value ≡ spec.wait_data place.now awaited.now number pool.now) }
-{
-    json!(in alloc; {
-        "at": place,
-        "for": numbers_value(alloc, awaited)?,
-        "job": number,
-        "pool": pool
-    })
 }
 
 pub(crate) fn action_at(plan: &Plan, class: usize, position: usize) -> Option<Action>

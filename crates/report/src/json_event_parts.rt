@@ -5,12 +5,13 @@ ghost use Rattle.serde_json.specs.View.{view};
 ghost use Rattle.report.specs.JsonEvents as spec;
 
 use crate::event_steps::Actor;
+use crate::json_object::Object;
 use crate::json_places::action_place;
 use diagnostics::PlanPlaces;
 use interleaving::Outcome;
 use job_bodies::Plan;
 use plan_text::TextPlace;
-use serde_json::{Value, json};
+use serde_json::Value;
 use std::alloc::{AllocError, Global};
 
 /// Returns the place, in the plan's text, of the action with this index in the actor's body.
@@ -30,37 +31,24 @@ pub(crate) fn actor_place(
     }
 }
 
-/// Creates a JSON object that identifies the actor of an event. A client is identified by its
-/// client kind and its number, a job by its class and its number, and a pool by its name.
+/// Creates a JSON object that names the actor: a client by its kind and number, a job by its class
+/// and number, or a pool by its name.
+#[tactic(auto, unfolding(crate::specs::JsonEvents::client_data, crate::specs::JsonEvents::job_data, crate::specs::JsonEvents::pool_name_data))]
 pub(crate) fn actor_value(alloc: Global, plan: &Plan, actor: Actor) -> Result<Value, AllocError>
     ensures { IfOk result (λ value. view value ≡ spec.actor_data plan.now actor) }
 {
+    let object = Object::new(alloc);
     match actor {
-        Actor::Client(kind, number) => client_value(alloc, plan.client_name(kind), number),
-        Actor::Job(class, number) => job_value(alloc, plan.class_name(class), number),
-        Actor::Pool(pool) => pool_name_value(alloc, plan.pool_name(pool)),
+        Actor::Client(kind, number) => object
+            .text("client", plan.client_name(kind))
+            .value("number", Value::from(number))
+            .done(),
+        Actor::Job(class, number) => object
+            .text("class", plan.class_name(class))
+            .value("job", Value::from(number))
+            .done(),
+        Actor::Pool(pool) => object.text("pool", plan.pool_name(pool)).done(),
     }
-}
-
-#[tactic(auto, unfolding(crate::specs::JsonEvents::client_data))]
-fn client_value(alloc: Global, kind: &str, number: usize) -> Result<Value, AllocError>
-    ensures { IfOk result (λ value. view value ≡ spec.client_data kind.now number) }
-{
-    json!(in alloc; {"client": kind, "number": number})
-}
-
-#[tactic(auto, unfolding(crate::specs::JsonEvents::job_data))]
-fn job_value(alloc: Global, class: &str, number: usize) -> Result<Value, AllocError>
-    ensures { IfOk result (λ value. view value ≡ spec.job_data class.now number) }
-{
-    json!(in alloc; {"class": class, "job": number})
-}
-
-#[tactic(auto, unfolding(crate::specs::JsonEvents::pool_name_data))]
-fn pool_name_value(alloc: Global, name: &str) -> Result<Value, AllocError>
-    ensures { IfOk result (λ value. view value ≡ spec.pool_name_data name.now) }
-{
-    json!(in alloc; {"pool": name})
 }
 
 /// Returns the name of an outcome, such as `queued`.

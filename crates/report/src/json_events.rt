@@ -13,12 +13,13 @@ ghost use Rattle.report.specs.JsonEvents as spec;
 use crate::event_queues::queue_value;
 use crate::event_steps::{Actor, EventStep, PoolCounts};
 use crate::json_event_parts::{actor_place, actor_value, job_of, outcome_word};
+use crate::json_object::Object;
 use crate::json_places::{column_value, line_value};
 use crate::json_values::optional_number;
 use diagnostics::PlanPlaces;
 use interleaving::Outcome;
 use job_bodies::Plan;
-use serde_json::{Value, json};
+use serde_json::Value;
 use std::alloc::{AllocError, Global};
 
 /// A run of similar steps that the next step may extend: its first step, the number of its steps,
@@ -166,16 +167,16 @@ fn run_value(
         ≡ spec.run_data plan.now places.now (shown.run_of run steps.now)) }
 {
     let place = actor_place(places, run.first.actor, run.first.action);
-    json!(in alloc; {
-        "action": optional_number(run.first.action),
-        "actor": actor_value(alloc, plan, run.first.actor)?,
-        "column": column_value(place),
-        "job": optional_number(job_of(run.first.outcome)),
-        "line": line_value(place),
-        "outcome": outcome_word(run.first.outcome),
-        "pool": pool_value(alloc, plan, run.last.pool, steps)?,
-        "times": run.times
-    })
+    Object::new(alloc)
+        .value("action", optional_number(run.first.action))
+        .part("actor", actor_value(alloc, plan, run.first.actor))
+        .value("column", column_value(place))
+        .value("job", optional_number(job_of(run.first.outcome)))
+        .value("line", line_value(place))
+        .text("outcome", outcome_word(run.first.outcome))
+        .part("pool", pool_value(alloc, plan, run.last.pool, steps))
+        .value("times", Value::from(run.times))
+        .done()
 }
 
 /// Returns a JSON object with the state of the pool after these steps, or null if `pool` is `None`.
@@ -207,10 +208,10 @@ fn pool_state_value(
     ensures { IfOk result (λ value. view value ≡ spec.pool_state_data
         counts.idle name.now (shown.queue_from counts.number [] steps.now) counts.threads) }
 {
-    json!(in alloc; {
-        "idle": counts.idle,
-        "name": name,
-        "queue": queue_value(alloc, steps, counts.number)?,
-        "threads": counts.threads
-    })
+    Object::new(alloc)
+        .value("idle", Value::from(counts.idle))
+        .text("name", name)
+        .part("queue", queue_value(alloc, steps, counts.number))
+        .value("threads", Value::from(counts.threads))
+        .done()
 }

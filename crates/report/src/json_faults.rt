@@ -6,6 +6,7 @@ ghost use Rattle.serde_json.specs.Data.{array};
 ghost use Rattle.serde_json.specs.View.{view, items_of};
 ghost use Rattle.report.specs.JsonFaults as spec;
 
+use crate::json_object::Object;
 use crate::json_places::{column_value, line_value};
 use diagnostics::{Diagnostic, Faults, NumberRange};
 use plan_text::TextPlace;
@@ -92,11 +93,11 @@ fn fault_value(
     ensures { IfOk result
         (λ value. view value ≡ spec.fault_data place number (spec.range_data range) words.now) }
 {
-    json!(in alloc; {
-        "column": column_value(place),
-        "fault": number,
-        "line": line_value(place),
-        "range": range_value(alloc, range)?,
-        "text": words
-    })
+    Object::new(alloc)
+        .value("column", column_value(place))
+        .value("fault", Value::from(number))
+        .value("line", line_value(place))
+        .part("range", range_value(alloc, range))
+        .text("text", words)
+        .done()
 }

@@ -31,6 +31,8 @@ pub(crate) fn finding_parts(
 {
     Ok(AnswerParts {
         assumptions: assumptions_value(alloc, finding)?,
+        faults: Value::Array(Vec::new(alloc)),
+        omitted: 0,
         plan: plan_value(alloc, text, places, plan)?,
         pools: pools_of(alloc, plan, finding)?,
         sizes: sizes_of(alloc, places, plan, finding)?,

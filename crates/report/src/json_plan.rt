@@ -5,12 +5,13 @@ ghost use Rattle.serde_json.specs.View.{view};
 ghost use Rattle.report.specs.JsonPlan as spec;
 
 use crate::json_bodies::body_value;
+use crate::json_object::Object;
 use crate::json_places::{column_value, line_value, name_place, pool_places_at};
-use crate::json_values::queue_value;
+use crate::json_values::{empty_list, queue_value};
 use diagnostics::{BodyPlaces, PlanPlaces, PoolPlaces};
 use job_bodies::{Class, Client, Plan, Pool};
 use plan_text::TextPlace;
-use serde_json::{Value, json};
+use serde_json::Value;
 use std::alloc::{AllocError, Global};
 
 /// Converts a plan to JSON. `text` is the text from which the plan was read.
@@ -23,12 +24,18 @@ pub(crate) fn plan_value(
 ) -> Result<Value, AllocError>
     ensures { IfOk result (λ value. view value ≡ spec.plan_data text.now places.now plan.now) }
 {
-    json!(in alloc; {
-        "classes": classes_value(alloc, plan, &places.classes, plan.classes())?,
-        "clients": clients_value(alloc, plan, &places.clients, plan.clients())?,
-        "pools": pools_value(alloc, &places.pools, plan.pools())?,
-        "text": text_value(alloc, text)?
-    })
+    Object::new(alloc)
+        .part(
+            "classes",
+            classes_value(alloc, plan, &places.classes, plan.classes()),
+        )
+        .part(
+            "clients",
+            clients_value(alloc, plan, &places.clients, plan.clients()),
+        )
+        .part("pools", pools_value(alloc, &places.pools, plan.pools()))
+        .part("text", text_value(alloc, text))
+        .done()
 }
 
 /// Converts the text of a plan with faults to JSON. The result has the form of a plan without
@@ -37,12 +44,12 @@ pub(crate) fn plan_value(
 pub(crate) fn text_only_value(alloc: Global, text: &[u8]) -> Result<Value, AllocError>
     ensures { IfOk result (λ value. view value ≡ spec.text_only_data text.now) }
 {
-    json!(in alloc; {
-        "classes": [],
-        "clients": [],
-        "pools": [],
-        "text": text_value(alloc, text)?
-    })
+    Object::new(alloc)
+        .value("classes", empty_list(alloc))
+        .value("clients", empty_list(alloc))
+        .value("pools", empty_list(alloc))
+        .part("text", text_value(alloc, text))
+        .done()
 }
 
 /// Converts the plan's text to a JSON string. The value is null if the text is not UTF-8.
@@ -99,33 +106,31 @@ fn rejecting_value(
 ) -> Result<Value, AllocError>
     ensures { IfOk result (λ value. view value ≡ spec.rejecting_data place pool.now) }
 {
-    let name = pool.name.as_str();
-    json!(in alloc; {
-        "column": column_value(place),
-        "core": pool.core,
-        "line": line_value(place),
-        "max": pool.max,
-        "may_reject": true,
-        "name": name,
-        "prestart": pool.prestart,
-        "queue": queue_value(alloc, pool)?
-    })
+    Object::new(alloc)
+        .value("column", column_value(place))
+        .value("core", Value::from(pool.core))
+        .value("line", line_value(place))
+        .value("max", Value::from(pool.max))
+        .value("may_reject", Value::Bool(true))
+        .text("name", &pool.name)
+        .value("prestart", Value::Bool(pool.prestart))
+        .part("queue", queue_value(alloc, pool))
+        .done()
 }
 
 #[tactic(auto, unfolding(crate::specs::JsonPlan::pool_data))]
 fn pool_value(alloc: Global, place: Option<TextPlace>, pool: &Pool) -> Result<Value, AllocError>
     ensures { IfOk result (λ value. view value ≡ spec.pool_data place pool.now) }
 {
-    let name = pool.name.as_str();
-    json!(in alloc; {
-        "column": column_value(place),
-        "core": pool.core,
-        "line": line_value(place),
-        "max": pool.max,
-        "name": name,
-        "prestart": pool.prestart,
-        "queue": queue_value(alloc, pool)?
-    })
+    Object::new(alloc)
+        .value("column", column_value(place))
+        .value("core", Value::from(pool.core))
+        .value("line", line_value(place))
+        .value("max", Value::from(pool.max))
+        .text("name", &pool.name)
+        .value("prestart", Value::Bool(pool.prestart))
+        .part("queue", queue_value(alloc, pool))
+        .done()
 }
 
 fn classes_value(
@@ -145,6 +150,7 @@ fn classes_value(
     Ok(Value::from(values))
 }
 
+#[tactic(auto, unfolding(crate::specs::JsonPlan::class_data))]
 fn class_entry(
     alloc: Global,
     plan: &Plan,
@@ -155,30 +161,15 @@ fn class_entry(
     ensures { IfOk result
         (λ value. view value ≡ spec.class_entry plan.now places.now (number, class.now)) }
 {
-    let body = body_value(alloc, plan, places, number, &class.body)?;
     let place = name_place(places, number);
-    let name = class.name.as_str();
-    class_value(alloc, place, name, plan.pool_name(class.pool), body)
-}
-
-#[tactic(auto, unfolding(crate::specs::JsonPlan::class_data))]
-fn class_value(
-    alloc: Global,
-    place: Option<TextPlace>,
-    name: &str,
-    pool: &str,
-    body: Value,
-) -> Result<Value, AllocError>
-    ensures { IfOk result
-        (λ value. view value ≡ spec.class_data place name.now pool.now (view body)) }
-{
-    json!(in alloc; {
-        "body": body,
-        "column": column_value(place),
-        "line": line_value(place),
-        "name": name,
-        "pool": pool
-    })
+    let pool = plan.pool_name(class.pool);
+    Object::new(alloc)
+        .part("body", body_value(alloc, plan, places, number, &class.body))
+        .value("column", column_value(place))
+        .value("line", line_value(place))
+        .text("name", &class.name)
+        .text("pool", pool)
+        .done()
 }
 
 fn clients_value(
@@ -198,6 +189,7 @@ fn clients_value(
     Ok(Value::from(values))
 }
 
+#[tactic(auto, unfolding(crate::specs::JsonPlan::client_data))]
 fn client_entry(
     alloc: Global,
     plan: &Plan,
@@ -208,26 +200,16 @@ fn client_entry(
     ensures { IfOk result
         (λ value. view value ≡ spec.client_entry plan.now places.now (number, client.now)) }
 {
-    let body = body_value(alloc, plan, places, number, &client.body)?;
-    client_value(alloc, name_place(places, number), client, body)
-}
-
-#[tactic(auto, unfolding(crate::specs::JsonPlan::client_data))]
-fn client_value(
-    alloc: Global,
-    place: Option<TextPlace>,
-    client: &Client,
-    body: Value,
-) -> Result<Value, AllocError>
-    ensures { IfOk result (λ value. view value ≡ spec.client_data place client.now (view body)) }
-{
-    let name = client.name.as_str();
-    json!(in alloc; {
-        "body": body,
-        "column": column_value(place),
-        "count": client.count,
-        "line": line_value(place),
-        "name": name,
-        "repeat": client.repeat
-    })
+    let place = name_place(places, number);
+    Object::new(alloc)
+        .part(
+            "body",
+            body_value(alloc, plan, places, number, &client.body),
+        )
+        .value("column", column_value(place))
+        .value("count", Value::from(client.count))
+        .value("line", line_value(place))
+        .text("name", &client.name)
+        .value("repeat", Value::Bool(client.repeat))
+        .done()
 }

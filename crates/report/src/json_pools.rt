@@ -3,18 +3,20 @@
 //! that may reject jobs by the plan has the members `may_reject` and `rejects_after`, the number of
 //! events after which it rejects a job.
 
-ghost use Rattle.std.specs.Prelude.{◌≡◌, IfOk, option_map, map, string_bytes};
-ghost use Rattle.serde_json.specs.Data.{array, string};
+ghost use Rattle.std.specs.Prelude.{◌≡◌, IfOk, IfSome, option_map, map, string_bytes};
+ghost use Rattle.serde_json.specs.Data.{array, object, string};
 ghost use Rattle.serde_json.specs.View.{view, items_of};
+ghost use Rattle.report.specs.JsonObject.{members_of};
 ghost use Rattle.report.specs.JsonPools as spec;
 
 use crate::json_bounds::{blocked_value, bound_value};
+use crate::json_object::Object;
 use crate::json_values::queue_value;
 use crate::safe::rejection_at;
 use crate::safe_waits::waited_names;
 use cert_text::PoolCert;
 use job_bodies::{Plan, Pool};
-use serde_json::{Value, json};
+use serde_json::Value;
 use std::alloc::{AllocError, Global};
 
 /// Converts the pools of a plan to JSON. `parts` has, for each pool, its part of the certificate.
@@ -107,39 +109,37 @@ fn sized_pool(
     ensures { IfOk result (λ value. view value ≡ spec.sized_pool
         plan.now number pool.now rejection (view blocked) (view bound)) }
 {
+    let waits_for = waits_value(alloc, plan, number)?;
     if pool.may_reject {
-        rejecting_object(alloc, plan, number, pool, rejection, blocked, bound)
+        rejecting_object(
+            alloc,
+            pool,
+            blocked,
+            bound,
+            rejects_value(rejection),
+            waits_for,
+        )
     } else {
-        pool_object(alloc, plan, number, pool, blocked, bound)
+        pool_object(alloc, pool, blocked, bound, waits_for).done()
     }
 }
 
-#[tactic(auto, unfolding(crate::specs::JsonPools::rejecting_object))]
+#[tactic(auto, unfolding(crate::specs::JsonPools::pool_object, crate::specs::JsonPools::rejecting_object))]
 fn rejecting_object(
     alloc: Global,
-    plan: &Plan,
-    number: usize,
     pool: &Pool,
-    rejection: Option<u64>,
     blocked: Value,
     bound: Value,
+    rejects_after: Value,
+    waits_for: Value,
 ) -> Result<Value, AllocError>
     ensures { IfOk result (λ value. view value ≡ spec.rejecting_object
-        (view blocked) (view bound) pool.now (spec.rejects_data rejection) (spec.waits_data plan.now number)) }
+        (view blocked) (view bound) pool.now (view rejects_after) (view waits_for)) }
 {
-    let name = pool.name.as_str();
-    json!(in alloc; {
-        "blocked": blocked,
-        "bound": bound,
-        "core": pool.core,
-        "max": pool.max,
-        "may_reject": true,
-        "name": name,
-        "prestart": pool.prestart,
-        "queue": queue_value(alloc, pool)?,
-        "rejects_after": rejects_value(rejection),
-        "waits_for": waits_value(alloc, plan, number)?
-    })
+    pool_object(alloc, pool, blocked, bound, waits_for)
+        .value("may_reject", Value::Bool(true))
+        .value("rejects_after", rejects_after)
+        .done()
 }
 
 /// Converts the number of events after which a pool rejects a job to JSON. The value is null if
@@ -154,28 +154,19 @@ fn rejects_value(rejection: Option<u64>) -> Value
 }
 
 #[tactic(auto, unfolding(crate::specs::JsonPools::pool_object))]
-fn pool_object(
-    alloc: Global,
-    plan: &Plan,
-    number: usize,
-    pool: &Pool,
-    blocked: Value,
-    bound: Value,
-) -> Result<Value, AllocError>
-    ensures { IfOk result (λ value. view value ≡ spec.pool_object
-        (view blocked) (view bound) pool.now (spec.waits_data plan.now number)) }
+fn pool_object(alloc: Global, pool: &Pool, blocked: Value, bound: Value, waits_for: Value) -> Object
+    ensures { IfSome (members_of result) (λ members. object members ≡ spec.pool_object
+        (view blocked) (view bound) pool.now (view waits_for)) }
 {
-    let name = pool.name.as_str();
-    json!(in alloc; {
-        "blocked": blocked,
-        "bound": bound,
-        "core": pool.core,
-        "max": pool.max,
-        "name": name,
-        "prestart": pool.prestart,
-        "queue": queue_value(alloc, pool)?,
-        "waits_for": waits_value(alloc, plan, number)?
-    })
+    Object::new(alloc)
+        .value("blocked", blocked)
+        .value("bound", bound)
+        .value("core", Value::from(pool.core))
+        .value("max", Value::from(pool.max))
+        .text("name", &pool.name)
+        .value("prestart", Value::Bool(pool.prestart))
+        .part("queue", queue_value(alloc, pool))
+        .value("waits_for", waits_for)
 }
 
 /// Creates a JSON list of the names of the pools for which jobs of this pool wait.

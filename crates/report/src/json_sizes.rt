@@ -5,12 +5,13 @@ ghost use Rattle.serde_json.specs.View.{view};
 ghost use Rattle.report.specs.JsonSizes as spec;
 
 use crate::json_cause::cause_value;
+use crate::json_object::Object;
 use crate::json_places::{column_value, line_value, pool_places_at};
-use crate::json_values::queue_value;
+use crate::json_values::{empty_list, queue_value};
 use diagnostics::{PlanPlaces, PoolPlaces};
 use job_bodies::{Plan, Pool};
 use plan_text::TextPlace;
-use serde_json::{Value, json};
+use serde_json::Value;
 use size_search::SizesFound;
 use std::alloc::{AllocError, Global};
 
@@ -26,14 +27,17 @@ pub(crate) fn sizes_value(
     ensures { IfOk result (λ value. view value ≡ spec.sizes_data places.now plan.now sizes.now) }
 {
     match sizes {
-        SizesFound::Found { plan: fit, .. } => json!(in alloc; {
-            "cause": null,
-            "pools": pools_value(alloc, &places.pools, plan, fit.pools())?
-        }),
-        SizesFound::NotFound(cause) => json!(in alloc; {
-            "cause": cause_value(alloc, places, plan, *cause)?,
-            "pools": []
-        }),
+        SizesFound::Found { plan: fit, .. } => Object::new(alloc)
+            .value("cause", Value::Null)
+            .part(
+                "pools",
+                pools_value(alloc, &places.pools, plan, fit.pools()),
+            )
+            .done(),
+        SizesFound::NotFound(cause) => Object::new(alloc)
+            .part("cause", cause_value(alloc, places, plan, *cause))
+            .value("pools", empty_list(alloc))
+            .done(),
     }
 }
 
@@ -73,14 +77,13 @@ fn size_value(alloc: Global, changes: Vec<Value>, fit: &Pool) -> Result<Value, A
     ensures { IfOk result
         (λ value. view value ≡ spec.size_data (map view changes.items) fit.now) }
 {
-    let name = fit.name.as_str();
-    json!(in alloc; {
-        "changes": changes,
-        "core": fit.core,
-        "max": fit.max,
-        "name": name,
-        "queue": queue_value(alloc, fit)?
-    })
+    Object::new(alloc)
+        .value("changes", Value::Array(changes))
+        .value("core", Value::from(fit.core))
+        .value("max", Value::from(fit.max))
+        .text("name", &fit.name)
+        .part("queue", queue_value(alloc, fit))
+        .done()
 }
 
 /// Returns a JSON value for each size of a pool that changes. `declared` is the pool in the plan,
@@ -141,9 +144,9 @@ fn push_limits(
     )
 }
 
-/// Appends the change of the size `key` from `now` to `value`. Appends nothing if `now` and `value`
-/// are equal.
-#[tactic(auto, using(std::proofs::lemmas::List::map_push))]
+/// Appends the change of the size `key` from `now` to `value`. Appends nothing if the two are
+/// equal.
+#[tactic(auto, using(std::proofs::lemmas::List::map_push), unfolding(crate::specs::JsonSizes::change_data))]
 fn push_change(
     alloc: Global,
     values: &mut Vec<Value>,
@@ -158,25 +161,13 @@ fn push_change(
     if now == value {
         return Ok(());
     }
-    values.push(change_value(alloc, key, place, now, value)?)?;
+    let change = Object::new(alloc)
+        .value("column", column_value(place))
+        .text("key", key)
+        .value("line", line_value(place))
+        .value("now", Value::from(now))
+        .value("value", Value::from(value))
+        .done()?;
+    values.push(change)?;
     Ok(())
-}
-
-#[tactic(auto, unfolding(crate::specs::JsonSizes::change_data))]
-fn change_value(
-    alloc: Global,
-    key: &str,
-    place: Option<TextPlace>,
-    now: u64,
-    value: u64,
-) -> Result<Value, AllocError>
-    ensures { IfOk result (λ change. view change ≡ spec.change_data key.now place now value) }
-{
-    json!(in alloc; {
-        "column": column_value(place),
-        "key": key,
-        "line": line_value(place),
-        "now": now,
-        "value": value
-    })
 }

@@ -1,6 +1,7 @@
 //! Numbers and capacities as JSON.
 
-ghost use Rattle.std.specs.Prelude.{◌≡◌, IfOk, map};
+ghost use Rattle.std.specs.Prelude.{◌≡◌, IfOk, IsOkAnd, map};
+ghost use Rattle.serde_json.specs.Data.{array, item, no_items};
 ghost use Rattle.serde_json.specs.View.{view};
 ghost use Rattle.report.specs.JsonEvents as spec;
 ghost use Rattle.report.specs.JsonPlan.{queue_data};
@@ -28,6 +29,26 @@ pub(crate) fn queue_value(alloc: Global, pool: &Pool) -> Result<Value, AllocErro
     } else {
         Ok(Value::from(pool.queue))
     }
+}
+
+/// Creates an empty JSON list.
+pub(crate) fn empty_list(alloc: Global) -> Value
+    ensures { view result ≡ array no_items }
+{
+    Value::Array(Vec::new(alloc))
+}
+
+/// Creates a JSON list with only this value, which was built if memory sufficed.
+pub(crate) fn single_list(
+    alloc: Global,
+    value: Result<Value, AllocError>,
+) -> Result<Value, AllocError>
+    ensures { IfOk result (λ list.
+        IsOkAnd value (λ value. view list ≡ array (item (view value) no_items))) }
+{
+    let mut values = Vec::new(alloc);
+    values.push(value?)?;
+    Ok(Value::Array(values))
 }
 
 /// Creates a JSON list of these values.

@@ -4,10 +4,10 @@ ghost use Rattle.std.specs.Prelude.{◌≡◌, IfOk};
 ghost use Rattle.serde_json.specs.View.{view};
 ghost use Rattle.report.specs.JsonWarnings as spec;
 
+use crate::json_object::Object;
 use crate::json_places::{column_value, line_value};
 use diagnostics::{Lint, Warning};
-use plan_text::TextPlace;
-use serde_json::{Value, json};
+use serde_json::Value;
 use std::alloc::{AllocError, Global};
 
 /// Converts each warning to JSON: its kind, its place and its message.
@@ -22,27 +22,17 @@ pub(crate) fn warnings_value(alloc: Global, warnings: &[Warning]) -> Result<Valu
     Ok(Value::from(values))
 }
 
+#[tactic(auto, unfolding(crate::specs::JsonWarnings::warning_object))]
 fn warning_value(alloc: Global, warning: &Warning) -> Result<Value, AllocError>
     ensures { IfOk result (λ value. view value ≡ spec.warning_data warning.now) }
 {
-    warning_object(alloc, warning.place, kind_of(warning.lint), &warning.what)
-}
-
-#[tactic(auto, unfolding(crate::specs::JsonWarnings::warning_object))]
-fn warning_object(
-    alloc: Global,
-    place: TextPlace,
-    kind: &str,
-    words: &str,
-) -> Result<Value, AllocError>
-    ensures { IfOk result (λ value. view value ≡ spec.warning_object place kind.now words.now) }
-{
-    json!(in alloc; {
-        "column": column_value(Some(place)),
-        "kind": kind,
-        "line": line_value(Some(place)),
-        "text": words
-    })
+    let place = Some(warning.place);
+    Object::new(alloc)
+        .value("column", column_value(place))
+        .text("kind", kind_of(warning.lint))
+        .value("line", line_value(place))
+        .text("text", &warning.what)
+        .done()
 }
 
 /// Returns the name of a lint's kind, such as `useless max`.

@@ -14,12 +14,13 @@ ghost use Rattle.report.specs.WaitsSeen as seen;
 use crate::event_steps::{EventStep, perform_all};
 use crate::json_ending::ending_value;
 use crate::json_events::events_value;
+use crate::json_object::Object;
 use crate::json_replay::replay_value;
 use counterexample::Witness;
 use diagnostics::PlanPlaces;
 use interleaving::World;
 use job_bodies::Plan;
-use serde_json::{Value, json};
+use serde_json::Value;
 use std::alloc::{AllocError, Global};
 
 /// Converts a witness against the plan to JSON.
@@ -57,9 +58,9 @@ fn parts_value(
         (events.list_data (map (events.run_data plan.now places.now) (runs.runs (shown.shown_from [] steps.now))))
         (spec.replay_data plan.now witness.now)) }
 {
-    json!(in alloc; {
-        "ending": ending_value(alloc, plan, world, &witness.ending)?,
-        "events": events_value(alloc, plan, places, steps)?,
-        "replay": replay_value(alloc, plan, witness)?
-    })
+    Object::new(alloc)
+        .part("ending", ending_value(alloc, plan, world, &witness.ending))
+        .part("events", events_value(alloc, plan, places, steps))
+        .part("replay", replay_value(alloc, plan, witness))
+        .done()
 }

@@ -22,6 +22,7 @@ mod json_events;
 mod json_faults;
 mod json_findings;
 mod json_line;
+mod json_object;
 mod json_places;
 mod json_plan;
 mod json_pools;

@@ -61,10 +61,9 @@ fn graph_of(
 fn push_head(text: &mut String) -> Result<(), AllocError>
     ensures { Pushes result text.old text.new spec.head }
 {
-    text.push_str("digraph plan {\n")?;
-    text.push_str("  rankdir=LR\n")?;
-    text.push_str("  node [fontname=\"sans-serif\" fontsize=11]\n")?;
-    text.push_str("  edge [fontname=\"sans-serif\" fontsize=9]\n")
+    text.push_str(
+        "digraph plan {\n  rankdir=LR\n  node [fontname=\"sans-serif\" fontsize=11]\n  edge [fontname=\"sans-serif\" fontsize=9]\n",
+    )
 }
 
 // ---- clients
@@ -148,8 +147,7 @@ fn push_start(
         (spec.box_start number (spec.pool_label plan.now number pool.now (option_map (λ part. part.now) part.entry))) }
 {
     write!(text, "  subgraph cluster{number}")?;
-    text.push_str(" {\n")?;
-    text.push_str("    label=\"")?;
+    text.push_str(" {\n    label=\"")?;
     push_label(text, plan, number, pool, part)?;
     text.push_str("\"\n")
 }

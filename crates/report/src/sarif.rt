@@ -11,12 +11,14 @@ use crate::PlanFinding;
 use crate::annotation::{Annotation, Rule, rule_name};
 use crate::annotations::{annotations_of, fault_annotations, single_fault};
 use crate::json_line::line_of;
+use crate::json_object::Object;
+use crate::json_values::single_list;
 use crate::uri::uri_of;
 use crate::version::VERSION;
 use diagnostics::{Faults, PlanPlaces, Warning, is_note};
 use job_bodies::Plan;
 use plan_text::TextPlace;
-use serde_json::{Value, json};
+use serde_json::Value;
 use std::alloc::{AllocError, Global};
 
 /// Returns the SARIF log with the finding about a plan and its warnings, on one line. `file` is the
@@ -82,14 +84,18 @@ fn sarif_value(alloc: Global, file: &str, annotations: &[Annotation]) -> Result<
     ensures { IfOk result
         (λ value. view value ≡ spec.sarif_data file.now (remarks_in annotations.now)) }
 {
-    json!(in alloc; {
-        "$schema": "https://json.schemastore.org/sarif-2.1.0.json",
-        "runs": [{
-            "results": results_value(alloc, file, annotations)?,
-            "tool": {"driver": driver_value(alloc, annotations)?}
-        }],
-        "version": "2.1.0"
-    })
+    let tool = Object::new(alloc)
+        .part("driver", driver_value(alloc, annotations))
+        .done();
+    let run = Object::new(alloc)
+        .part("results", results_value(alloc, file, annotations))
+        .part("tool", tool)
+        .done();
+    Object::new(alloc)
+        .text("$schema", "https://json.schemastore.org/sarif-2.1.0.json")
+        .part("runs", single_list(alloc, run))
+        .text("version", "2.1.0")
+        .done()
 }
 
 #[tactic(auto, unfolding(crate::specs::Sarif::driver_data))]
@@ -97,11 +103,11 @@ fn driver_value(alloc: Global, annotations: &[Annotation]) -> Result<Value, Allo
     ensures { IfOk result (λ value.
         view value ≡ spec.driver_data (spec.rules_data (remarks_in annotations.now))) }
 {
-    json!(in alloc; {
-        "name": "sizing",
-        "rules": rules_value(alloc, annotations)?,
-        "version": VERSION
-    })
+    Object::new(alloc)
+        .text("name", "sizing")
+        .part("rules", rules_value(alloc, annotations))
+        .text("version", VERSION)
+        .done()
 }
 
 // ---- results
@@ -117,24 +123,25 @@ fn results_value(alloc: Global, file: &str, annotations: &[Annotation]) -> Resul
     Ok(Value::Array(values))
 }
 
-#[tactic(auto, unfolding(crate::specs::Sarif::result_data))]
+#[tactic(auto, unfolding(crate::specs::Sarif::location_data, crate::specs::Sarif::message_data, crate::specs::Sarif::result_data))]
 fn result_value(alloc: Global, file: &str, annotation: &Annotation) -> Result<Value, AllocError>
     ensures { IfOk result
         (λ value. view value ≡ spec.result_data file.now (remark_of annotation.now)) }
 {
-    json!(in alloc; {
-        "level": level_word(annotation.rule),
-        "locations": [location_value(alloc, file, annotation.place)?],
-        "message": message_value(alloc, &annotation.message)?,
-        "ruleId": Value::String(rule_name(alloc, annotation.rule)?)
-    })
-}
-
-#[tactic(auto, unfolding(crate::specs::Sarif::message_data))]
-fn message_value(alloc: Global, text: &str) -> Result<Value, AllocError>
-    ensures { IfOk result (λ value. view value ≡ spec.message_data text.now) }
-{
-    json!(in alloc; {"text": text})
+    let rule = rule_name(alloc, annotation.rule)?;
+    let location = Object::new(alloc)
+        .part(
+            "physicalLocation",
+            physical_value(alloc, file, annotation.place),
+        )
+        .done();
+    let message = Object::new(alloc).text("text", &annotation.message).done();
+    Object::new(alloc)
+        .text("level", level_word(annotation.rule))
+        .part("locations", single_list(alloc, location))
+        .part("message", message)
+        .value("ruleId", Value::String(rule))
+        .done()
 }
 
 fn level_word(rule: Rule) -> &'static str
@@ -148,56 +155,28 @@ fn level_word(rule: Rule) -> &'static str
     }
 }
 
-#[tactic(auto, unfolding(crate::specs::Sarif::location_data))]
-fn location_value(alloc: Global, file: &str, place: Option<TextPlace>) -> Result<Value, AllocError>
-    ensures { IfOk result (λ value. view value ≡ spec.location_data file.now place) }
-{
-    json!(in alloc; {"physicalLocation": physical_value(alloc, file, place)?})
-}
-
-/// Creates the SARIF object of a location: the file and, if `place` is not `None`, the place in
-/// this file.
+/// Creates the SARIF object of a location: the file and, if `place` is known, the place in it.
+#[tactic(auto, unfolding(crate::specs::Sarif::whole_file, crate::specs::Sarif::part_of_file, crate::specs::Sarif::region_data))]
 fn physical_value(alloc: Global, file: &str, place: Option<TextPlace>) -> Result<Value, AllocError>
     ensures { IfOk result (λ value. view value ≡ spec.physical_data file.now place) }
 {
-    match place {
-        Some(place) => part_of_file(alloc, file, place),
-        None => whole_file(alloc, file),
-    }
+    let object = Object::new(alloc).part("artifactLocation", file_value(alloc, file));
+    let Some(place) = place else {
+        return object.done();
+    };
+    let region = Object::new(alloc)
+        .value("startColumn", Value::from(place.column))
+        .value("startLine", Value::from(place.line))
+        .done();
+    object.part("region", region).done()
 }
 
 #[tactic(auto, unfolding(crate::specs::Sarif::file_data))]
 fn file_value(alloc: Global, file: &str) -> Result<Value, AllocError>
     ensures { IfOk result (λ value. view value ≡ spec.file_data file.now) }
 {
-    json!(in alloc; {"uri": Value::String(uri_of(alloc, file)?)})
-}
-
-#[tactic(auto, unfolding(crate::specs::Sarif::whole_file))]
-fn whole_file(alloc: Global, file: &str) -> Result<Value, AllocError>
-    ensures { IfOk result (λ value. view value ≡ spec.whole_file (spec.file_data file.now)) }
-{
-    json!(in alloc; {"artifactLocation": file_value(alloc, file)?})
-}
-
-#[tactic(auto, unfolding(crate::specs::Sarif::part_of_file))]
-fn part_of_file(alloc: Global, file: &str, place: TextPlace) -> Result<Value, AllocError>
-    ensures { IfOk result (λ value.
-        view value ≡ spec.part_of_file (spec.file_data file.now) place) }
-{
-    json!(in alloc; {
-        "artifactLocation": file_value(alloc, file)?,
-        "region": region_value(alloc, place)?
-    })
-}
-
-#[tactic(auto, unfolding(crate::specs::Sarif::region_data))]
-fn region_value(alloc: Global, place: TextPlace) -> Result<Value, AllocError>
-    ensures { IfOk result (λ value. view value ≡ spec.region_data place) }
-{
-    let line = place.line;
-    let column = place.column;
-    json!(in alloc; {"startColumn": column, "startLine": line})
+    let uri = uri_of(alloc, file)?;
+    Object::new(alloc).value("uri", Value::String(uri)).done()
 }
 
 // ---- rules
@@ -225,7 +204,7 @@ fn names_value(alloc: Global, names: &[String]) -> Result<Value, AllocError>
 fn rule_value(alloc: Global, name: &str) -> Result<Value, AllocError>
     ensures { IfOk result (λ value. view value ≡ spec.rule_data name.now) }
 {
-    json!(in alloc; {"id": name})
+    Object::new(alloc).text("id", name).done()
 }
 
 /// Returns the names of the annotations' rules, each once, in the order in which they first occur.
