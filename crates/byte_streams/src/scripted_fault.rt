@@ -23,8 +23,8 @@ impl ScriptedFault {
         }
     }
 
-    /// Counts this call, and returns `true` if this call must fail. This is so for at most one
-    /// call.
+    /// Counts this call, and returns `true` if this call must fail. The result is `true` for at
+    /// most one call.
     pub(crate) fn is_due(&mut self) -> bool
         ensures due { IsTrue result ↔ (self.old.calls_before ≡ Some 0) }
         ensures left { self.new.calls_before ≡ calls_after self.old.calls_before }
