@@ -19,8 +19,8 @@ use cert_text::Cert;
 use job_bodies::Plan;
 use weights::{Bound, RanksOf, Vector, blocked_fault};
 
-/// Returns whether the certificate accepts the plan, which means that it fits the plan and all its
-/// conditions hold. Allocates no memory.
+/// Returns whether the certificate accepts the plan: it fits the plan, and all conditions of the
+/// certificate hold. Allocates no memory.
 pub fn accepts(plan: &Plan, cert: &Cert) -> bool
     ensures exact { result ≡ accepted plan.now cert.now }
     ensures promises { IsTrue result → Promises plan.now cert.now }
@@ -106,8 +106,8 @@ fn has_valid_standing_vectors(plan: &Plan, cert: &Cert) -> bool
     true
 }
 
-/// Returns whether the pool must not reject jobs, and the bound is a standing vector whose
-/// conditions all hold.
+/// Returns whether the pool must not reject jobs, its bound is a standing vector, and all
+/// conditions of this vector hold.
 fn is_valid_standing_vector(plan: &Plan, pool: usize, bound: &Option<Bound>) -> bool
     requires fits { IsTrue (bound_fits plan.now pool bound.now) }
     requires pool { pool < length plan.now.pools }

@@ -19,8 +19,8 @@ pub enum CheckFault {
     Cert(CertFault),
     /// Memory ran out. This fault says nothing about the texts.
     Memory,
-    /// The gate (see [`PoolGate`](crate::PoolGate)) returned `false` for a pool. Only a check on
-    /// threads calls a gate.
+    /// The gate returned `false` for a pool. The gate is a hook that only a check on threads calls,
+    /// before each pool (see [`PoolGate`](crate::PoolGate)).
     Gate,
 }
 

@@ -31,9 +31,11 @@ pub(crate) struct PoolCheck {
 }
 
 /// Checks a plan and a certificate on up to `workers` threads, with the same result as
-/// [`check`](crate::check). `workers` is from 1 to [`MAX_WORKERS`](job_bodies::MAX_WORKERS). Each
-/// thread checks some of the pools, and calls the gate before each of them, without holding a lock.
-/// If no thread can be started, the calling thread checks the pools.
+/// [`check`](crate::check). `workers` is from 1 to [`MAX_WORKERS`](job_bodies::MAX_WORKERS).
+///
+/// Each thread checks some of the pools. Before each pool, it calls the gate, a hook that can stop
+/// the check. It holds no lock during the call. If no thread can be started, the calling thread
+/// checks the pools.
 ///
 /// # Errors
 ///
@@ -144,7 +146,8 @@ fn empty_results(alloc: Global, pools: usize) -> Result<Vec<Option<PoolCheck>>, 
     Ok(found)
 }
 
-/// Checks the pool and returns the result, or returns `None` if the gate returns `false`.
+/// Calls the gate for the pool. If the gate returns `true`, checks the pool and returns the result.
+/// Otherwise returns `None`.
 fn check_pool<G: PoolGate>(plan: &Plan, cert: &Cert, gate: &G, pool: usize) -> Option<PoolCheck>
     requires fits { IsTrue (cert_fits plan.now cert.now) }
     requires pool { pool < length plan.now.pools }

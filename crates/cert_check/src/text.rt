@@ -13,10 +13,10 @@ use std::alloc::AllocError;
 /// `pool pages: standing 2 of 2, blocked 0 of 0`. In two cases, the line has another text in place
 /// of `standing 2 of 2`:
 ///
-/// - If the pool has no bound, the text is `unbounded` if the queue is unbounded, and otherwise
-///   `may reject`.
-/// - If the pool has a bound and an unbounded queue, the text is, for example, `standing 2 of
-///   unbounded`.
+/// - If the certificate has no bound for the pool, the text is `unbounded` for an unbounded queue,
+///   and `may reject` for any other queue.
+/// - If the certificate has a bound for a pool with an unbounded queue, the text is, for example,
+///   `standing 2 of unbounded`.
 ///
 /// # Errors
 ///
@@ -78,8 +78,8 @@ fn push_bound(
     }
 }
 
-/// Appends the text that says why a pool without a bound needs no bound: `unbounded` if its queue
-/// is unbounded, and otherwise `may reject`.
+/// Appends the reason why a certificate needs no bound for a pool: `unbounded` if the queue of the
+/// pool is unbounded, and otherwise `may reject`.
 fn push_no_bound(text: &mut String, unbounded: bool) -> Result<(), AllocError>
     ensures { Pushes result text.old text.new (spec.bound_text unbounded None) }
 {
