@@ -68,11 +68,11 @@ impl Draft {
             .collect(alloc)
     }
 
-    /// Records the results of a round, and gives `rank` to each pool whose blocked vector the round
-    /// found. Returns `false`, which means that no certificate can result, in these cases:
+    /// Records the results of a round, and gives `rank` to each pool whose blocked vector was
+    /// found. Returns `false` in these cases, in which no certificate can result:
     ///
     /// - No pool got the rank.
-    /// - A pool of `found` needs a bound, and no round has found a bound for it.
+    /// - A pool of `found` needs a bound, and no round has found one.
     pub(crate) fn note(&mut self, found: Vec<PoolVectors>, rank: u64) -> bool {
         let mut moved = false;
         let mut bounded = true;

@@ -14,11 +14,11 @@ use job_bodies::Plan;
 use size_search::{cause_of, steady};
 use std::alloc::{AllocError, Global};
 
-/// Returns the plan's steady certificate if it accepts the plan. Returns `None` in these cases:
+/// Returns the plan's steady certificate if it accepts the plan with its declared sizes. Returns
+/// `None` if it does not, and in these cases:
 ///
 /// - The steady certificate has a weight above `MAX_WEIGHT`.
-/// - The steady certificate does not accept the plan with its declared sizes.
-/// - The plan has a *cause*, which is a reason why no certificate accepts the plan with any sizes.
+/// - There is a reason why no certificate accepts the plan with any sizes (a *cause*).
 pub(crate) fn steady_if_accepted(alloc: Global, plan: &Plan) -> Result<Option<Cert>, AllocError>
     ensures accepted { IfOk result
         (λ found. IfSome found (λ cert. IsTrue (accepted plan.now cert))) }
@@ -31,9 +31,8 @@ pub(crate) fn steady_if_accepted(alloc: Global, plan: &Plan) -> Result<Option<Ce
     }
 }
 
-/// Returns the plan's steady certificate if it accepts the plan. Returns `None` if the certificate
-/// does not accept the plan, or has a weight above `MAX_WEIGHT`. No class of the plan may submit
-/// itself, directly or through other classes.
+/// Returns the plan's steady certificate, or `None` if it has a weight above `MAX_WEIGHT` or does
+/// not accept the plan. No class of the plan may submit itself, directly or through other classes.
 fn without_circle(alloc: Global, plan: &Plan) -> Result<Option<Cert>, AllocError>
     requires free { NoCircle plan.now }
     requires well_formed { IsWellFormed plan.now }
@@ -48,7 +47,7 @@ fn without_circle(alloc: Global, plan: &Plan) -> Result<Option<Cert>, AllocError
     }
 }
 
-/// Returns the certificate, or `None` if it does not accept the plan.
+/// Returns the certificate if it accepts the plan, and `None` otherwise.
 pub(crate) fn if_accepted(plan: &Plan, cert: Cert) -> Option<Cert>
     ensures accepted { IfSome result (λ cert. IsTrue (accepted plan.now cert)) }
     ensures none { IfNone result (accepted plan.now cert ≡ false) }

@@ -33,7 +33,8 @@ pub enum SearchFault {
     ///
     /// No proof covers what threads do under a lock, so these faults are checked at run time.
     Mixed,
-    /// The gate (see [`PoolGate`](cert_check::PoolGate)) returned `false` for a pool.
+    /// The gate returned `false` for a pool. The gate is a hook that is called before each search
+    /// for the vectors of a pool (see [`PoolGate`](cert_check::PoolGate)).
     Gate,
 }
 
@@ -51,11 +52,11 @@ impl From<AllocError> for SearchFault {
 /// The search works in rounds, each with at most `workers` workers, a number from 1 to 64. In each
 /// round, the workers search for the vectors of the pools without a rank. A pool whose blocked
 /// vector is found gets the round's number as its rank. After the round, a get is not counted if
-/// its job only depends on pools with a rank. These are the pool of the job, and the pools of all
-/// jobs for which it waits, directly or through others.
+/// its job only depends on pools with a rank. A job depends on its own pool, and on the pools of
+/// all jobs for which it waits, directly or through other jobs.
 ///
 /// If the jobs of a pool have the same counted gets as in the previous round, the search for the
-/// pool's blocked vector is skipped. The previous round found no vector for these gets.
+/// pool's blocked vector is skipped, because the previous round found no vector for these gets.
 ///
 /// If the rounds find no certificate that accepts the plan, the search tries the plan's steady
 /// certificate, whose numbers do not depend on the sizes. If the steady certificate accepts the

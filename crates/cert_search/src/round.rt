@@ -23,8 +23,8 @@ pub(crate) struct Round<'a> {
     pub(crate) plan: &'a Plan,
     pub(crate) levels: &'a Levels,
     /// The reach of each class, computed as if each pool without a rank had the rank of this round.
-    /// The reach of a class is the greatest of the rank of its pool and the reaches of the classes
-    /// whose jobs it gets.
+    /// The reach of a class is the greatest of these numbers: the rank of the class's pool, and the
+    /// reach of the class of each job that it gets.
     pub(crate) reach: &'a [u64],
     /// The value of `reach` in the previous round. It is empty in the first round.
     pub(crate) reach_before: &'a [u64],
@@ -43,12 +43,13 @@ pub(crate) struct PoolVectors {
 }
 
 impl Round<'_> {
-    /// Searches for the vectors of a pool: for the bound in the first round only, and for the
-    /// blocked vector in each round. Skips the search for the blocked vector if the pool's jobs
-    /// have the same counted gets as in the previous round. The previous round found no vector for
-    /// these gets.
+    /// Searches for the pool's blocked vector and, in the first round, for the pool's bound. Skips
+    /// the search for the blocked vector if the pool's jobs have the same counted gets as in the
+    /// previous round, which found no vector for them.
     ///
-    /// Returns [`SearchFault::Mixed`] as the error if the plan does not have the pool, and
+    /// # Errors
+    ///
+    /// Returns [`SearchFault::Mixed`] if the plan does not have the pool, and
     /// [`SearchFault::Memory`] if memory runs out.
     fn search_pool(&self, alloc: Global, pool: usize) -> Result<PoolVectors, SearchFault>
         ensures named { IfOk result (λ found. found.pool ≡ pool) }
@@ -107,10 +108,17 @@ impl Round<'_> {
         true
     }
 
-    /// Claims a free pool, searches for its vectors and gives it back, and repeats this until no
-    /// pool is free or `stop` is set. Calls the gate before each search. Does not hold the lock of
-    /// the board during a call of the gate or a search. Returns [`SearchFault::Gate`] as the error
-    /// if the gate returns `false`.
+    /// Repeats these steps until no pool is free or `stop` is set. The lock of the board is not
+    /// held during steps 2 and 3.
+    ///
+    /// 1. Claims a free pool.
+    /// 2. Calls the gate, a hook that can stop the search.
+    /// 3. Searches for the vectors of the pool.
+    /// 4. Gives the pool back.
+    ///
+    /// # Errors
+    ///
+    /// Returns [`SearchFault::Gate`] if the gate returns `false`.
     fn search_free_pools<R: Wait, G: PoolGate>(
         &self,
         rt: &R,

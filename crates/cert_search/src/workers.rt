@@ -74,8 +74,12 @@ pub(crate) fn search_pools<R: Threads + Wait + Sync, G: PoolGate>(
 }
 
 /// Waits for the other workers to end, and returns the results of all workers together. `own` has
-/// the results of the calling thread. If the calling thread failed, returns its fault. Otherwise,
-/// if other workers failed, returns the fault of the failed worker that was started first.
+/// the results of the calling thread.
+///
+/// # Errors
+///
+/// Returns the fault of the calling thread, if it failed. Otherwise returns the fault of the failed
+/// worker that was started first.
 fn join_all<R: Threads>(
     rt: &R,
     own: Result<Vec<PoolVectors>, SearchFault>,
