@@ -26,9 +26,9 @@ use job_bodies::{MAX_CERT_BYTES, Plan};
 use std::alloc::Global;
 use weights::{Bound, Ranks};
 
-/// Parses the bound of the pool with this index. `text` begins after the pool's blocked vector,
-/// with the comma before the bound if there is a bound. Returns the bound, or `None` if there is no
-/// bound, and the rest of the text. It is an error if there is no bound, but the pool needs one.
+/// Parses the bound of the pool with this index, and returns the bound and the rest of the text.
+/// `text` begins directly after the pool's blocked vector. If the text has no bound and the pool
+/// needs none, the bound is `None`.
 fn parse_bound<'a>(
     alloc: Global,
     plan: &Plan,

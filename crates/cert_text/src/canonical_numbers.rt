@@ -89,8 +89,12 @@ fn parse_digit(text: &[u8]) -> Option<(u64, &[u8])>
 }
 
 /// Parses the number at the start of a text, and returns the number and the rest of the text. A
-/// number that begins with `0` ends after this digit. Returns an error if the text does not begin
-/// with a digit, or if the number is above [`MAX_WEIGHT`].
+/// number that begins with `0` ends after this digit.
+///
+/// # Errors
+///
+/// Returns an error if the text does not begin with a digit, or if the number is above
+/// [`MAX_WEIGHT`].
 #[inline(always)]
 fn parse_number(text: &[u8]) -> Result<(u64, &[u8]), CanonicalError>
     ensures text { IfOk result (λ read. text.now ≡ decimal read.0 ++ read.1.now) }

@@ -16,8 +16,8 @@ use job_bodies::Plan;
 use std::alloc::Global;
 use weights::Vector;
 
-/// Parses the list of the rows of all classes, with which a text begins. Returns the rows and the
-/// rest of the text.
+/// Parses the rows of all classes at the start of a text, and returns the rows and the rest of the
+/// text. A row is the list of the weights of a class.
 fn parse_class_rows<'a>(
     alloc: Global,
     plan: &Plan,
@@ -43,8 +43,8 @@ fn parse_class_rows<'a>(
     Ok((rows, strip_byte(rest, b']')?))
 }
 
-/// Parses the list of the rows of all client kinds, with which a text begins. Returns the rows and
-/// the rest of the text.
+/// Parses the rows of all client kinds at the start of a text, and returns the rows and the rest of
+/// the text. A row is the list of the weights of a client kind.
 fn parse_client_rows<'a>(
     alloc: Global,
     plan: &Plan,

@@ -29,12 +29,12 @@ impl Model for PoolCert {
 }
 
 impl PoolCert {
-    /// Returns whether the part fits the pool with this index, which means that both of these
-    /// conditions hold:
+    /// Returns whether the part fits the pool with this index. It fits if both of these conditions
+    /// hold:
     ///
-    /// - Each of its vectors has the shape of the plan and no number above
+    /// - Each vector of the part has the shape of the plan and no number above
     ///   [`MAX_WEIGHT`](job_bodies::MAX_WEIGHT).
-    /// - It has a bound, or the pool may reject jobs or has an unbounded queue.
+    /// - The part has a bound, or the pool needs no bound.
     fn fits(&self, plan: &Plan, pool: usize) -> bool
         ensures { result ≡ spec.pool_cert_fits plan.now pool self.now }
     {

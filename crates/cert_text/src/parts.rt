@@ -13,7 +13,7 @@ use std::alloc::AllocError;
 use support::push_number;
 use weights::{Bound, Ranks, Vector};
 
-/// Appends a comma if `later` is `true`. It is `true` if the next list element is not the first.
+/// Appends a comma if `later` is `true`, which means that the next list element is not the first.
 #[inline(always)]
 fn push_comma(text: &mut String, later: bool) -> Result<(), AllocError>
     ensures { Pushes result text.old text.new (comma_if later) }

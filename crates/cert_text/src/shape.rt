@@ -47,10 +47,10 @@ fn no_bound_of(plan: &Plan, pool: usize) -> Result<Option<Bound>, CertError>
 /// Reads the bound of the pool with this index. `lifetime` and `standing` are the values at these
 /// two keys of the pool's object, or `None` if the key is missing.
 ///
-/// - If there is a value `lifetime`, the bound is a lifetime vector.
-/// - Otherwise, if there is a value `standing`, the bound is a standing vector.
-/// - If there is neither, the bound is `None` if the pool needs no bound. Otherwise returns a
-///   fault.
+/// - If `lifetime` is a value, the bound is a lifetime vector.
+/// - Otherwise, if `standing` is a value, the bound is a standing vector.
+/// - If both are `None`, the bound is `None` if the pool needs no bound. If it needs one, the
+///   result is a fault.
 fn either_of(
     alloc: Global,
     plan: &Plan,
