@@ -278,8 +278,8 @@ impl ActorClassifier {
     }
 }
 
-/// The progress of an ended actor: the length of the prefix of its path whose jobs are settled, and
-/// whether this prefix is the whole path.
+/// The progress of an ended actor: the length of the prefix of its path in which all jobs are
+/// settled, and whether this prefix is the whole path.
 #[derive(Clone, Copy)]
 struct Progress {
     known: usize,

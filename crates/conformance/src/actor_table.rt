@@ -90,8 +90,8 @@ impl ActorTable {
     /// Inserts an open actor. Replaces the actor if the table already has it.
     ///
     /// - `label` is the class of a job or the kind of a round.
-    /// - `pool` is the pool of a job. It is empty for a round.
-    /// - `submitter` is the submitter of a job. It is `None` for a round.
+    /// - `pool` is the pool of a job, and empty for a round.
+    /// - `submitter` is the submitter of a job, and `None` for a round.
     ///
     /// # Errors
     ///
@@ -149,8 +149,8 @@ impl ActorTable {
         }
     }
 
-    /// Returns the path of an ended actor, with the length of the prefix whose jobs are settled.
-    /// Returns `None` if the actor has not ended or is not in the table.
+    /// Returns the path of an ended actor, with the length of its prefix in which all jobs are
+    /// settled. Returns `None` if the actor has not ended or is not in the table.
     pub(crate) fn ended_path(&self, actor: RecordedActor) -> Option<&EndedPath>
         ensures { option_copied result
             ≡ option_and_then (λ kept. kept.ended_path) (in_table self.now actor) }
@@ -162,8 +162,8 @@ impl ActorTable {
         kept.ended_path.as_ref()
     }
 
-    /// Sets the length of the prefix of an ended actor's path whose jobs are settled. Does nothing
-    /// if the actor has not ended or is not in the table.
+    /// Sets the length of the prefix of an ended actor's path in which all jobs are settled. Does
+    /// nothing if the actor has not ended or is not in the table.
     pub(crate) fn advance(&mut self, actor: RecordedActor, known: usize)
         ensures later { (one : RecordedActor)
             → in_table self.new one

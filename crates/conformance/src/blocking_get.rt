@@ -8,31 +8,24 @@ use crate::row::has_submit_at;
 use job_bodies::Action;
 
 /// The state of the search for a blocking get at an index of the body. The way to the index starts
-/// at the last index, up to this one, where the body can be.
+/// at the nearest index, at or before it, where the body can be.
 #[derive(Clone, Copy)]
 enum Way {
     /// There is no way: the body cannot be at this index or at an earlier one.
     Unreached,
     /// The body may pass every get on the way to the index.
     Free,
-    /// The body may not pass some get on the way to the index. Let `stop` be the first such get.
-    /// The field is, of `stop` and the later gets of its class on the way, the one with the
-    /// smallest limit.
+    /// The body may not pass some get on the way to the index. The field is the get with the
+    /// smallest limit among the first such get and the later gets of the same class on the way.
     Blocked(BodyGet),
 }
 
 /// Returns the get that blocks the body before its next submit of the class, or `None` if no get
-/// blocks such a submit. `row` says for each index whether the body can be there. `passes` says for
-/// each action whether the body may pass the action.
+/// blocks the body. Of several gets of one class on the way to the submit, it is the one with the
+/// smallest limit.
 ///
-/// The get is found in these steps:
-///
-/// - The way to a submit starts at the last index, up to the submit, where the body can be.
-/// - The next submit is the first submit of the class with a get on its way that the body may not
-///   pass.
-/// - Let `stop` be the first such get on the way to the next submit.
-/// - The result is, of `stop` and the later gets of its class on this way, the get with the
-///   smallest limit.
+/// - `row` says for each index whether the body can be there.
+/// - `passes` says for each action whether the body may pass the action.
 pub(crate) fn blocking_get(
     row: &[bool],
     passes: &[bool],

@@ -38,9 +38,9 @@ pub(crate) fn body_gets(alloc: Global, body: &[Action]) -> Result<Vec<Option<Bod
     Ok(gets)
 }
 
-/// Adds the action at this index of the body to `jobs`, the list of the submits whose jobs are
-/// open: a submit is added, and a get removes the submit of its job. Returns the action if it is a
-/// get, and `None` otherwise.
+/// Updates `jobs`, the list of the submits of open jobs, for the action at this index of the body.
+/// A submit is added, and a get removes the submit of its job. Returns the action if it is a get,
+/// and `None` otherwise.
 fn pass_action(
     body: &[Action],
     index: usize,
@@ -64,8 +64,8 @@ fn pass_action(
     }
 }
 
-/// Removes the submit at index `submit` from `jobs`, the list of the submits whose jobs are open in
-/// the body. Returns the get of the removed submit's job.
+/// Removes the submit at index `submit` from `jobs`, the list of the submits of open jobs. Returns
+/// the get of the removed submit's job.
 fn pass_get(body: &[Action], submit: usize, jobs: &mut Vec<usize>) -> BodyGet
     ensures jobs { jobs.new.items ≡ filter (λ other. not (other == submit)) jobs.old.items }
     ensures class { result.class ≡ submitted_class body.now submit }
@@ -91,10 +91,9 @@ fn submitted_class(body: &[Action], submit: usize) -> usize
     }
 }
 
-/// Returns a bound for the indices of the body at which an actor of this kind may get a job of the
-/// class. The actor may get the job at an index exactly if the index is less than the bound. For a
-/// job, the bound is the index after the last get of the class in the body, or 0 if there is no
-/// such get. For a round, the bound is greater than every index.
+/// Returns the first index of the body from which on an actor of this kind may get no job of the
+/// class. For a job, this is the index after the body's last get of the class, or 0 if there is no
+/// such get. For a round, it is greater than every index.
 pub(crate) fn end_of_gets(kind: ActorKind, gets: &[Option<BodyGet>], class: usize) -> usize
     ensures { (body : List Action)
         → spec.AreGets body gets.now

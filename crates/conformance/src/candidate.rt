@@ -31,8 +31,8 @@ pub(crate) fn candidate_of(body: &[Action], classes: &Vec<usize>) -> Candidate
     found
 }
 
-/// Returns the candidate after `class`, one more class of the job. `found` is the candidate for the
-/// classes before it.
+/// Returns the candidate for the classes of a job up to and including `class`. `found` is the
+/// candidate for the classes before `class`.
 fn next_candidate(body: &[Action], found: Candidate, class: usize) -> Candidate
     ensures { result ≡ next_candidate body.now found class }
 {

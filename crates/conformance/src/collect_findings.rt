@@ -390,8 +390,11 @@ fn subject_of(
     }
 }
 
-/// Returns true if the event invalidates a SAFE answer whether or not the actor's path matches a
-/// body. If `without_refusals` is true, a refusal is not such an event.
+/// Returns true if the event invalidates a SAFE answer, even if the path of its actor matches a
+/// body. The result is false only in these cases:
+///
+/// - The event is a get that timed out or was interrupted.
+/// - The event is a refusal, and `without_refusals` is true.
 fn is_counted(without_refusals: bool, invalidation: Invalidation) -> bool
     ensures { result ≡ spec.is_counted without_refusals invalidation }
 {

@@ -15,24 +15,26 @@ pub fn pools_are_as_planned()
     ensures recorded { PoolsAreRecorded }
 {}
 
-/// States that the client kinds with too many rounds can be found line by line. If no line has such
-/// an excess, no client kind ever has more rounds than the plan allows.
+/// States that client kinds with too many rounds can be found line by line. If no line shows too
+/// many rounds of a kind, each kind has at most as many rounds as the plan allows, after every
+/// line.
 pub fn rounds_are_within_plan()
     ensures adds_up { ExcessesAddUp }
     ensures within { RoundsAreWithinPlan }
 {}
 
-/// States that the plan allows a rejection only if the rejecting pool may reject jobs. Let each
-/// line of a recording that invalidates a SAFE answer be a rejection that the plan allows. If no
-/// pool of the plan may reject jobs, the recording then has no such line.
+/// States that the plan allows a rejection only if the rejecting pool may reject jobs. Call a line
+/// *invalidating* if it invalidates a SAFE answer. Let each invalidating line of a recording be a
+/// rejection that the plan allows. If no pool of the plan may reject jobs, the recording then has
+/// no invalidating line.
 pub fn rejections_need_the_key()
     ensures need { RejectionsNeedTheKey }
     ensures all { WithoutTheKeyAllCount }
 {}
 
 /// States that the plan allows no rejection by a pool with an unbounded queue. In the result of
-/// [`mark_rejecting_pools`](crate::mark_rejecting_pools), such a pool must not reject jobs, unless
-/// its `queue` is 0.
+/// [`mark_rejecting_pools`](crate::mark_rejecting_pools), a pool with an unbounded queue must not
+/// reject jobs, unless its `queue` is 0.
 pub fn unbounded_pools_reject_nothing()
     ensures none { UnboundedPoolsRejectNothing }
     ensures no_key { UnboundedPoolsGetNoKey }

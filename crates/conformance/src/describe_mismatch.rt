@@ -21,11 +21,10 @@ use recordings::{RecordedActor, RecordedStep};
 use std::alloc::{AllocError, Global};
 
 /// Returns a description of the first step of the actor that no body explains, and the number of
-/// the line that records this step. The step is the one after the longest prefix of the path that a
-/// body explains, or the actor's end if this prefix is the whole path. The line number is `None` if
-/// no line records the step.
+/// the line that records the step, if a line does. If a body explains the whole path, this step is
+/// the actor's end.
 ///
-/// `classless` has the jobs whose paths match no class of their labels.
+/// `classless` has the jobs with a path that matches no class of the job's label.
 ///
 /// # Errors
 ///
@@ -193,7 +192,7 @@ fn deviating_step(
 }
 
 /// Returns the deviation of an actor that ended too early. `job` is the actor's first open job, or
-/// `None` if it got all its jobs.
+/// `None` if the actor got all jobs that it submitted.
 fn deviating_end(
     alloc: Global,
     first: &FirstLines<'_>,
@@ -226,8 +225,8 @@ fn open_job(path: &[RecordedStep]) -> Option<usize>
     None
 }
 
-/// Returns the job of `step`, the step at this index of the path, if it is a submit whose job the
-/// path does not get. Otherwise returns `None`.
+/// Returns the job of `step` if `step` is a submit of a job that the path does not get, and `None`
+/// otherwise. `place` is the index of `step` in the path.
 fn open_job_at(path: &[RecordedStep], place: usize, step: RecordedStep) -> Option<usize>
     ensures { option_to_list result ≡ spec.open_job_at path.now (place, step) }
 {
@@ -264,8 +263,8 @@ fn deviating_submit(
     }
 }
 
-/// Returns the deviation for a submit of a job whose path matches a class. `excess` has the open
-/// jobs that block the submit. It is `None` if the body has no such submit left.
+/// Returns the deviation for a submit of a job that belongs to a class. `excess` has the open jobs
+/// that block the submit. It is `None` if the body has no submit left for a job of this label.
 fn submit_of_body(label: ActorLabel, excess: Option<OpenExcess>) -> DeviatingStep
     ensures { result ≡ spec.submit_of_body label excess }
 {

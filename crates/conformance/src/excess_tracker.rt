@@ -44,8 +44,8 @@ impl ExcessTracker {
     }
 
     /// Reads line `number` of a valid recording. If the line begins or ends a round, counts the
-    /// begin or the end for the kind of the round. This is its kind in `others`, or the first kind
-    /// of its label if `others` does not have the round.
+    /// begin or the end for the round's kind. The kind is the one in `others` or, if `others` does
+    /// not have the round, the first kind of the round's label.
     ///
     /// # Errors
     ///
@@ -73,9 +73,9 @@ impl ExcessTracker {
     }
 }
 
-/// Returns a list with the first line at which a client kind has more rounds than the plan allows,
-/// for each client kind that has such a line. The recording must be valid. The kind of a round is
-/// its kind in `others`, or the first kind of its label if `others` does not have the round.
+/// Returns, for each client kind that has more rounds than the plan allows, the first line at which
+/// the kind has too many. The recording must be valid. The kind of a round is the one in `others`
+/// or, if `others` does not have the round, the first kind of the round's label.
 ///
 /// # Errors
 ///

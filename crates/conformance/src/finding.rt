@@ -25,16 +25,16 @@ pub enum Finding {
     Pool(PoolDeviation),
     /// A label that is not in the plan. A label is a class with its pool, or a client kind.
     NotPlanned(NotPlanned),
-    /// The first actor of a label, by number, whose path matches no body, and the line of its first
-    /// step that no body explains. The label, which is a class with its pool or a client kind, is
-    /// in the plan.
+    /// For a label of the plan, the first actor, by number, with a path that matches no body, and
+    /// the line of the first step of this actor that no body explains. A label is a class with its
+    /// pool, or a client kind.
     PathMismatch {
         line: Option<usize>,
         mismatch: PathMismatch,
     },
-    /// The first actor of a label, by number, for which it is undecided which bodies its path
-    /// matches. The label, which is a class with its pool or a client kind, is in the plan. For
-    /// this label, the comparison has no complete result.
+    /// For a label of the plan, the first actor, by number, for which it is undecided which bodies
+    /// the actor's path matches. A label is a class with its pool, or a client kind. For this
+    /// label, the comparison has no complete result.
     NotDecided {
         actor: RecordedActor,
         label: ActorLabel,
@@ -43,8 +43,8 @@ pub enum Finding {
     /// counts as the first kind that it can belong to. A round whose kind is undecided is not
     /// counted.
     TooMany(RoundExcess),
-    /// The first get of a job by an actor other than its submitter, before the submitter got the
-    /// job. The fields have the labels of the actor and of the job.
+    /// The first get of a job by an actor that did not submit the job, before the submitter got it.
+    /// The fields have the labels of the actor and of the job.
     ForeignGet {
         get: ForeignGet,
         label: ActorLabel,

@@ -24,8 +24,8 @@ impl FirstActors {
         }
     }
 
-    /// Adds the actor unless the set has an actor of the same label with a smaller or equal number.
-    /// An actor of this label with a larger number is replaced.
+    /// Adds the actor, in place of an actor of the same label with a larger number. Changes nothing
+    /// if the set has an actor of the same label with a smaller or equal number.
     ///
     /// # Errors
     ///

@@ -14,8 +14,8 @@ use job_bodies::Plan;
 use recordings::Line;
 use std::alloc::{AllocError, Global};
 
-/// The pools that have a handler other than `abort` in some line, the same for `caller_runs` and
-/// `discard`, and the pools that are shut down.
+/// Four sets of pools: for each of the handlers `abort`, `caller_runs` and `discard`, the pools
+/// with a line that names another handler, and in addition the pools that are shut down.
 #[derive(Drop)]
 pub(crate) struct Handlers {
     not_abort: PoolNames,

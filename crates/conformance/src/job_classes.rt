@@ -22,8 +22,8 @@ pub(crate) struct JobClasses {
     pub(crate) is_decided: bool,
 }
 
-/// A map from job numbers to the classes that the jobs can belong to. It has the jobs that are
-/// already classified, but whose submitters are not yet classified.
+/// A map from job numbers to the classes that the jobs can belong to. A job is in the map from its
+/// own classification until the classification of its submitter.
 #[derive(Drop)]
 pub(crate) struct ClassTable {
     jobs: IdMap<JobClasses>,
@@ -81,8 +81,8 @@ impl ClassTable {
         Ok(())
     }
 
-    /// Returns the index of the first submit in the path, at or after index `from`, whose job is
-    /// not in the table. Returns the length of the path if there is no such submit.
+    /// Returns the index of the first submit, at or after index `from` of the path, of a job that
+    /// is not in the table. Returns the length of the path if there is no such submit.
     pub(crate) fn first_unsettled(&self, path: &[RecordedStep], from: usize) -> usize
         ensures within { from ≤ length path.now → result ≤ length path.now }
         ensures before { AreSettledBefore self.now path.now from
@@ -106,10 +106,9 @@ impl ClassTable {
         }
     }
 
-    /// Replaces the contents of `steps` with the steps of the path, in which each submit has the
-    /// classes of its job. Removes the jobs of the path from the table. If a job is not in the
-    /// table, its submit has no classes, and its classes count as undecided. Returns true if the
-    /// classes of all jobs of the path are decided.
+    /// Replaces the contents of `steps` with the steps of the path, each submit with the classes of
+    /// its job. Removes these jobs from the table. Returns true if each of them was in the table
+    /// with decided classes.
     ///
     /// # Errors
     ///

@@ -11,8 +11,8 @@ use recordings::RecordedActor;
 use std::alloc::AllocError;
 use support::push_number;
 
-/// An actor whose path matches no body of its label, which is its class and pool, or its client
-/// kind. The label is in the plan.
+/// An actor with a path that matches no body of the actor's label. The label is the class and pool
+/// of a job, or the client kind of a round, and the plan has it.
 #[derive(Drop)]
 pub struct PathMismatch {
     pub actor: RecordedActor,
@@ -29,16 +29,16 @@ pub struct PathMismatch {
 /// ended too early.
 #[derive(Drop)]
 pub enum DeviatingStep {
-    /// The actor submitted a job of this class to this pool. The actor's body has no such submit
-    /// left.
+    /// The actor submitted a job of this class to this pool. The actor's body has no submit of this
+    /// class left.
     Submits(ActorLabel),
-    /// The actor submitted a job of this class to this pool while too many of its jobs were open.
-    /// The actor's body has such a submit left.
+    /// The actor submitted a job of this class to this pool while too many jobs of the actor were
+    /// open. The body of the actor still has a submit of this class.
     SubmitsWhileOpen {
         label: ActorLabel,
         excess: OpenExcess,
     },
-    /// The actor got a job of this class and pool. The actor's body has no such get left.
+    /// The actor got a job of this class and pool. The actor's body has no get of this class left.
     Gets(ActorLabel),
     /// The actor submitted this job. The path of the job matches no class of the job's label,
     /// although the plan has at least one class of this label.

@@ -17,9 +17,9 @@ pub(crate) enum Pick {
     First,
     /// The last of the job's classes that the body submits.
     Last,
-    /// The class of the first submit in a part of the body that submits one of the job's classes.
-    /// The part begins after the submit that was found in this way for an earlier job of the path.
-    /// For the first job, the part is the whole body.
+    /// The class of the next submit of the body that submits one of the job's classes. The search
+    /// for this submit starts after the submit that this rule found for an earlier job of the path.
+    /// For the first job, it starts where the body starts.
     InOrder,
 }
 

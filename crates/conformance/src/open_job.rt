@@ -18,7 +18,7 @@ pub(crate) fn count_in(class: usize, jobs: &[OpenJob]) -> usize
     jobs.iter().filter(|one| one.class == class).count()
 }
 
-/// Removes the job and returns its class, or `None` if it is not open.
+/// Removes the job and returns its class. Returns `None` if the job is not open.
 pub(crate) fn take_job(jobs: &mut Vec<OpenJob>, job: usize) -> Option<usize>
     ensures class { result ≡ spec.open_class job jobs.old.items }
     ensures jobs { jobs.new.items ≡ spec.without job jobs.old.items }

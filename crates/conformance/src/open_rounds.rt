@@ -14,8 +14,8 @@ use recordings::Line;
 use std::alloc::{AllocError, Global};
 use support::IdMap;
 
-/// A map from open rounds to the client kinds that they count as. The value is `None` if the round
-/// counts as no kind of the plan.
+/// A map from each open round to the client kind for which the round is counted, or to `None` if
+/// the round is not counted.
 #[derive(Drop)]
 pub(crate) struct OpenRounds {
     kinds: IdMap<Option<usize>>,
@@ -32,11 +32,10 @@ impl OpenRounds {
     }
 
     /// Reads the next line of a valid recording. If the line begins or ends a round, returns the
-    /// client kind that the round counts as, or `None` if it counts as no kind of the plan. Returns
-    /// `None` for any other line.
+    /// client kind for which the round is counted. Returns `None` if the round is not counted, and
+    /// for any other line.
     ///
-    /// At its begin, a round gets its kind in `others`, or the first kind of its label if `others`
-    /// does not have the round. At its end, it still counts as this kind.
+    /// `others` has each round that is not counted for the first kind of its label.
     ///
     /// # Errors
     ///

@@ -12,9 +12,9 @@ use recordings::RecordedActor;
 use std::alloc::{AllocError, Global};
 use support::IdMap;
 
-/// A map from rounds to the client kinds that they count as, or to `None` for a round that counts
-/// as no kind. It has only the rounds that do not count as the first kind of their label. A round
-/// whose kind is undecided counts as no kind.
+/// A map from rounds to the client kinds for which they are counted. The value of a round is `None`
+/// if its kind is undecided, because such a round is not counted. The map has only rounds that are
+/// not counted for the first kind of their label.
 #[derive(Drop)]
 pub(crate) struct OtherKinds {
     kinds: IdMap<Option<usize>>,
@@ -33,7 +33,7 @@ impl OtherKinds {
         }
     }
 
-    /// Adds the actor if it is a round that does not count as the first kind of its label.
+    /// Adds the actor if it is a round that is not counted for the first kind of its label.
     ///
     /// # Errors
     ///
@@ -51,8 +51,8 @@ impl OtherKinds {
         Ok(())
     }
 
-    /// Returns the client kind that a round counts as, or `None` if the round counts as no kind of
-    /// the plan. If the map does not have the round, it counts as the first kind of `label`.
+    /// Returns the client kind for which a round is counted, or `None` if the round is not counted.
+    /// If the map does not have the round, the result is the first kind of `label`.
     pub(crate) fn kind_of(&self, plan: &Plan, round: usize, label: &str) -> Option<usize>
         ensures { result ≡ spec.kind_by plan.now self.now round label.now }
     {

@@ -76,9 +76,8 @@ pub fn match_path(
 }
 
 /// Matches the path against the body in a joint walk, one step of the path after the other. The
-/// path deviates at the first step that the walk cannot make. If the walk comes before that to the
-/// submit of a job that may belong to several classes that the body submits, the result is
-/// undecided.
+/// path deviates at the first step that the walk cannot make. The result is undecided if a job
+/// submitted before that may belong to several classes that the body submits.
 ///
 /// # Errors
 ///
@@ -172,8 +171,8 @@ fn fits_with(
     }
 }
 
-/// Returns the result for a path all of whose steps the walk could make. `state` is the state after
-/// the last step. A whole path matches only if the body can be at its end.
+/// Returns the result for a path if the walk could make all its steps. `state` is the state after
+/// the last step. A whole path matches only if the walk can then be at the end of the body.
 fn match_at_end(
     state: &WalkState,
     body: &[Action],

@@ -19,14 +19,14 @@ pub(crate) enum RejectionRule {
     /// call `invokeAny`. If `closes` is true, the job must also have a `start` line, and no
     /// `shutdown` of the pool may precede the refusal.
     IfCallerRuns {
-        /// Whether the recording has a `shutdown` of the pool. If it has, the handler may have
-        /// dropped a job instead of running it.
+        /// Whether the recording has a `shutdown` of the pool. After a shutdown, the handler may
+        /// have dropped a job instead of running it.
         closes: bool,
     },
 }
 
 impl RejectionRule {
-    /// Returns true if the rule allows the refusal of a job.
+    /// Returns true if the rule allows that the pool refused a job.
     ///
     /// - `acted` says whether the job submits, gets or cancels a job or calls `invokeAny`.
     /// - `started` says whether the job has a `start` line.

@@ -94,7 +94,7 @@ pub struct RoundComparison {
 }
 
 impl RoundComparison {
-    /// Creates a comparison with this plan in its state before the first line.
+    /// Creates a comparison with this plan, before the first line of a recording.
     ///
     /// # Errors
     ///

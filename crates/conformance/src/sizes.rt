@@ -65,8 +65,8 @@ pub fn differences(
 }
 
 /// Returns true if the kind of the recorded queue fits the plan's queue. If the plan's queue is
-/// unbounded, only `LinkedBlockingQueue` fits. Otherwise, the kinds that fit depend on its capacity
-/// ([`is_kind_of`]).
+/// unbounded, only `LinkedBlockingQueue` fits. Otherwise, the kinds that fit depend on the capacity
+/// of the plan's queue ([`is_kind_of`]).
 fn is_planned_kind(pool: &Pool, kind: QueueKind) -> bool
     ensures { result ≡ spec.is_planned_kind pool.now kind }
 {
@@ -88,7 +88,7 @@ fn planned_capacity(pool: &Pool) -> u64
     }
 }
 
-/// Returns the difference for a recorded queue whose capacity is not that of the plan.
+/// Returns the difference for a recorded queue that has another capacity than the plan's queue.
 fn capacity_difference(recorded: u64, pool: &Pool) -> Difference
     ensures { result ≡ spec.capacity_difference recorded pool.now }
 {

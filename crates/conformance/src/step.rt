@@ -13,7 +13,8 @@ pub enum PathStep {
     Gets(usize),
 }
 
-/// The kind of an actor. It determines which of its own jobs the actor may get.
+/// The kind of an actor. An actor gets only jobs that it submitted, and the kind determines which
+/// of these jobs it may get.
 #[derive(Clone, Copy, PartialEq, Eq)]
 pub enum ActorKind {
     /// A job. It may get only jobs of classes that the rest of its body gets.

@@ -24,7 +24,8 @@ use std::alloc::{AllocError, Global};
 pub(crate) struct Verdicts {
     pub(crate) mismatches: FirstActors,
     pub(crate) undecided: FirstActors,
-    /// The jobs whose path matches no class of their label. The label need not be in the plan.
+    /// The jobs with a path that matches no class of the job's label. The plan need not have the
+    /// label.
     pub(crate) classless: JobSet,
 }
 
@@ -40,9 +41,9 @@ impl Verdicts {
         }
     }
 
-    /// Records the actor if the plan has its label, and the actor's path matches no body or the
-    /// match is undecided. Adds a job whose path matches no body to `classless`, even if the plan
-    /// lacks its label. Ignores any other actor.
+    /// If the plan has the actor's label, records the actor in two cases: its path matches no body,
+    /// or the match is undecided. Adds a job with a path that matches no body to `classless`, even
+    /// if the plan lacks the job's label.
     ///
     /// # Errors
     ///

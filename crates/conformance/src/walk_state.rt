@@ -29,7 +29,8 @@ pub(crate) struct WalkState {
     /// For each action of the body, true if the body may pass the action while the jobs in `jobs`
     /// are open in the path.
     passes: Vec<bool>,
-    /// For each index of the body, including the index of its end, true if the body can be there.
+    /// The indices of the body at which the body can be after the steps so far. The element at an
+    /// index is true if the body can be there. The last element is for the end of the body.
     row: Vec<bool>,
 }
 
@@ -38,8 +39,9 @@ pub(crate) struct WalkState {
 pub(crate) enum Progress {
     /// At least one joint walk over the path and the body makes this step.
     Advanced,
-    /// No joint walk over the path and the body makes this step. If the step is a submit that the
-    /// body still has, the field has the open jobs that block it.
+    /// No joint walk over the path and the body makes this step. If the step is a submit, and the
+    /// body still has a submit of the same class, the field has the open jobs that block the body
+    /// before it.
     Stops(Option<OpenExcess>),
     /// The job of the step may belong to several classes that the body submits.
     Undecided,
