@@ -49,15 +49,13 @@ pub(crate) struct BestFirstResult {
     pub(crate) left: usize,
 }
 
-/// Searches from the plan's initial state for a permanent violation. Continues in turn from the
-/// oldest open state, and from the open state that is most promising by each of these measures:
+/// Searches from the plan's initial state for a permanent violation, in at most `states` visited
+/// states. Continues in turn from the oldest open state, and from the open state with the smallest
+/// value of each of these measures:
 ///
 /// - the weight lost under each of the first [`MAX_VECTORS`] vectors in `potentials`,
 /// - the number of threads that do not wait at a get, and
 /// - the least number of further jobs that a pool accepts before it refuses one.
-///
-/// A smaller measure is more promising. The search stops at the first permanent violation, after
-/// `states` visited states, or if no open state is left.
 pub(crate) fn best_first(
     alloc: Global,
     plan: &Plan,
@@ -159,15 +157,11 @@ impl<'a> BestFirst<'a> {
         Ok(number)
     }
 
-    /// Selects an open state, closes it, and returns its number. Returns `None` if no state is
-    /// open. The turns repeat in this order:
+    /// Selects an open state, closes it, and returns its number, or `None` if no state is open.
+    /// `turn` is the number of the current turn. The turns repeat in this order:
     ///
-    /// - For each measure, there is a turn that selects the open state that is most promising by
-    ///   this measure.
-    /// - After them, there is a turn that selects the oldest open state. This state is also
-    ///   selected in the turn of a measure without open states.
-    ///
-    /// `turn` is the number of the current turn.
+    /// - For each measure, a turn selects the open state that is most promising by this measure.
+    /// - After that, a turn selects the oldest open state.
     fn next_open(&mut self, turn: usize) -> Option<usize> {
         let measures = self.opens.len().saturating_add(1);
         let measure = turn.checked_rem(measures)?;
@@ -223,12 +217,9 @@ impl<'a> BestFirst<'a> {
         Ok(None)
     }
 
-    /// Visits the state to which the branch leads from state `number`, and returns the violation in
-    /// this new state, if there is one.
-    ///
-    /// - If the violation is not permanent, returns it only if no such violation is stored yet.
-    /// - If the branch is not possible, or the new state was reached before, returns `None`.
-    /// - Otherwise adds the new state to the open states, unless a submit was refused.
+    /// Visits the state to which the branch leads from state `number`. Adds it to the open states
+    /// if it was not reached before and no submit was refused. Returns the violation in the new
+    /// state, but omits a violation that is not permanent if one is already stored.
     fn visit(
         &mut self,
         replayed: &ReplayedState<'a>,

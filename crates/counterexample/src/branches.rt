@@ -16,9 +16,9 @@ const MAX_ACTORS: usize = 8;
 /// A choice and the actor that makes it.
 ///
 /// - `place` is the index of the choice.
-/// - `newer` selects one of the actors that are ready for the choice. It is the number of those
-///   that became ready later than the selected actor. It has no effect if a new client starts or a
-///   thread takes a job.
+/// - `newer` selects an actor that is ready for the choice: it is the number of actors that became
+///   ready later than the selected one. `newer` has no effect if a new client starts or a thread
+///   takes a job.
 #[derive(Clone, Copy, PartialEq, Eq)]
 pub(crate) struct Branch {
     pub(crate) place: usize,
@@ -44,15 +44,12 @@ impl<'a> Walk<'a> {
         })
     }
 
-    /// Returns the branches from this state that the search tries. Actors that act alike are tried
-    /// only once:
+    /// Returns the branches from this state that the search tries. Skips submits to an unbounded
+    /// queue that is at its limit, and tries only some of the actors that act alike:
     ///
-    /// - The start of a new client is tried only if no earlier client of its kind is back at its
-    ///   first submit.
-    /// - Of the clients of a kind that are back at their first submit, only one is tried.
+    /// - Of the clients of a kind that are at their first submit, one is tried. The start of a new
+    ///   client is tried only if there is no such client.
     /// - Of the actors at any other submit, at most [`MAX_ACTORS`] are tried.
-    ///
-    /// A submit to an unbounded queue is not tried if the queue is at its limit.
     pub(crate) fn branches(&self, alloc: Global) -> Result<Vec<Branch>, AllocError> {
         let mut branches = Vec::new(alloc);
         for (place, (choice, ready)) in self.choices.all.iter().zip(&self.ready).enumerate() {
@@ -112,9 +109,9 @@ impl<'a> Walk<'a> {
         threads.saturating_sub(waiting)
     }
 
-    /// Returns the least room of a pool that may refuse a job. Such a pool has a bounded queue and
-    /// must not reject jobs. The room of a pool is the number of further jobs that it accepts
-    /// before a thread takes a job from its queue. Returns `u64::MAX` if no pool may refuse a job.
+    /// Returns the least room of a pool that has a bounded queue and must not reject jobs, or
+    /// `u64::MAX` if there is no such pool. The room is the number of further jobs that the pool
+    /// accepts before a thread takes a job from its queue.
     pub(crate) fn least_room(&self) -> u64 {
         let mut least = u64::MAX;
         for pool in &self.machine.pools {

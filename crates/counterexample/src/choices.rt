@@ -101,9 +101,8 @@ impl Choices {
         Ok(())
     }
 
-    /// Returns `true` if the choice with this index submits a job to an unbounded queue that is
-    /// full for this search. This means that the queue already has as many jobs as the limit for
-    /// this submit.
+    /// Returns `true` if the choice with this index is a submit to an unbounded queue that already
+    /// has as many jobs as the search allows for this submit.
     pub(crate) fn is_at_limit(&self, machine: &Machine, place: usize) -> bool {
         match self.limits.get(place).copied() {
             Some(Some(limit)) => match machine.pools.get(limit.pool) {

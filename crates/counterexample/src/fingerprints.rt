@@ -92,12 +92,9 @@ impl Prints<'_> {
         }
     }
 
-    /// Adds the fingerprint of a job. The jobs that this job will get must have been added before.
-    ///
-    /// - If the parent of the job will get it, adds the fingerprint of the job to that of the
-    ///   parent.
-    /// - Otherwise, if the job is not done, adds the fingerprint of the job to that of the whole
-    ///   state.
+    /// Adds the fingerprint of a job to that of its parent, if the parent will get the job.
+    /// Otherwise adds it to that of the whole state, unless the job is done. The jobs that this job
+    /// will get must have been added before.
     fn add_job(&mut self, number: usize, job: &Job) {
         let of_jobs = self.of_jobs.get(number).copied().unwrap_or(0);
         let phase = match job.phase {

@@ -58,7 +58,7 @@ impl<'a> Losses<'a> {
         Losses { machine, potential }
     }
 
-    /// Returns the loss of the choice if `actor` makes it, which is at most [`MAX_LOST`]. The
+    /// Returns the loss of the choice, made by `actor`. The loss is at most [`MAX_LOST`]. The
     /// choice must be possible. If a new client starts or a thread takes a job, `actor` has no
     /// effect.
     pub(crate) fn of(&self, choice: Choice, actor: Option<Parent>) -> u64 {
@@ -144,9 +144,9 @@ impl<'a> Losses<'a> {
         self.of_submit(&self.weighted_actor(actor)?, position, position)
     }
 
-    /// Returns the loss of the submit at position `at`. The actor is now at position `from`, and
-    /// performs only work before the submit. The loss of a refused submit is 0. A rejected submit
-    /// creates a done job. Returns `None` if the action at `at` is not a submit.
+    /// Returns the loss of the submit at position `at` by an actor at position `from` that performs
+    /// only work before the submit. The loss of a refused submit is 0. Returns `None` if the action
+    /// at `at` is not a submit.
     fn of_submit(&self, weighted: &WeightedBody, from: usize, at: usize) -> Option<u64> {
         let Action::Submit(class) = *weighted.body.get(at)? else {
             return None;
@@ -172,11 +172,10 @@ impl<'a> Losses<'a> {
         }
     }
 
-    /// Returns the weight that the state loses when a thread takes a job of this class. This job
-    /// must be the first in its pool's queue. If the job then ends without a submit or a get, its
-    /// end may unblock its parent. The result then includes the loss by the parent's next steps,
-    /// and in the same way those of further ancestors. Returns `None` if no thread of the pool can
-    /// take a job.
+    /// Returns the weight that the state loses when a thread takes the first job of its pool's
+    /// queue, which must be of this class. If the end of the job can then unblock its parent at
+    /// once, the loss by the parent's next steps is included, and so on for further ancestors.
+    /// Returns `None` if no thread of the pool can take a job.
     fn of_take(&self, class: usize) -> Option<u64> {
         let pool = self.machine.plan.class_at(class)?.pool;
         let mut job = self.machine.pools.get(pool)?.next_to_take()?;

@@ -12,8 +12,8 @@ use interleaving::{Phase, World};
 use job_bodies::{Class, Plan};
 use weights::Vector;
 
-/// Returns `true` if no pool that has one of the jobs `members` in its queue can start a thread.
-/// Allocates no memory. A pool cannot start a thread if
+/// Returns `true` if no pool with a job of `members` in its queue can start a thread. A pool cannot
+/// start a thread if
 ///
 /// - it has `max` threads, or
 /// - its vector in `standing` proves that it never has more than `core` threads.
@@ -89,8 +89,8 @@ fn has_standing(plan: &Plan, pool: usize, standing: &[Vector]) -> bool
 }
 
 /// Returns `true` if a rejected job does not increase the weight of a state under the vector. This
-/// is so if, in each class whose pool may reject jobs, a done job weighs at most as much as a
-/// queued job.
+/// requires that, in each class of a pool that may reject jobs, a done job weighs at most as much
+/// as a queued job.
 fn rejected_are_light(plan: &Plan, vector: &Vector) -> bool
     requires { IsTrue (vector_fits plan.now vector.now) }
     ensures { result ≡ spec.rejected_are_light plan.now vector.now }

@@ -63,10 +63,9 @@ impl<'a> QueueLimits<'a> {
     }
 }
 
-/// Returns the maximum number of jobs that a search puts into the pool's unbounded queue. This is
-/// the limit for submits by clients, plus the number of jobs that the threads of all pools can
-/// submit to this pool. Each thread counts with the greatest number of submits to this pool in a
-/// body that the thread can run.
+/// Returns the maximum number of jobs that a search puts into the pool's unbounded queue: the limit
+/// for submits by clients, plus a number for each thread of any pool. This number is the greatest
+/// number of submits to the unbounded queue in a body that the thread can run.
 pub(crate) fn most_queued(plan: &Plan, pool: usize) -> u64 {
     let mut jobs = FOR_CLIENTS;
     for (number, from) in plan.pools().iter().enumerate() {

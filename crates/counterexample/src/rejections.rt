@@ -112,9 +112,9 @@ fn until_rejected(
     }
 }
 
-/// Performs the events in `world`, which must be in the plan's initial state. Returns the number of
-/// events up to and including the first event in which the pool rejects a job. Returns `None` if
-/// there is no such event, or if an event before it is not possible or is a refused submit.
+/// Performs the events in `world`, which must be in the plan's initial state, up to the first event
+/// in which the pool rejects a job. Returns the number of these events. Returns `None` if there is
+/// no such event, or if an event before it is not possible or is a refused submit.
 fn first_rejection(
     plan: &Plan,
     world: &mut World,

@@ -21,8 +21,8 @@ pub(crate) enum ReplayResult {
 }
 
 /// Performs the events in `world`, which must be in the plan's initial state. Stops after the first
-/// refused submit, or before the first event that is not possible. Does not stop after a submit
-/// that a pool rejects as the plan allows.
+/// refused submit, or before the first event that is not possible. If a pool rejects a job as the
+/// plan allows, the submit is not refused, and the replay continues.
 ///
 /// # Errors
 ///

@@ -134,10 +134,9 @@ impl Search<'_> {
         self.reserved = 0;
     }
 
-    /// Performs the walks in fixed orders, until one of them finds a permanent violation. No walk
-    /// visits more than [`longest_walk`] states. Within this limit, the first walk may visit all
-    /// remaining states, and all other walks together may visit half of the states that then
-    /// remain.
+    /// Performs the walks in fixed orders, until one of them finds a permanent violation. The first
+    /// walk may visit all remaining states, and the other walks together half of the states that
+    /// then remain. No walk visits more than [`longest_walk`] states.
     fn in_fixed_orders(&mut self) -> Result<Option<CandidateWitness>, AllocError> {
         let first = self.fixed_rules(0)?;
         if let Some(found) = self.walk_once(first, None)? {
@@ -185,9 +184,8 @@ impl Search<'_> {
     }
 
     /// Performs the best-first search, which may visit all remaining states. Returns a probable
-    /// witness if the search finds a permanent violation. If it finds a violation that is not
-    /// permanent, stores the events of this violation in `stuck_now`, unless `stuck_now` already
-    /// has events.
+    /// witness if the search finds a permanent violation. Stores the events of a violation that is
+    /// not permanent in `stuck_now`, if `stuck_now` has no events yet.
     fn best_first(
         &mut self,
         potentials: &[Potential],
@@ -213,10 +211,9 @@ impl Search<'_> {
         }
     }
 
-    /// Performs a walk by these rules, and returns a probable witness if the walk finds a permanent
-    /// violation. If the walk finds a violation that is not permanent, stores its events in
-    /// `stuck_now`, unless `stuck_now` already has events. `potential` is the vector that guides
-    /// the walk, or `None`.
+    /// Performs a walk by these rules, guided by the vector `potential` if there is one. Returns a
+    /// probable witness if the walk finds a permanent violation. Stores the events of a violation
+    /// that is not permanent in `stuck_now`, if `stuck_now` has no events yet.
     fn walk_once(
         &mut self,
         rules: Rules,
@@ -287,10 +284,9 @@ impl Search<'_> {
         Ok(rules)
     }
 
-    /// Returns the rules of the random walk with this number. In every eighth random walk, any
-    /// number of clients may move. In the others, the number of clients that may move is limited.
-    /// The limit is between 1 and 7 in the first 64 walks, and is one higher after every further 64
-    /// walks.
+    /// Returns the rules of the random walk with this number. In every eighth walk, any number of
+    /// clients may move. In the other walks, the limit is between 1 and 7 in the first 64 walks,
+    /// and is one higher after every further 64 walks.
     fn random_rules(&mut self, number: usize) -> Result<Rules, AllocError> {
         let mut rules = self.fixed_rules(number)?;
         shuffle(&mut rules.keys, &mut self.rng);
@@ -304,8 +300,8 @@ impl Search<'_> {
 }
 
 /// Returns the limit on the number of states that one walk visits: 12 times the sum of the maximums
-/// and queue capacities of all pools, plus 128. For a pool with an unbounded queue, the core size
-/// counts as the maximum, and [`most_queued`] as the capacity.
+/// and queue capacities of all pools, plus 128. A pool with an unbounded queue adds its core size
+/// and [`most_queued`] to the sum.
 fn longest_walk(plan: &Plan) -> usize {
     let mut room = 0u64;
     for (number, pool) in plan.pools().iter().enumerate() {

@@ -116,10 +116,10 @@ impl Shortener<'_> {
         Ok(())
     }
 
-    /// Tries to remove the events for which `is_out` returns `true`. Replays the other events, and
-    /// skips those that are no longer possible. If the performed events are fewer than before and
-    /// end in the violation or in a refused submit, they become the script. Does nothing if the
-    /// script has more events than may still be replayed.
+    /// Replays the script without the events for which `is_out` returns `true`, and skips events
+    /// that are no longer possible. The performed events become the script if they are fewer and
+    /// still end in the violation or in a refused submit. Does nothing if the replay would be too
+    /// long.
     fn try_without<F: Fn(usize, Event) -> bool>(&mut self, is_out: F) -> Result<(), AllocError>
         requires { F.IsAlwaysCallable is_out }
     {

@@ -17,9 +17,9 @@ pub(crate) struct Potential {
     pub(crate) clients: Vec<Vec<u64>>,
 }
 
-/// Returns the vectors that show where the plan may fail. Computes the lightest vectors that each
-/// pool needs in a certificate, and returns those that are heavier than the plan's sizes allow. The
-/// list is empty if a class of the plan submits itself, directly or through other classes.
+/// Returns the vectors that show where the plan may fail: of the lightest vectors that each pool
+/// needs in a certificate, those that are heavier than the plan's sizes allow. The list is empty if
+/// a class submits itself, directly or through other classes.
 pub(crate) fn missed_vectors(alloc: Global, plan: &Plan) -> Result<Vec<Potential>, AllocError> {
     let mut vectors = MissedVectors {
         alloc,
@@ -86,9 +86,9 @@ impl MissedVectors {
         Ok(false)
     }
 
-    /// Gives this rank to some pools, and returns whether it gave the rank to any. A pool gets the
-    /// rank if it has no rank yet, and its lightest blocked vector for this rank has a total below
-    /// its core. If no pool gets the rank, records the blocked vectors, whose totals are too large.
+    /// Gives this rank to each pool without a rank that has a blocked vector for this rank with a
+    /// total below its core. Returns whether any pool got the rank. If none did, records the
+    /// blocked vectors that were found, which are too heavy.
     fn rank_pools(
         &mut self,
         growing: &ResizedPlan,

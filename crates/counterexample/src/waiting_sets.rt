@@ -34,10 +34,9 @@ impl JobSet {
         Ok(members)
     }
 
-    /// Returns a minimal subset whose members still wait only for each other: no smaller subset has
-    /// this property, except the empty one. If `permanent` is `true`, each pool that has a member
-    /// in its queue must have `max` threads. If the work reaches [`MAX_LOOKS`], the subset may not
-    /// be minimal.
+    /// Returns a minimal subset of members that still wait only for each other. If `permanent` is
+    /// `true`, each pool with a member in its queue must have `max` threads. If the work reaches
+    /// [`MAX_LOOKS`], the subset may not be minimal.
     pub(crate) fn made_least(
         self,
         alloc: Global,
@@ -93,13 +92,12 @@ impl JobSet {
         }
     }
 
-    /// Repeatedly removes the members that wait for no job or for a job outside the set, until each
-    /// member waits only for members. If `permanent` is `true`, also removes each queued job whose
-    /// pool has fewer than `max` threads.
+    /// Repeatedly removes the members that wait for no job or for a job outside the set, until
+    /// there are none. If `permanent` is `true`, also removes each queued job in a pool with fewer
+    /// than `max` threads.
     ///
-    /// The number of rounds is at most the number of pools plus 2. The reason is that each round
-    /// except the first and the last finds fewer closed pools than the round before. A pool is
-    /// closed if its queued jobs wait only for members.
+    /// There are at most 2 rounds more than pools: each round between the first and the last finds
+    /// fewer pools whose queued jobs wait only for members.
     fn shrink(
         &mut self,
         alloc: Global,

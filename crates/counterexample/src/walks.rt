@@ -86,16 +86,13 @@ pub(crate) struct Walk<'a> {
     pub(crate) has_blocked: bool,
 }
 
-/// Performs a walk by these rules: makes one choice after another, from the plan's initial state.
-/// After each choice, performs the steps that need no further choice: work, gets of done jobs, and
-/// ends and restarts of bodies. The walk ends if
+/// Performs a walk by these rules from the plan's initial state, guided by the vector `potential`
+/// if there is one. After each choice, performs the steps that need no further choice. The walk
+/// ends if
 ///
 /// - a submit is refused or a permanent violation is found,
 /// - no choice is possible, or
 /// - the limit of states is reached.
-///
-/// If the walk finds only a violation that is not permanent, its result has the events that lead to
-/// this violation. `potential` is the vector that guides the walk, or `None`.
 pub(crate) fn perform_walk<'a>(
     alloc: Global,
     plan: &'a Plan,
@@ -201,13 +198,11 @@ impl<'a> Walk<'a> {
         Ok(step)
     }
 
-    /// Makes the choice with this index. Some choices are made by an actor that is ready for the
-    /// choice. `newer` then selects the actor: 0 for the actor that became ready last, 1 for the
-    /// actor before it, and so on. If a new client starts or a thread takes a job, `newer` has no
-    /// effect.
+    /// Makes the choice with this index. If the choice needs an actor that is ready for it, `newer`
+    /// selects the actor: 0 for the one that became ready last, 1 for the one before, and so on.
+    /// Changes nothing and returns [`WalkStep::Nothing`] if the choice is not possible.
     ///
-    /// If the choice is not possible, changes nothing and returns [`WalkStep::Nothing`]. Only the
-    /// start of a new client is not checked, and must be possible.
+    /// The start of a new client is not checked, and must be possible.
     pub(crate) fn choose(&mut self, place: usize, newer: usize) -> Result<WalkStep, AllocError> {
         match self.choices.all.get(place).copied() {
             Some(Choice::Begin(kind)) => {
@@ -241,8 +236,8 @@ impl<'a> Walk<'a> {
     }
 
     /// Returns the index of the choice that the walk makes next, or `None` if no choice is
-    /// possible. This is the possible choice that loses the least weight under the vector
-    /// `potential`. Among choices with equal losses, it is the one with the least key.
+    /// possible. This is the possible choice with the smallest loss of weight under `potential`. Of
+    /// several such choices, it is the one with the least key.
     ///
     /// - Without a vector, every loss counts as 0.
     /// - A choice in `rejected` is returned only if no other choice is possible.
@@ -372,8 +367,8 @@ impl<'a> Walk<'a> {
     }
 
     /// Performs all steps of the actor up to its next submit, to a get that must wait, or to its
-    /// end. An actor that reaches a submit becomes ready for this submit. If the actor is a job
-    /// that ends, and its parent waited for this job, continues with the parent.
+    /// end. An actor that reaches a submit becomes ready for it. If a job ends for which its parent
+    /// waited, continues with the parent.
     fn settle(&mut self, actor: Parent) -> Result<(), AllocError> {
         let mut actor = actor;
         for _ in 0..u64::MAX {
