@@ -102,8 +102,8 @@ fn is_length(text: &str) -> bool {
     }
 }
 
-/// Returns the valid range for the length of a `work` action, if the text looks like such an action
-/// with an invalid length. The text must not be a valid action. Returns `None` if
+/// Returns the valid range for the length of a `work` action, if the text looks like one with an
+/// invalid length. The text must not be a valid action. Returns `None` if
 ///
 /// - the first word of the text is not `work`, or there is no second word,
 /// - the text has wrong spaces, or

@@ -8,8 +8,9 @@ use crate::circles::classes_between;
 use job_bodies::{Action, Plan};
 use std::alloc::{AllocError, Global};
 
-/// Returns the message that a class submits itself. If the class does so through other classes, the
-/// message lists the submits, as in `class a submits itself: a submits b, b submits a`.
+/// Returns the message that a class submits itself. If the class submits itself through other
+/// classes, the message lists the submits, as in
+/// `class a submits itself: a submits b, b submits a`.
 pub(crate) fn words_of_circle(
     alloc: Global,
     plan: &Plan,

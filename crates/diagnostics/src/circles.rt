@@ -7,8 +7,8 @@ use std::alloc::{AllocError, Global};
 /// possibly through other classes, back to the same class.
 #[derive(Drop)]
 struct CircleSearch {
-    /// For each class, the class from whose body the search found it, or `None` if the search has
-    /// not found it.
+    /// For each class, the submitter through which the search found the class, or `None` if the
+    /// search has not found it.
     submitters: Vec<Option<usize>>,
     /// The classes that were found, in the order in which they were found.
     found: Vec<usize>,
@@ -22,7 +22,8 @@ impl CircleSearch {
         })
     }
 
-    /// Adds a class that `submitter` submits, unless it was found before.
+    /// Adds a class to the search, with `submitter` as the class that submits it. Changes nothing
+    /// if the search has already found the class.
     fn add(&mut self, class: usize, submitter: usize) -> Result<(), AllocError> {
         if let Some(entry) = self.submitters.get_mut(class)
             && entry.is_none()
@@ -56,8 +57,8 @@ impl CircleSearch {
         Ok(())
     }
 
-    /// Returns the class from whose body the search found this class. Returns `None` if the search
-    /// has not found this class.
+    /// Returns the submitter through which the search found the class, or `None` if the search has
+    /// not found the class.
     fn submitter_of(&self, class: usize) -> Option<usize> {
         self.submitters.get(class).copied().flatten()
     }
@@ -78,9 +79,9 @@ pub(crate) fn classes_between(
     Ok(between)
 }
 
-/// Appends the classes through which the class submits itself, from the last to the first. The last
-/// is the class from whose body the search found `class`. The one before it is the class from whose
-/// body the search found the last, and so on.
+/// Appends the classes through which the class submits itself, in reverse order. The first is the
+/// submitter through which the search found `class`, the second is the submitter of the first, and
+/// so on.
 fn push_submitters(
     between: &mut Vec<usize>,
     search: &CircleSearch,

@@ -35,8 +35,8 @@ impl FaultCollector {
         }
     }
 
-    /// Adds a fault. If it is the first one that equals `wanted`, stores it in `first`. Otherwise
-    /// adds it to `others`. If `others` already has 99 faults, only counts it in `omitted`.
+    /// Adds a fault. Stores it in `first` if it is the first one that equals `wanted`. Stores any
+    /// other fault in `others`, or only counts it in `omitted` if `others` already has 99 faults.
     pub(crate) fn push(&mut self, found: Diagnostic) -> Result<(), AllocError> {
         if self.first.is_none() && found.fault == self.wanted {
             self.first = Some(found);

@@ -10,7 +10,7 @@ use toml::{Table, Value};
 /// The beginning of a text.
 pub(crate) const BEGINNING: TextPlace = TextPlace { line: 1, column: 1 };
 
-/// The string for a size without a bound, in place of a number.
+/// The string that replaces a number if a size has no limit.
 pub(crate) const UNBOUNDED: &str = "unbounded";
 
 /// Returns the key of the list that has the entries of this kind, such as `pool`. Returns `plan`

@@ -15,11 +15,8 @@ use std::alloc::AllocError;
 ///
 /// - The queue of the submitted job's pool is unbounded.
 /// - The body with the submit has no get of the job.
-/// - The body belongs to a client kind that repeats, or to a class whose element in `repeated` is
-///   `true`.
-///
-/// `repeated` has, for each class, whether repeating clients submit it, directly or through other
-/// jobs.
+/// - The body belongs to a repeating client kind, or to a class that `repeated` marks. These are
+///   the classes that repeating clients submit, directly or through other jobs.
 pub(crate) fn push_growing(
     found: &mut Vec<Lint>,
     plan: &Plan,

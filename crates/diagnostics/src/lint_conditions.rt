@@ -12,8 +12,8 @@ use job_bodies::{Action, Class, Client, Plan, Pool, has_get_of};
 /// result with the maximum number of jobs in the queue.
 const FAR_ABOVE: u64 = 10;
 
-/// The least length, in units, that a `work` must have for a lint to report it. Such a lint reports
-/// that the length is also a size of a pool or the count of a client kind.
+/// The least length, in units, of a `work` for which a lint reports that the length is also a size
+/// of a pool or the count of a client kind.
 const LIKE_A_SIZE: u32 = 50;
 
 /// Returns whether clients submit the class with this number, directly or through other jobs.
@@ -85,8 +85,8 @@ pub(crate) fn never_rejects(pool: &Pool, most: u64) -> bool
     pool.may_reject && most <= pool.queue
 }
 
-/// Returns whether the capacity of the queue is far above `most`, the maximum number of jobs in the
-/// queue at once. This is so if a tenth of the capacity, rounded down, exceeds both `most` and 1.
+/// Returns whether a tenth of the capacity of the queue, rounded down, exceeds both `most` and 1.
+/// `most` is the maximum number of jobs in the queue at once.
 pub(crate) fn is_far_above(pool: &Pool, most: u64) -> bool
     ensures { result ≡ spec.is_far_above pool.now most }
 {
@@ -114,9 +114,9 @@ fn is_work(action: Action) -> bool
     matches!(action, Action::Work(_))
 }
 
-/// Returns whether a future is open at this position of the body, and a job of the class that is
-/// submitted there may be rejected. `needed` has, for each pool, the maximum number of jobs in its
-/// queue at once, if it is known.
+/// Returns whether the action at this position of the body submits a job that may be rejected while
+/// a future is open. `class` is the class of this job. `needed` has, for each pool, the maximum
+/// number of jobs in its queue at once, if it is known.
 pub(crate) fn leaves_a_future(
     plan: &Plan,
     needed: &[Option<u64>],
@@ -129,9 +129,9 @@ pub(crate) fn leaves_a_future(
     may_reject_jobs(plan, needed, pool_of(plan, class)) && has_open_future(body, position)
 }
 
-/// Returns whether the plan says that the pool with this number may reject jobs, and its queue is
-/// not certain to hold all jobs that can be in it at once. `needed` has, for each pool, the maximum
-/// number of these jobs, if it is known. Returns `false` if there is no such pool.
+/// Returns whether the plan allows the pool with this number to reject jobs, and its queue is not
+/// certain to have room for all jobs. `needed` has, for each pool, the maximum number of jobs in
+/// its queue at once, if it is known. Returns `false` if there is no such pool.
 fn may_reject_jobs(plan: &Plan, needed: &[Option<u64>], number: usize) -> bool
     ensures { result ≡ spec.may_reject_jobs plan.now needed.now number }
 {
@@ -141,9 +141,9 @@ fn may_reject_jobs(plan: &Plan, needed: &[Option<u64>], number: usize) -> bool
     }
 }
 
-/// Returns whether the queue of the pool is certain to hold all jobs that can be in it at once.
-/// `most` is the maximum number of these jobs, or `None` if it is not known. The queue must be
-/// unbounded or have a capacity of at least `most`.
+/// Returns whether the queue of the pool certainly has room for all jobs, because it is unbounded
+/// or has a capacity of at least `most`. `most` is the maximum number of jobs in the queue at once,
+/// or `None` if this number is not known.
 fn holds_all(pool: &Pool, most: Option<u64>) -> bool
     ensures { result ≡ spec.holds_all pool.now most }
 {

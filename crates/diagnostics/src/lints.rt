@@ -13,10 +13,10 @@ use job_bodies::{Action, Class, Client, Part, Plan, Pool};
 use size_search::{Cause, cause_of, submitted_by_clients, submitted_repeatedly};
 use std::alloc::{AllocError, Global};
 
-/// Returns the lints of the plan, which are the parts of it that are probably mistakes.
+/// Returns the lints of the plan: the parts of the plan that are probably mistakes.
 ///
-/// - `needed` has, for each pool, the maximum number of jobs in its queue at once, or `None` if
-///   this number is not known.
+/// - `needed` has, for each pool, the maximum number of jobs in its queue at once, or `None` if it
+///   is not known.
 /// - `is_safe_at_core` says that a certificate accepts the plan with each maximum lowered to the
 ///   core size of its pool.
 pub(crate) fn lints_of(
@@ -42,14 +42,11 @@ pub(crate) fn lints_of(
     )
 }
 
-/// Returns the lints of the plan.
+/// Returns the lints of the plan. `needed` and `is_safe_at_core` are as in [`lints_of`].
 ///
-/// - `needed` and `is_safe_at_core` are as in [`lints_of`].
-/// - `cause` is a reason why no certificate accepts the plan with any sizes, or `None` if there is
-///   no such reason.
+/// - `cause` is a reason why no certificate accepts the plan with any sizes, if there is one.
 /// - `marks` has, for each class, whether clients submit it, directly or through other jobs.
-/// - `repeated` has, for each class, whether repeating clients submit it, directly or through other
-///   jobs.
+/// - `repeated` has, for each class, whether repeating clients submit it in this way.
 fn lints_with(
     alloc: Global,
     plan: &Plan,
@@ -217,8 +214,8 @@ fn push_sizes(
     }
 }
 
-/// Appends the lints of a pool with a bounded queue. `most` is the maximum number of jobs in the
-/// queue at once. If it is not known, `most` is `None`, and nothing is appended. The lints are
+/// Appends the lints of a pool with a bounded queue, if `most` is known. `most` is the maximum
+/// number of jobs in the queue at once. The lints are
 ///
 /// - that the pool's maximum has no effect,
 /// - that the pool's key `may_reject` has no effect, and

@@ -8,12 +8,11 @@ use crate::lint_conditions::may_grow;
 use job_bodies::{Plan, Pool};
 use std::alloc::{AllocError, Global};
 
-/// Returns whether some pool has a bounded queue and a maximum above its core size, and no such
-/// pool may reject jobs.
+/// Returns whether some pool has a bounded queue and a maximum above its core size, and no pool of
+/// this kind may reject jobs.
 ///
-/// A pool that may reject jobs can reject more jobs if its maximum is lower. Clients that wait for
-/// no job then do something else. So the plan with lowered maximums would say nothing about the
-/// plan itself.
+/// With a lower maximum, a pool that may reject jobs can reject more jobs, for which clients then
+/// do not wait. So the plan with lowered maximums would say nothing about the plan itself.
 pub fn can_be_lowered(plan: &Plan) -> bool
     ensures { result ≡ spec.can_be_lowered plan.now }
 {

@@ -34,13 +34,12 @@ pub(crate) fn missing_submit(
 }
 
 /// Returns the end of the message for a get of a name under which no earlier action submits a job.
-/// The end states the likely cause, which is the first of these that exists:
+/// The end states the first of these likely causes that exists. If none exists, it is the result of
+/// [`no_submit_before`].
 ///
 /// 1. An earlier submit without `as` of a class that has this name.
 /// 2. A similar name under which an earlier action submits a job.
 /// 3. The last earlier submit without `as`.
-///
-/// If none exists, returns the result of [`no_submit_before`].
 fn likely_cause(
     alloc: Global,
     body: &[Value],
@@ -64,8 +63,8 @@ fn likely_cause(
 }
 
 /// Returns the end of the message for a get if each earlier submit has an `as`, and no name is
-/// similar. If there are earlier submits, the end lists `names`, their names. Otherwise it says
-/// which submit to write before the get. It also names the first later submit without `as`, if
+/// similar. The end lists `names`, the names of the earlier submits. If there are no earlier
+/// submits, it says which submit to write. It also names the first later submit without `as`, if
 /// there is one.
 fn no_submit_before(
     alloc: Global,

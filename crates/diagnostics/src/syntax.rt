@@ -76,10 +76,9 @@ fn with_hint(alloc: Global, hint: &str, words: &str) -> Result<String, AllocErro
     format!(in alloc; "{hint} ({words})")
 }
 
-/// Returns a hint for an error in this line, or `None`. `number` is the number of the line.
-///
-/// - If line 1 shows that the text is not a plan, the hint says what kind of text it is.
-/// - Otherwise the hint is the result of [`character_hint`].
+/// Returns a hint for an error in this line, or `None`. If line 1 shows that the text is not a
+/// plan, the hint says what kind of text it is. Otherwise the hint is the result of
+/// [`character_hint`].
 fn format_hint(line: &str, number: usize) -> Option<&'static str> {
     if number == 1
         && let Some(hint) = kind_hint(line)
@@ -114,8 +113,8 @@ fn is_in_list(text: &str, offset: usize, place: TextPlace) -> bool {
     }
 }
 
-/// Returns a hint for an error in a list, if there is an action without quotes or a semicolon at
-/// the error. `rest` is the part of the line that begins at the error.
+/// Returns a hint for an error in a list. `rest` is the rest of the line, from the error on. There
+/// is a hint if `rest` begins with an action without quotes, or with a semicolon.
 fn list_hint(rest: &str) -> Option<&'static str> {
     if begins_with_action(rest) {
         Some("write quotes around each action, as in body = [\"work 5\"]")
@@ -130,8 +129,8 @@ fn begins_with_action(rest: &str) -> bool {
     rest.starts_with("work ") || rest.starts_with("submit ") || rest.starts_with("get ")
 }
 
-/// Returns a hint if `rest` is a semicolon, which only a comment may follow. `rest` is the part of
-/// a line that begins at the error, after a value.
+/// Returns a hint for an error after a value. `rest` is the rest of the line, from the error on.
+/// There is a hint if `rest` is a semicolon, alone or before a comment.
 fn end_hint(rest: &str) -> Option<&'static str> {
     let after = rest.strip_prefix(';')?;
     if after.split('#').next().unwrap_or("").trim().is_empty() {

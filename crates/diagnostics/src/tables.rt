@@ -155,8 +155,8 @@ fn list_suggestion(alloc: Global, key: &str) -> Result<String, AllocError> {
     }
 }
 
-/// Returns those entries of a list that are tables. The result is empty if the document has no such
-/// list. Reports
+/// Returns the entries of a list that are tables. If the document has no such list, returns no
+/// entries. Reports
 ///
 /// - a list that is not an array,
 /// - entries that are not tables, and

@@ -10,10 +10,9 @@ struct OpenList {
     depth: usize,
 }
 
-/// Returns the line at which the first list without a `]` begins. `error` is the line at which the
-/// parser found an error. Returns `None` if there is no such list, or if the line `error` is not
-/// one of its lines. The last line of such a list is the next line with a header or a key, or the
-/// end of the text.
+/// Returns the line at which the first list without a `]` begins, if the line `error` belongs to
+/// this list. `error` is the line at which the parser found an error. The last line of such a list
+/// is the next line with a header or a key, or the end of the text.
 pub(crate) fn unclosed_list(text: &str, error: usize) -> Option<usize> {
     let mut open = OpenList { start: 0, depth: 0 };
     let mut number = 0usize;
@@ -58,9 +57,8 @@ fn is_key(key: &str) -> bool {
             .all(|byte| byte.is_ascii_alphanumeric() || byte == b'_')
 }
 
-/// Returns the list that is open after this line. `open` is the list that is open before this line,
-/// if there is one. A new list can begin only after an equals sign that is not in a comment.
-/// `number` is the number of the line.
+/// Returns the list that is open after this line, if there is one. `open` is the list that is open
+/// before this line. A new list can begin only after an equals sign that is not in a comment.
 fn after_line(open: OpenList, number: usize, line: &str) -> OpenList {
     if open.depth > 0 {
         return OpenList {

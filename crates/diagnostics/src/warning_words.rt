@@ -12,9 +12,9 @@ use job_bodies::{Action, Part, Plan, Pool};
 use plan_text::TextPlace;
 use std::alloc::{AllocError, Global};
 
-/// Returns the lint's message: what was found in the plan, and what this means for the answer. If
-/// the plan does not have the pool, class or client kind that the lint names, the message can be
-/// empty. `place` is the lint's place in the plan's text.
+/// Returns the lint's message: what was found in the plan, and what this means for the answer.
+/// `place` is the lint's place in the plan's text. If the plan does not have the entry that the
+/// lint names, the message can be empty.
 pub(crate) fn words_of(
     alloc: Global,
     text: &[u8],
@@ -168,9 +168,9 @@ fn words_of_growth(
     )
 }
 
-/// Returns the name of the class of the job whose future is open at this position of the body. If
-/// several futures are open, takes the job whose get comes first. Returns an empty name if no
-/// future is open.
+/// Returns the name of the class of a job that is submitted and not yet got at this position of the
+/// body. Of several such jobs, takes the one with the first get. Returns an empty name if there is
+/// no such job.
 fn open_class<'a>(plan: &'a Plan, body: &[Action], position: usize) -> &'a str {
     for (number, action) in body.iter().enumerate() {
         if let Action::Get(submit) = *action {
