@@ -20,12 +20,11 @@ pub(crate) struct PoolActivity {
 }
 
 impl PoolActivity {
-    /// Returns the activity after one more member of the set is counted. `phase` is the phase of
-    /// this member.
+    /// Returns the activity after one more member of the set, with the phase `phase`, is counted.
     ///
     /// - A queued member sets `queued`.
-    /// - A running member adds 1 to `at_work`, unless `is_new` is `false` because it was counted
-    ///   before.
+    /// - A running member adds 1 to `at_work` if `is_new` is true. If `is_new` is false, it was
+    ///   counted before.
     /// - A done member changes nothing.
     fn with(self, phase: Phase, is_new: bool) -> PoolActivity
         requires { self.at_work + 1 < 2 ^ 64 }

@@ -18,8 +18,8 @@ impl World {
     /// Performs the step of an actor at the end of its body, and returns the outcome.
     ///
     /// - A job finishes.
-    /// - A client whose kind repeats starts its body again.
-    /// - A client whose kind does not repeat cannot take a step. The result is `None`.
+    /// - A client of a repeating kind starts its body again.
+    /// - Any other client cannot take a step, and the result is `None`.
     pub(crate) fn end(&mut self, plan: &Plan, actor: Parent) -> Option<Outcome>
         requires at_work { IsAtWork plan.now self.old.view actor }
         requires asks { may_get_in self.old.view.jobs actor ≡ true }

@@ -12,9 +12,9 @@ use written_machine::{Outcome, Parent};
 impl World {
     ghost use Rattle.interleaving.specs.Answers.{MatchesResult};
 
-    /// Performs a get: the actor gets the latest live job that it created by the submit at position
-    /// `submit`, and moves to its next position. If there is no such job or it is not done, changes
-    /// nothing and returns `None`. `position` is the actor's current position, which must not be 0.
+    /// Performs a get of the latest live job that the actor created by the submit at position
+    /// `submit`. Changes nothing and returns `None` if there is no such job or the job is not done.
+    /// `position` is the actor's current position, which must not be 0.
     pub(crate) fn get(&mut self, actor: Parent, position: usize, submit: usize) -> Option<Outcome>
         requires stands { IsClientAt self.old.view.clients actor position }
         requires begun { 0 < position }

@@ -44,9 +44,9 @@ impl JobView {
         actor == self.parent && submit == self.slot
     }
 
-    /// Returns what becomes of this live job when the actor creates another job by the submit at
-    /// position `submit`. If this job is done and the same actor created it by the same submit, it
-    /// is no longer live, and the result is `None`. Otherwise the result is this job, unchanged.
+    /// Returns this live job, or `None` if it stops being live when the actor creates another job
+    /// by the submit at position `submit`. It stops being live if it is done and the same actor
+    /// created it by the same submit.
     pub fn drop_if_stale(self, actor: Parent, submit: usize) -> Option<JobView>
         ensures { result ≡ drop_if_stale actor submit (Some self) }
     {
@@ -57,9 +57,8 @@ impl JobView {
         }
     }
 
-    /// Returns what becomes of this live job when the job `parent` finishes. If this job is done
-    /// and the job `parent` created it, this job is no longer live, and the result is `None`.
-    /// Otherwise the result is this job, unchanged.
+    /// Returns this live job, or `None` if it stops being live when the job `parent` finishes. It
+    /// stops being live if it is done and the job `parent` created it.
     pub fn drop_if_orphan(self, parent: usize) -> Option<JobView>
         ensures { result ≡ drop_if_orphan parent (Some self) }
     {

@@ -65,8 +65,8 @@ impl MovedClients {
         self.others.reserve(1)
     }
 
-    /// Moves the client with this number to this position of its body and returns `true`, if the
-    /// client has moved before. Otherwise changes nothing and returns `false`.
+    /// If the client with this number has moved before, moves it to this position of its body and
+    /// returns `true`. Otherwise changes nothing and returns `false`.
     pub(crate) fn move_again(&mut self, number: usize, position: usize) -> bool
         ensures is_among { result ≡ is_some (moved_at self.old number) }
         ensures moves { (q : ℕ)

@@ -19,16 +19,16 @@ use written_machine::{Outcome, Parent};
 impl World {
     ghost use Rattle.interleaving.specs.World.{ReusesPlaces};
 
-    /// Performs a submit of the actor: offers a job of the class to the class's pool. Returns the
-    /// outcome, which is one of these:
+    /// Performs a submit of the actor: offers a job of the class to the class's pool. The outcome
+    /// is one of these:
     ///
     /// - The pool accepts the job. The job is created, and the actor moves to its next position.
-    /// - The pool does not accept the job, but may reject jobs. The submit is skipped: the job is
-    ///   created as a done job, and the actor moves to its next position.
+    /// - The pool does not accept the job, but may reject jobs. The job is created as a done job,
+    ///   and the actor moves to its next position.
     /// - The pool refuses the job. The refusal is counted, and the actor does not move.
     ///
-    /// `next` has the position of the submit in the actor's body. If the body has a get of this
-    /// submit, no live job of this submit may exist yet.
+    /// `next` has the position of the submit in the body. If the body has a get of this submit, no
+    /// live job of this submit may exist yet.
     ///
     /// # Errors
     ///

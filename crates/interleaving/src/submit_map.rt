@@ -18,9 +18,9 @@ const TABLE_LEN: usize = 4096;
 /// A map from submit calls to job numbers. A submit call consists of the number of an actor and the
 /// position of a submit in its body.
 ///
-/// The vector `table` has a place for the call of an actor at the index that is the actor's number
-/// modulo the length of `table`. If another call occupies this place when a call is recorded, the
-/// new call is stored in the map `others`. A look-up reads `table` first.
+/// The place of a call in the vector `table` is at the index that is the actor's number modulo the
+/// length of `table`. A call is stored in the map `others` if another call already occupies its
+/// place. A look-up reads `table` first.
 #[derive(Drop)]
 pub(crate) struct SubmitMap {
     // The entries of the table, of which there are none before the first call of `reserve`.
