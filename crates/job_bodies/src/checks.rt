@@ -63,11 +63,9 @@ pub(crate) fn check_length(part: Part, index: usize, body: &[Action]) -> Result<
     ensure(short, PlanFault::at_entry(part, index, TOO_MANY))
 }
 
-/// Returns true if at least one of these actions is a get of the submit at position `submit`.
-///
-/// `got` is a table of these actions. Its element at a position is true if one of the actions is a
-/// get of the submit at this position. If `submit` is within the table, the function reads only the
-/// table.
+/// Returns true if at least one of these actions is a get of the submit at position `submit`. `got`
+/// is a table of these actions. Its element at a position is true if one of the actions is a get of
+/// the submit at this position.
 fn has_get_in_table(actions: &[Action], got: &[bool; MAX_ACTIONS], submit: usize) -> bool
     requires { IsTableOf actions.now got.now }
     ensures { result ≡ has_get_of actions.now submit }
@@ -92,8 +90,8 @@ fn add_to_table(got: &mut [bool; MAX_ACTIONS], action: Action)
     }
 }
 
-/// Returns true if a get at `position` of the body may name `submit`. This is so if `submit` is the
-/// position of an earlier submit of the body, and no earlier get names `submit`.
+/// Returns true if a get at `position` of the body may name `submit`: a submit is at the earlier
+/// position `submit`, and no earlier get names this submit.
 fn is_valid_get(body: &[Action], got: &[bool; MAX_ACTIONS], position: usize, submit: usize) -> bool
     requires position { position < length body.now }
     requires table { IsTableOf (take position body.now) got.now }
@@ -108,8 +106,8 @@ fn is_valid_get(body: &[Action], got: &[bool; MAX_ACTIONS], position: usize, sub
 ///
 /// - `classes` is the number of the plan's classes.
 /// - `got` is the table of the actions before `position`.
-/// - A fault names the entry to which the body belongs: the entry at `index` in the list for
-///   `part`.
+/// - `part` and `index` say where the entry with this body is: in the list for `part`, at `index`.
+///   A fault names this entry.
 fn check_action(
     classes: usize,
     part: Part,

@@ -31,9 +31,9 @@ pub const MAX_PLAN_BYTES: usize = 1_048_576;
 pub const MAX_CERT_BYTES: usize = 1_048_576;
 /// The maximum size of the event lines of a replay, in bytes.
 pub const MAX_EVENT_BYTES: usize = 1_048_576;
-/// The maximum size of a whole input, in bytes. Such an input has a plan, a separator line, and
-/// event lines or a certificate. The program reads at most one byte more, which shows that an input
-/// is too long.
+/// The maximum size of a whole input, in bytes. An input has a plan, a separator line, and event
+/// lines or a certificate. The program reads at most one byte more, which shows that an input is
+/// too long.
 pub const MAX_INPUT_BYTES: usize = 2_097_155;
 /// The maximum size of a whole input that contains a recording, in bytes.
 pub const MAX_RECORDED_BYTES: usize = 268_435_456;

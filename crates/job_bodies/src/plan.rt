@@ -42,8 +42,8 @@ pub struct Pool {
     /// exception of `AbortPolicy`, or the pool may have another handler, such as
     /// `CallerRunsPolicy`.
     ///
-    /// If the pool rejects a job, the submit counts as skipped together with its get. If
-    /// `may_reject` is false, no submit to the pool should ever be refused.
+    /// If the pool rejects a job, the actor continues as if its body had neither the submit nor its
+    /// get. If `may_reject` is false, no submit to the pool should ever be refused.
     pub may_reject: bool,
     /// Whether the queue is unbounded, like a `LinkedBlockingQueue` that is created without a
     /// capacity. The pool then refuses no job and starts no thread above core, so `max` and `queue`
