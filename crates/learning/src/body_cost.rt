@@ -3,8 +3,8 @@
 use job_bodies::Action;
 
 /// Returns true if `body` costs less than `other`, or if it costs the same and has fewer actions.
-/// The cost of a body is the sum, over the classes that it submits, of the maximum number of jobs
-/// of the class that are open at the same time.
+/// The cost of a body is the sum of the peaks of the classes that it submits. The peak of a class
+/// is the result of [`peak_of`].
 pub(crate) fn is_preferred(body: &[Action], other: &[Action]) -> bool {
     let peaks = sum_of_peaks(body);
     let other_peaks = sum_of_peaks(other);

@@ -13,8 +13,8 @@ pub(crate) const CANDIDATES: usize = 8;
 /// The options for making a candidate, which is a body that may match all paths.
 #[derive(Clone, Copy)]
 pub(crate) struct Choices {
-    /// True if no submit of the candidate is matched both with a job that its path gets and with a
-    /// job that its path does not get.
+    /// True if no submit of the candidate is matched both with a job that some path gets and with a
+    /// job that another path does not get.
     pub(crate) marks_gets: bool,
     /// True if the submits of the paths are merged from the last path to the first, and false if
     /// they are merged from the first path to the last.
@@ -38,8 +38,7 @@ impl Choices {
 /// Returns a body that has the submits of all paths and gets each job as soon as the paths allow.
 /// Some path may still not match the body. `choices` selects one of several such bodies.
 ///
-/// Returns `None` if [`job_steps`] returns `None` for a path, or if the body would have more
-/// submits than a body may have actions.
+/// Returns `None` if [`job_steps`] returns `None` for a path, or if the body would be too long.
 ///
 /// # Errors
 ///
@@ -92,12 +91,12 @@ fn body_with_gets(
     Ok(body)
 }
 
-/// Appends the gets that come directly after submit number `time`. They are in the order of the
-/// submits of the jobs that they get.
+/// Appends the gets that come directly after submit number `time`, in the order of the submits of
+/// their jobs.
 ///
 /// - `submits` has, for each submit so far, its index in the body.
 /// - `times` has, for each submit, the number of the submit after which the body gets its job, or
-///   `None` if the body does not get it.
+///   `None` if the body does not get the job.
 fn push_gets(
     body: &mut Vec<Action>,
     submits: &[usize],

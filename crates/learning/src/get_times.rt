@@ -3,17 +3,16 @@
 use crate::path_jobs::{JobStep, PathJob, submitted_jobs};
 use std::alloc::{AllocError, Global};
 
-/// Returns, for each job that a body submits, the earliest time at which the body may get the job.
-/// A time is the number of the submit after which the get may come. It is `None` if the body must
-/// not get the job.
+/// Returns, for each job that a body submits, after which submit the body may get the job at the
+/// earliest. The number of this submit is the *time*. It is `None` if the body must not get the
+/// job.
 ///
-/// - `common` has the jobs that the body submits, in order. The jobs that each path submits are a
-///   subsequence of `common`.
-/// - Each path is matched with the last possible submits of the body if `is_late` is true, and with
-///   the first possible submits otherwise.
+/// - `common` has the jobs that the body submits, in order. The jobs of each path are a subsequence
+///   of `common`.
+/// - If `is_late` is true, each path is matched with the last possible submits of the body, and
+///   otherwise with the first possible ones.
 ///
-/// If the body gets its jobs at the returned times, the body has at each moment at least as many
-/// open jobs as each path. Equal jobs are got in the order of their submits.
+/// If the body gets its jobs at these times, it always has at least as many open jobs as each path.
 ///
 /// # Errors
 ///
@@ -34,8 +33,8 @@ pub(crate) fn get_times(
     Ok(times)
 }
 
-/// Replaces each time by the time in `others` if the latter is later. `None` is later than any
-/// time.
+/// Replaces each time by the time at the same index of `others`, if the time in `others` is later.
+/// `None` is later than any time.
 fn delay(times: &mut [Option<usize>], others: &[Option<usize>]) {
     for (time, other) in times.iter_mut().zip(others) {
         *time = later(*time, *other);
@@ -93,13 +92,11 @@ fn mark(made: &mut [bool], index: usize) {
 }
 
 /// Returns the times of [`get_times`] for a single path. `made` says, for each submit of the body,
-/// whether a submit of the path is matched with it. The time of a job is found by these rules:
+/// whether a submit of the path is matched with it. The time of a job is
 ///
-/// - It is `None` if `is_got` of the job is false, or if the path submits the job and does not get
-///   it.
-/// - Otherwise, if the path does not submit the job, it is the number of the job's own submit, so
-///   the body may get the job at once.
-/// - Otherwise, it is the number of the last matched submit before the path's get of the job.
+/// - `None` if `is_got` of the job is false, or the path submits the job and never gets it,
+/// - the number of the job's own submit if the path does not submit the job, and
+/// - otherwise the number of the last matched submit before the path's get of the job.
 fn times_of_path(
     alloc: Global,
     common: &[PathJob],

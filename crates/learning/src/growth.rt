@@ -59,13 +59,12 @@ impl Entries {
     }
 
     /// Changes the body of an entry with this label and pool so that the path and the entry's
-    /// earlier paths match it. Returns the assignment of the path to this entry.
+    /// earlier paths match it. If no such body is found for any entry, adds an entry for this path
+    /// alone. Returns the assignment of the path to the entry.
     ///
-    /// - Uses the first entry for which such a body is found. If there is no such entry, adds an
-    ///   entry for this path alone.
-    /// - Skips the entries of the classes that `reachable` marks. These are the classes to which
-    ///   the path leads, as [`reachable_classes`] returns them. With the path as its body, a job of
-    ///   such a class would lead to jobs of its own class without end.
+    /// Skips the entries of the classes that `reachable` marks, which the path reaches by its
+    /// submits (see [`reachable_classes`]). Otherwise a job of such a class would lead to jobs of
+    /// its own class without end.
     ///
     /// Returns `None` if no entry has this label and pool. Also returns `None` if no body is found
     /// for the path alone, and then the added entry remains.
@@ -188,8 +187,8 @@ fn is_path_of(
     Ok(path_match == PathMatch::Fits)
 }
 
-/// Returns, for each class, whether these steps lead to a job of the class. Steps lead to a job if
-/// a step submits such a job, or if the body of a submitted job leads to it.
+/// Returns, for each class, whether these steps submit a job of the class, directly or through the
+/// bodies of the jobs that they submit.
 ///
 /// # Errors
 ///

@@ -33,14 +33,13 @@ pub(crate) struct Pass {
     alloc: Global,
 }
 
-/// Runs one pass over the part of the recording. If an actor matches no class or client kind of the
-/// plan, the pass tries to change a body so that the actor's path matches it. The pass changes no
-/// body for the actor in these cases:
+/// Runs one pass over the part of the recording. If an actor matches no class or client kind, tries
+/// to change a body so that the actor's path matches it. Changes no body for the actor in these
+/// cases:
 ///
 /// - A job that the actor submitted has no class.
 /// - The match of the actor is undecided.
-/// - The actor has not ended, so its path may be incomplete, and the recording continues after the
-///   part.
+/// - The actor has not ended, and the recording continues after the part.
 /// - The actor has not ended, and a path of an ended actor changed a body in this pass.
 ///
 /// # Errors

@@ -24,9 +24,9 @@ pub(crate) enum JobStep {
     Gets(PathJob),
 }
 
-/// Returns the steps of the path, each with its job. The class of each job is the first class that
-/// the job can belong to. If `marks_gets` is true, `is_got` is true for exactly the jobs that the
-/// path gets. If `marks_gets` is false, `is_got` is true for all jobs.
+/// Returns the steps of the path, each with its job. A job gets the first class that it can belong
+/// to. `is_got` is true for the jobs that the path gets and, if `marks_gets` is false, for all
+/// other jobs as well.
 ///
 /// Returns `None` in these cases:
 ///

@@ -16,11 +16,10 @@ use std::alloc::{AllocError, Global};
 
 /// Returns the pool of a `pool` line, with each size clamped to its range in a plan.
 ///
-/// - If the queue is unbounded, the pool's queue is unbounded. The pool's maximum is then its core
-///   size, and its capacity is the largest capacity of a plan.
-/// - `prestart` is true if all core threads were prestarted and there is at least one core thread.
-/// - `may_reject` is true if the queue is a `SynchronousQueue`. In a plan, only a pool that may
-///   reject jobs can have this queue.
+/// - An unbounded queue gets the largest capacity of a plan, and its pool gets the core size as its
+///   maximum.
+/// - `prestart` is true if all core threads were prestarted and there is at least one.
+/// - `may_reject` is true if the queue is a `SynchronousQueue`, because a plan requires this.
 ///
 /// # Errors
 ///

@@ -5,10 +5,8 @@ use job_bodies::MAX_ACTIONS;
 use std::alloc::{AllocError, Global};
 
 /// Returns a list of jobs that has the submitted jobs of each path as a subsequence. Returns `None`
-/// if the list would be longer than a body may be.
-///
-/// The paths are merged one by one: from the last to the first if `is_reversed` is true, and from
-/// the first to the last otherwise.
+/// if the list would be longer than a body may be. The paths are merged one by one, from the last
+/// to the first if `is_reversed` is true, and otherwise from the first to the last.
 ///
 /// # Errors
 ///
@@ -58,8 +56,8 @@ fn is_subsequence(jobs: &[PathJob], of: &[PathJob]) -> bool {
     found >= jobs.len()
 }
 
-/// Returns a shortest common supersequence of two lists. If either list may give the next job, it
-/// is taken from the first list.
+/// Returns a shortest common supersequence of two lists. If the next job can be taken from either
+/// list, it is taken from the first list.
 fn merged(
     alloc: Global,
     first: &[PathJob],
@@ -94,9 +92,8 @@ fn push_from(jobs: &mut Vec<PathJob>, more: &[PathJob], index: usize) -> Result<
     Ok(())
 }
 
-/// Returns true if the merged list may continue with the next job of the first list. This is so if
-/// the longest common subsequence after skipping this job is not shorter than after skipping the
-/// next job of the second list.
+/// Returns true if the merged list may continue with the next job of the first list: the longest
+/// common subsequence is then not shorter than after the next job of the second list.
 ///
 /// - `left` and `other_left` are the numbers of jobs that remain in the two lists.
 /// - `lengths` is the table that [`common_lengths`] returns.
@@ -112,9 +109,9 @@ fn length_at(lengths: &[Vec<usize>], left: usize, other_left: usize) -> usize {
     }
 }
 
-/// Returns a table with the length of the longest common subsequence for each suffix of the first
-/// list and each suffix of the second list. The outer index is the length of the first list's
-/// suffix. The inner index is the length of the second list's suffix.
+/// Returns the length of the longest common subsequence for each suffix of the first list and each
+/// suffix of the second list. The outer index of the table is the length of the first list's
+/// suffix, and the inner index is the length of the second list's suffix.
 fn common_lengths(
     alloc: Global,
     first: &[PathJob],
@@ -129,8 +126,8 @@ fn common_lengths(
     Ok(rows)
 }
 
-/// Returns the row of the table for the suffix of the first list that begins with this job. `rows`
-/// has the rows for the shorter suffixes.
+/// Returns the next row of the table that [`common_lengths`] computes. `rows` has the rows for all
+/// shorter suffixes of the first list. The new row is for the suffix that begins with `job`.
 fn next_row(
     alloc: Global,
     job: PathJob,

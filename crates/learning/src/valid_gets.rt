@@ -29,8 +29,8 @@ fn is_valid_at(body: &[Action], position: usize) -> bool
     }
 }
 
-/// Returns true if a get at index `position` may name index `submit`. This is so if there is an
-/// earlier submit at index `submit`, and no earlier get names it.
+/// Returns true if a get at index `position` may name index `submit`: a submit is at the earlier
+/// index `submit`, and no earlier get names this submit.
 fn is_valid_get(body: &[Action], position: usize, submit: usize) -> bool
     ensures { result ≡ spec.is_valid_get body.now position submit }
 {
