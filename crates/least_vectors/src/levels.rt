@@ -59,11 +59,8 @@ impl Levels {
     }
 
     /// Gives `level` to each class that has no level yet and submits only classes of lower levels,
-    /// and appends these classes to the order.
-    ///
-    /// `known` has, for each class, the number of actions at the start of its body that are known
-    /// to submit only classes of lower levels. The call does not check these actions again, and
-    /// increases the numbers.
+    /// and appends these classes to the order. `known` has, for each class, the number of actions
+    /// at the start of its body that need no further check, and is updated.
     fn add_level(&mut self, plan: &Plan, level: u64, known: &mut [usize]) -> Result<(), AllocError>
         ensures { vec_len self.new.of_classes ≡ vec_len self.old.of_classes }
     {

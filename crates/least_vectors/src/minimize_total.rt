@@ -33,29 +33,19 @@ pub(crate) struct Loan {
 #[derive(Drop)]
 pub(crate) struct Loans {
     pub(crate) workers: Vec<u64>,
-    /// The pools whose workers got weight by a loan. A later loan may have set the weight of some
-    /// of these workers to 0 again.
+    /// The pools whose workers got weight by a loan, even if a later loan set this weight to 0
+    /// again.
     pub(crate) lenders: Vec<usize>,
     pub(crate) sketch: Sketch,
 }
 
 /// Makes loans to reduce the total of the vector, and returns the resulting worker weights and
 /// their sketch. A *loan* gives each worker of one pool a weight, so that the queued jobs of this
-/// pool can weigh less. The loans end when one of these conditions holds:
+/// pool can weigh less (see [`next_loan`]). The loans end when one of these conditions holds:
 ///
 /// - The total is at most the limit of the target.
 /// - No further loan helps. The total is then still above the limit.
 /// - [`MAX_LOANS`] loans were made. The total can then still be above the limit.
-///
-/// A loan gives each worker of its pool the largest weight that a job of this pool has in its body.
-/// This weight comes from the sketch in which the workers of the pool weigh 0. The pool is the one
-/// for which the total becomes smallest. A cache has the sketches of the worker weights whose
-/// totals were compared.
-///
-/// Classes that are never submitted are ignored, because a loan for their jobs does not change the
-/// total. But there is no vector if such a class has a weight above `MAX_WEIGHT`. In this case, the
-/// next loan chooses the pool whose workers can leave the fewest such classes. It gives these
-/// workers the least weight that does so.
 pub(crate) fn minimize_total(
     alloc: Global,
     plan: &Plan,
@@ -110,8 +100,8 @@ pub(crate) fn least_vector(
 }
 
 /// Returns the vector of the target's pool and kind with the smallest total that the search finds,
-/// or `None` if the search finds no vector. The limit of the target must be 0, so that the search
-/// does not stop early. The total of the returned vector can be above this limit.
+/// or `None` if the search finds none. The limit of the target must be 0, so that the search does
+/// not stop early. The total of the vector may be above this limit.
 pub(crate) fn lightest_vector(
     alloc: Global,
     plan: &Plan,
@@ -131,9 +121,13 @@ pub(crate) fn lightest_vector(
     vector_of(alloc, plan, target, workers, &sketch)
 }
 
-/// Returns the next loan, or `None` if no loan helps. `workers` has the current weights of workers,
-/// and `place` is the index of the sketch for them. The call modifies `workers`, and restores it
-/// before it returns, unless memory runs out.
+/// Returns the next loan, or `None` if no loan helps. If a class that is never submitted has a
+/// weight above `MAX_WEIGHT`, this is the result of [`relieving_loan`], and otherwise that of
+/// [`best_loan`].
+///
+/// - `workers` has the current weights of workers. They are the same after the call, unless memory
+///   runs out.
+/// - `place` is the index of the sketch for these weights.
 fn next_loan(
     sketch_cache: &mut SketchCache,
     workers: &mut [u64],
@@ -153,11 +147,10 @@ fn next_loan(
 }
 
 /// Returns the loan that gives the smallest total, or `None` if no loan makes the total smaller.
-/// `workers` has the current weights of workers, and `place` is the index of the sketch for them.
-/// The call modifies `workers`, and restores it before it returns, unless memory runs out.
+/// Each worker gets the weight that [`peak`] returns. Classes that are never submitted are ignored,
+/// because a loan for their jobs does not change the total.
 ///
-/// Only pools that may lend are tried. A loan is skipped if, after this loan, the workers alone
-/// would weigh at least the smallest total found so far.
+/// `workers` and `place` are as in [`next_loan`].
 fn best_loan(
     sketch_cache: &mut SketchCache,
     workers: &mut [u64],
@@ -201,12 +194,10 @@ fn best_loan(
 }
 
 /// Returns the largest weight that a job of the pool has at any position of its body if the workers
-/// of the pool weigh 0. The weight is computed as if this job weighed as little as possible when it
-/// is done. Classes that are never submitted are ignored.
+/// of the pool weigh 0, and the job weighs as little as possible when it is done. Classes that are
+/// never submitted are ignored.
 ///
-/// `workers` has the current weights of workers, and `place` is the index of the sketch for them.
-/// This sketch is used if the workers of the pool already weigh 0. The call modifies `workers`, and
-/// restores it before it returns, unless memory runs out.
+/// `workers` and `place` are as in [`next_loan`].
 fn peak(
     sketch_cache: &mut SketchCache,
     workers: &mut [u64],

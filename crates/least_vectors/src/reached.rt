@@ -10,7 +10,8 @@ use std::alloc::{AllocError, Global};
 use weights::submitted_class;
 
 /// Returns the reach of each class, given the ranks of the pools. The reach of a class is the
-/// greatest of the rank of its pool and the reaches of the classes whose jobs it gets.
+/// greatest of these numbers: the rank of the class's pool, and the reach of the class of each job
+/// that it gets.
 ///
 /// # Errors
 ///

@@ -15,12 +15,12 @@ use std::alloc::AllocError;
 const HALVINGS: usize = 20;
 
 /// Returns the loan that leaves the fewest overweight classes, or `None` if no loan makes their
-/// number smaller. A class is *overweight* if it is never submitted and has a weight above
-/// `MAX_WEIGHT`. If several loans leave the same number of overweight classes, returns the one
-/// after which all workers together weigh least.
+/// number smaller. Of several such loans, returns the one after which all workers together weigh
+/// least. A class is *overweight* if it is never submitted and has a weight above `MAX_WEIGHT`.
 ///
-/// `workers` has the current weights of workers, and `place` is the index of the sketch for them.
-/// The call modifies `workers`, and restores it before it returns, unless memory runs out.
+/// - `workers` has the current weights of workers. They are the same after the call, unless memory
+///   runs out.
+/// - `place` is the index of the sketch for these weights.
 pub(crate) fn relieving_loan(
     sketch_cache: &mut SketchCache,
     workers: &mut [u64],
@@ -67,12 +67,12 @@ pub(crate) fn relieving_loan(
     Ok(best)
 }
 
-/// Returns the least weight of a worker of the pool for which at most `overweight_unsubmitted`
-/// classes are overweight. Returns `MAX_SIZE` if no smaller weight is enough. A class is
+/// Returns the least weight of a worker of the pool with which at most `overweight_unsubmitted`
+/// classes are overweight, or `MAX_SIZE` if no smaller weight has this effect. A class is
 /// *overweight* if it is never submitted and has a weight above `MAX_WEIGHT`.
 ///
-/// Uses bisection, since heavier workers never leave more classes overweight. The call changes the
-/// weight of the pool's workers in `workers`.
+/// Uses bisection, since heavier workers never leave more classes overweight. Changes the weight of
+/// the pool's workers in `workers`.
 fn least_weight(
     sketch_cache: &SketchCache,
     workers: &mut [u64],

@@ -42,8 +42,8 @@ pub enum Kind<'a> {
     /// With weight, all of them together would weigh at least as much as the core size, but the
     /// total must be below the core size.
     Blocked {
-        /// The reach of each class. It is the greatest of the rank of the class's pool and the
-        /// reaches of the classes whose jobs the class gets.
+        /// The reach of each class. It is the greatest of these numbers: the rank of the class's
+        /// pool, and the reach of the class of each job that it gets.
         reach: &'a [u64],
         rank: u64,
         /// Whether the workers of other pools may have weight.
@@ -56,7 +56,7 @@ pub enum Kind<'a> {
 pub struct ResizedPlan<'a> {
     pub plan: &'a Plan,
     pub levels: &'a Levels,
-    /// The maximum of each pool, in place of the one in `plan`.
+    /// The maximum of each pool. It replaces the maximum in `plan`.
     pub maxes: &'a [u64],
 }
 

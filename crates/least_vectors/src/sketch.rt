@@ -9,9 +9,9 @@ use job_bodies::{Action, Class, Client, MAX_WEIGHT, Plan};
 use std::alloc::{AllocError, Global};
 use weights::submitted_class;
 
-/// The total of a sketch for whose worker weights there is no vector. Then another weight would be
-/// above `MAX_WEIGHT`, or a repeating client would need more weight in each repetition. A total
-/// that overflows also has this value.
+/// The total of a sketch if there is no vector with its worker weights. The reason is that another
+/// weight would be above `MAX_WEIGHT`, or that a repeating client would need more weight in each
+/// repetition. A total that overflows also has this value.
 pub(crate) const TOO_HEAVY: u64 = u64::MAX;
 
 /// The parts of a vector that determine its total, without the weights at the positions of bodies.
@@ -27,7 +27,7 @@ pub(crate) struct Sketch {
     /// The weight is computed as if this job weighed as little as possible when it is done. Classes
     /// that are never submitted are ignored.
     pub(crate) peaks: Vec<u64>,
-    /// The total weight of all workers, if each pool has its maximum of them.
+    /// The total weight of all workers, if each pool has its maximum of workers.
     pub(crate) on_loan: u64,
     /// The number of classes that are never submitted and have a weight above `MAX_WEIGHT`.
     pub(crate) overweight_unsubmitted: usize,
@@ -66,15 +66,12 @@ impl Sketch {
         Ok(sketch)
     }
 
-    /// Computes the weights that a job of the class has when it is queued and when it is done. If
-    /// the class is submitted, raises the peak of its pool to the largest weight that the job has
-    /// in its body.
+    /// Computes the weights of a job of the class when it is queued and when it is done. If the
+    /// class is submitted, raises the peak of its pool to the largest weight that the job has in
+    /// its body.
     ///
-    /// If a weight is above `MAX_WEIGHT`, sets the total to [`TOO_HEAVY`] and, if the class is
-    /// never submitted, counts the class as overweight.
-    ///
-    /// A done job gets the greatest weight that its body allows, because a get then returns more
-    /// weight to its actor. But a done job never weighs more than a queued job of its class.
+    /// If a weight is above `MAX_WEIGHT`, sets the total to [`TOO_HEAVY`]. If the class is also
+    /// never submitted, adds 1 to `overweight_unsubmitted`.
     fn weigh_class(
         &mut self,
         target: &Target,
@@ -109,13 +106,9 @@ impl Sketch {
         }
     }
 
-    /// Computes the weight of a client of this kind at the start of its body. Adds this weight to
-    /// the total once for each client of the kind.
-    ///
-    /// Sets the total to [`TOO_HEAVY`] if a weight is above `MAX_WEIGHT`, or if a repeating client
-    /// would need more weight in each repetition. A repeating client must weigh at least as much at
-    /// the end as at the start. There is no vector if raising the weight at the end to the weight
-    /// at the start raises the weight at the start too.
+    /// Computes the weight of a client of this kind at the start of its body, and adds this weight
+    /// to the total once for each client. Sets the total to [`TOO_HEAVY`] if a weight is above
+    /// `MAX_WEIGHT`, or if a repeating client would need more weight in each repetition.
     fn weigh_client(&mut self, target: &Target, client: &Client) -> Result<(), AllocError> {
         let mut weight = Weight::at_end(0);
         let mut peak = 0;

@@ -12,21 +12,21 @@ use weights::submitted_class;
 pub(crate) enum WeightRequirement<'a> {
     /// While the job is queued. A standing vector has this requirement.
     WhileQueued,
-    /// At each get that waits for a job of a class whose reach is at least `rank`, which is the
-    /// rank of the pool. A blocked vector has this requirement.
+    /// At each get of a job of a class with a reach of at least `rank`, which is the rank of the
+    /// pool. A blocked vector has this requirement.
     AtGets {
-        /// The reach of each class. It is the greatest of the rank of the class's pool and the
-        /// reaches of the classes whose jobs the class gets.
+        /// The reach of each class. It is the greatest of these numbers: the rank of the class's
+        /// pool, and the reach of the class of each job that it gets.
         reach: &'a [u64],
         rank: u64,
     },
-    /// At every point, and also when the job is done. A lifetime vector has this requirement. A get
-    /// returns no weight to its actor in such a vector, and workers weigh 0.
+    /// At every point, and also when the job is done. A lifetime vector has this requirement. In
+    /// such a vector, an actor gains no weight by a get, and workers weigh 0.
     Everywhere,
 }
 
-/// The lenders: the pools whose workers may have weight, so that queued jobs of these pools can
-/// weigh less.
+/// The pools that are *lenders*. The workers of a lender may have weight, so that the queued jobs
+/// of this pool can weigh less.
 #[derive(Clone, Copy, PartialEq, Eq)]
 pub(crate) enum Lenders {
     /// All pools.
@@ -87,8 +87,9 @@ impl<'a> Target<'a> {
         }
     }
 
-    /// Returns the target unchanged if its limit is positive. If the limit is 0, returns the target
-    /// without lenders, because the weight of any worker would make the total positive.
+    /// Returns the target, unchanged if its limit is positive. If the limit is 0, the result is a
+    /// target in which no worker may have weight, because any weight of a worker makes the total
+    /// positive.
     pub(crate) fn without_useless_loans(self) -> Target<'a> {
         if self.limit > 0 {
             return self;
@@ -128,7 +129,7 @@ impl<'a> Target<'a> {
         total
     }
 
-    /// Returns whether a get returns the weight of the done job to the actor that performs the get.
+    /// Returns true if an actor that gets a done job takes over the weight of this job.
     pub(crate) fn gives_back(&self) -> bool {
         !matches!(self.requirement, WeightRequirement::Everywhere)
     }
