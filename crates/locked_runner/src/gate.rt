@@ -7,7 +7,7 @@ pub enum Actor {
     Job(usize),
 }
 
-/// The error that a gate returns if the work failed.
+/// The error that a [`Gate`] returns if the work failed.
 #[derive(Clone, Copy, PartialEq, Eq)]
 pub struct GateFault;
 

@@ -52,9 +52,9 @@ fn pool_of_class(plan: &Plan, class: usize) -> u8
     }
 }
 
-/// Returns the owner of the event. If a job performs the event, `pool` must be the pool of this
-/// job. For any other event, `pool` has no effect. Returns `None` for the end of an idle worker,
-/// because no thread of a run performs such an event.
+/// Returns the owner of the event, or `None` for the end of an idle worker, which no thread of a
+/// run performs. If a job performs the event, `pool` must be the pool of this job. For any other
+/// event, `pool` has no effect.
 pub(crate) fn owner_by(event: Event, pool: u8) -> Option<Owner>
     ensures { result ≡ spec.owner_by event pool }
 {

@@ -21,8 +21,8 @@ use weights::Ranks;
 /// events of the plan's machine. The gate does the declared work.
 ///
 /// A client of a repeating kind performs its body `rounds` times, and any other client performs it
-/// once. `rounds` should be at least 1. With 0 rounds, a repeating client performs no event, so the
-/// run is not complete unless the client's body is empty. The result is then a fault.
+/// once. `rounds` should be at least 1. With 0 rounds, a repeating client performs no event. If its
+/// body is not empty, the run is then not complete, and the result is a fault.
 ///
 /// # Errors
 ///
