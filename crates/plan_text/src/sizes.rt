@@ -33,10 +33,9 @@ pub fn sizes_of(core: u64, max: Option<u64>, queue: Option<u64>) -> Sizes
     }
 }
 
-/// Returns the maximum of a pool with this core and an unbounded queue. `max` is `None` for the
-/// string `unbounded`. The maximum has no effect in such a pool, so the result is `core`. If `max`
-/// is a number that is out of range, the result is this number, so that it is a fault as in any
-/// other pool.
+/// Returns the maximum of a pool with this core and an unbounded queue: `core`, because the maximum
+/// has no effect. `max` is `None` for the string `unbounded`. If `max` is out of range, returns
+/// `max`, so that it is a fault as in any other pool.
 fn max_over_unbounded(core: u64, max: Option<u64>) -> u64
     ensures { result ≡ spec.max_over_unbounded core max }
 {
