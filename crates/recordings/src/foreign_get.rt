@@ -2,7 +2,7 @@
 
 use crate::RecordedActor;
 
-/// A get of a job by an actor other than its submitter, before the submitter got the job.
+/// A get of a job by an actor that did not submit the job, before the submitter got it.
 #[derive(Clone, Copy, PartialEq, Eq)]
 pub struct ForeignGet {
     /// The line number of the get, from 1.

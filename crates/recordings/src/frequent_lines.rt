@@ -39,8 +39,8 @@ pub(crate) fn split_frequent_line(text: &[u8]) -> Option<(Line<'_>, &[u8])>
     }
 }
 
-/// Parses `words`, the text after `job N` in a line, and returns the line with the text after its
-/// newline.
+/// Parses a line about a job. `words` is the text after `job N`. Returns the line and the text
+/// after its newline, or `None` if the line has no frequent form.
 #[inline(always)]
 fn split_job_line(job: usize, words: &[u8]) -> Option<(Line<'_>, &[u8])>
     requires { is_valid_number job ≡ true }
@@ -57,8 +57,8 @@ fn split_job_line(job: usize, words: &[u8]) -> Option<(Line<'_>, &[u8])>
     split_action(RecordedActor::Job(job), words)
 }
 
-/// Parses `words`, the text after `round N` in a line, and returns the line with the text after its
-/// newline.
+/// Parses a line about a round. `words` is the text after `round N`. Returns the line and the text
+/// after its newline, or `None` if the line has no frequent form.
 #[inline(always)]
 fn split_round_line(round: usize, words: &[u8]) -> Option<(Line<'_>, &[u8])>
     requires { is_valid_number round ≡ true }

@@ -16,9 +16,9 @@ use crate::{Line, RecordedActor};
 use std::alloc::{AllocError, Global};
 use std::collections::BTreeMap;
 
-/// A list of invalidating events, which has all those that may be the first of their type. An event
-/// is pending if it is a get that timed out or was interrupted, and the next line of its actor can
-/// still discard it. For each type, the list has at least these events:
+/// A list of the invalidating events that may be the first of their type. An event is pending if it
+/// is a get that timed out or was interrupted, and the next line of its actor can still discard it.
+/// For each type, the list has at least these events:
 ///
 /// - the first event that is not pending;
 /// - all pending events before it.

@@ -34,8 +34,8 @@ pub(crate) fn actor_of(line: &Line<'_>) -> Option<RecordedActor>
 }
 
 /// Returns the job that the line names as its object, such as the job of a `got` line. Returns
-/// `None` if there is no such job. The actor of the line and a job that the line submits are not
-/// such jobs.
+/// `None` if the line has no object. The actor of the line, and a job that the line submits, are
+/// not its object.
 pub(crate) fn job_of(line: &Line<'_>) -> Option<usize>
     ensures { result ≡ spec.job_of (line_view line.now) }
 {

@@ -63,11 +63,11 @@ impl<'a> RecordingLines<'a> {
     }
 }
 
-/// Parses the first line of a text, whatever its form, and returns it with the text after its
-/// newline. Returns `None` if the text has no newline.
+/// Parses the first line of a text, whatever its form. Returns the line and the text after its
+/// newline, or `None` if the text has no newline.
 ///
-/// This function is inlined, because a call would first clear the space for its return value. This
-/// would slow down the parsing of the frequent lines, which does not need this function.
+/// The function is inlined to keep the parsing of frequent lines fast: a call would first clear the
+/// space for its return value.
 #[inline(always)]
 fn split_line(text: &[u8]) -> Option<(Result<Line<'_>, BadLine>, &[u8])>
     ensures { MatchOption result (lines_read text.now ≡ [])

@@ -17,8 +17,8 @@ use crate::unclaimed::UnclaimedJobs;
 use std::alloc::{AllocError, Global};
 
 /// The events that invalidate a SAFE answer, and the first foreign get, in the lines read so far. A
-/// foreign get is a get of a job by an actor other than its submitter, before the submitter got the
-/// job.
+/// foreign get is a get of a job by an actor that did not submit the job, before the submitter got
+/// it.
 ///
 /// The size grows with the number of jobs that their submitters have not got, and with the number
 /// of actors whose last line is `timeout` or `interrupted`. Processing a line takes a constant
@@ -74,8 +74,8 @@ impl RecordedNotes {
         self.invalidations.firsts(alloc)
     }
 
-    /// Returns the first get of a job by an actor other than its submitter, before the submitter
-    /// got the job. Returns `None` if there is no such get.
+    /// Returns the first get of a job by an actor that did not submit the job, before the submitter
+    /// got it. Returns `None` if there is no such get.
     pub fn foreign_get(&self) -> Option<ForeignGet>
         ensures { (lines : List RecordedLine)
             → IsNotesOf self.now lines
