@@ -15,9 +15,9 @@ use serde_json::Value;
 use std::alloc::{AllocError, Global};
 use weights::{Bound, Vector};
 
-/// Converts a pool's bound to JSON: its kind, its total and the shares in the total. The kind says
-/// what the total limits: the jobs in the queue at one time (`standing`), or the jobs that are ever
-/// submitted to the pool (`lifetime`). The value is null if
+/// Converts a pool's bound to JSON: its kind, its total, and the shares of client kinds and pools
+/// in the total. The kind is `standing` if the total limits the jobs in the queue at one time, and
+/// `lifetime` if it limits the jobs that are ever submitted to the pool. The value is null if
 ///
 /// - there is no bound,
 /// - the vector of the bound does not fit the plan, or
@@ -89,7 +89,7 @@ fn bound_object(
         .done()
 }
 
-/// Converts the shares of the client kinds in a bound to JSON, except the shares that are 0.
+/// Converts the share of each client kind in the total of a bound to JSON. Skips shares of 0.
 fn clients_value(alloc: Global, plan: &Plan, shares: &[u64]) -> Result<Value, AllocError>
     ensures { IfOk result (λ value. view value ≡ spec.clients_data plan.now shares.now) }
 {
@@ -100,7 +100,7 @@ fn clients_value(alloc: Global, plan: &Plan, shares: &[u64]) -> Result<Value, Al
     Ok(Value::from(values))
 }
 
-/// Converts the shares of the pools' threads in a bound to JSON, except the shares that are 0.
+/// Converts the share of each pool's threads in the total of a bound to JSON. Skips shares of 0.
 fn threads_value(alloc: Global, plan: &Plan, shares: &[u64]) -> Result<Value, AllocError>
     ensures { IfOk result (λ value. view value ≡ spec.threads_data plan.now shares.now) }
 {
@@ -111,8 +111,8 @@ fn threads_value(alloc: Global, plan: &Plan, shares: &[u64]) -> Result<Value, Al
     Ok(Value::from(values))
 }
 
-/// Appends the JSON object of one share, unless the share is 0.
-#[tactic(auto, using(std::proofs::lemmas::List::map_push), unfolding(crate::specs::JsonPools::share_data))]
+/// Appends the JSON object of one share in the total of a bound. Appends nothing if the share is 0.
+#[tactic(auto, using(std::proofs::lemmas::List::map_push))]
 fn push_share(
     alloc: Global,
     values: &mut Vec<Value>,
@@ -135,9 +135,7 @@ fn push_share(
 
 /// Creates a JSON object with two numbers: the maximum number of core threads that wait at counted
 /// gets at once, and the number of the other core threads. A counted get can block a thread that
-/// other jobs need. The maximum is the total of `blocked`; the value is null if this vector does
-/// not fit the plan.
-#[tactic(auto, unfolding(crate::specs::JsonPools::waiting_data))]
+/// other jobs need. The value is null if the vector `blocked` does not fit the plan.
 pub(crate) fn blocked_value(
     alloc: Global,
     plan: &Plan,

@@ -20,8 +20,8 @@ use serde_json::Value;
 use std::alloc::{AllocError, Global};
 
 /// Converts the pools of a plan to JSON. `parts` has, for each pool, its part of the certificate.
-/// `rejections` has, for each pool, the number of events after which the pool rejects a job, if
-/// this number is known. Both lists are empty if no certificate accepts the plan.
+/// `rejections` has, for each pool, the number of events after which it rejects a job, if this
+/// number is known. Both lists are empty if no certificate accepts the plan.
 pub(crate) fn pools_value(
     alloc: Global,
     plan: &Plan,

@@ -35,10 +35,11 @@ pub fn picture_of(alloc: Global, plan: &Plan, finding: &PlanFinding) -> Result<S
     }
 }
 
-/// Returns the Graphviz graph of a plan. `parts` has, for each pool, its part of the certificate,
-/// and is empty if there is no certificate. `ranks` has the ranks of the certificate, or is `None`
-/// if there is no certificate. The ranks determine which gets are counted, and counted gets are
-/// bold.
+/// Returns the Graphviz graph of a plan. The gets that the ranks count are bold.
+///
+/// - `parts` has, for each pool, its part of the certificate, and is empty if there is no
+///   certificate.
+/// - `ranks` has the ranks of the certificate, or is `None` if there is no certificate.
 fn graph_of(
     alloc: Global,
     plan: &Plan,
@@ -198,10 +199,10 @@ fn push_bound(
     }
 }
 
-/// Appends the bound of the pool's queue, except in these cases:
+/// Appends the bound that the certificate has for the pool's queue, except in these cases:
 ///
-/// - If the pool has no bound and its queue is bounded, appends that the pool may reject jobs.
-/// - If the queue is unbounded, and there is no bound or its total does not limit the jobs in the
+/// - If there is no bound for a queue of limited capacity, appends that the pool may reject jobs.
+/// - If there is no bound for an unbounded queue, or the bound does not limit the jobs in this
 ///   queue, appends nothing.
 /// - If the vector of the bound does not fit the plan, appends nothing.
 fn push_bound_of(
@@ -222,8 +223,8 @@ fn push_bound_of(
     }
 }
 
-/// Returns the text for a pool without a bound, which says that the pool may reject jobs. Returns
-/// an empty text if the queue is unbounded, because such a pool rejects no jobs.
+/// Returns the text for a pool without a bound in the certificate: that the pool may reject jobs.
+/// The text is empty if the pool's queue is unbounded, because the pool then rejects no jobs.
 fn no_bound_words(pool: &Pool) -> &'static str
     ensures { result.now ≡ spec.no_bound_part pool.now }
 {

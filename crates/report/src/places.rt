@@ -70,14 +70,12 @@ pub fn total_of(plan: &Plan, vector: &Vector) -> Option<u64>
     }
 }
 
-/// Returns whether the total of the bound limits the number of jobs of the pool. A standing vector
-/// limits the jobs in the queue at one time. A lifetime vector limits the jobs that are ever
-/// submitted to the pool.
+/// Returns whether the total of the bound limits the number of jobs of the pool.
 ///
-/// - If the queue is bounded, returns `true`, because the conditions on the bound demand it.
-/// - If the queue is unbounded, the conditions do not demand it. Returns whether the vector fits
-///   the plan and gives each job of the pool a weight of at least 1. In a standing vector, only
-///   queued jobs need this weight.
+/// - If the queue is bounded, the result is `true`, because the conditions on the bound demand it.
+/// - If the queue is unbounded, the result is whether the vector fits the plan and gives each job
+///   of the pool a weight of at least 1. A standing vector need give this weight only to queued
+///   jobs.
 pub(crate) fn bounds_jobs(plan: &Plan, pool: usize, bound: &Bound) -> bool
     ensures { result ≡ spec.bounds_jobs plan.now pool bound.now }
 {
@@ -113,9 +111,9 @@ fn counts_classes(pool: usize, bound: &Bound, classes: &[Class]) -> bool
         .all(|(number, class)| counts_if_of(pool, bound, number, class))
 }
 
-/// Returns whether the bound's vector gives each job of the class a weight of at least 1. In a
-/// standing vector, only queued jobs need this weight. Also returns `true` if the class does not
-/// belong to the pool. `number` is the number of the class.
+/// Returns whether the class belongs to another pool, or the bound's vector gives each job of the
+/// class a weight of at least 1. A standing vector need give this weight only to queued jobs.
+/// `number` is the number of the class.
 fn counts_if_of(pool: usize, bound: &Bound, number: usize, class: &Class) -> bool
     ensures { result ≡ spec.counts_if_of pool bound.now (number, class.now) }
 {

@@ -18,8 +18,8 @@ use std::alloc::{AllocError, Global};
 use weights::{Bound, Vector};
 
 /// Appends the lines of each pool that has a part of the certificate, and a last line that says
-/// what the certificate guarantees. `rejections` has, for each pool that was found to reject a job,
-/// the number of events after which the pool rejects a job.
+/// what the certificate guarantees. `rejections` has, for each pool, the number of events after
+/// which the pool rejects a job, if this number is known.
 pub(crate) fn push_safe(
     alloc: Global,
     text: &mut String,
@@ -36,8 +36,7 @@ pub(crate) fn push_safe(
 }
 
 /// Returns the words that say what the certificate guarantees: no refused submit and no deadlock.
-/// If a pool has no bound and a bounded queue, it may reject jobs, and the words about submits then
-/// exclude such pools.
+/// The words about submits exclude the pools for which [`may_reject_jobs`] returns `true`.
 pub(crate) fn safe_words(plan: &Plan, cert: &Cert) -> &'static str
     ensures { result.now ≡ spec.safe_words plan.now cert.now }
 {
@@ -58,8 +57,8 @@ fn any_may_reject(plan: &Plan, parts: &[PoolCert]) -> bool
         .any(|(number, part)| may_reject_jobs(plan, number, part))
 }
 
-/// Returns whether the pool with this number has no bound and a bounded queue. If a certificate
-/// accepts the plan, such a pool may reject jobs.
+/// Returns whether the pool with this number has a queue of limited capacity for which the
+/// certificate has no bound. If a certificate accepts the plan, such a pool may reject jobs.
 fn may_reject_jobs(plan: &Plan, number: usize, part: &PoolCert) -> bool
     ensures { result ≡ spec.may_reject_jobs plan.now (number, part.now) }
 {
@@ -150,7 +149,8 @@ fn push_rest(
     push_pool_submits(text, plan, number, pool, bound)
 }
 
-/// Appends a line for each submit to the pool, if the pool has no bound and a bounded queue.
+/// Appends a line for each submit to the pool. Appends nothing if the certificate has a bound for
+/// the pool, or if the capacity of the pool's queue is unlimited.
 fn push_pool_submits(
     text: &mut String,
     plan: &Plan,

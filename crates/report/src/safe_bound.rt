@@ -36,12 +36,9 @@ pub(crate) fn push_bound(
     text.push('\n')
 }
 
-/// Appends the capacity of the pool's queue, and the bound of the queue with its shares. A share is
-/// the part of the bound that the clients of one kind, or the threads of one pool, account for.
-/// Appends the text for a queue without a bound if
-///
-/// - the pool has no bound, or
-/// - the queue is unbounded and the total of the bound does not limit its jobs.
+/// Appends the capacity of the pool's queue. Also appends the bound that the certificate has for
+/// this queue, if the bound limits the jobs of the pool. Otherwise appends the text of
+/// [`push_no_bound`].
 fn push_queue(
     alloc: Global,
     text: &mut String,
@@ -62,8 +59,8 @@ fn push_queue(
     }
 }
 
-/// Appends the text for a queue without a bound: its capacity, and either why it has no bound or
-/// that the pool may reject jobs.
+/// Appends the text for a queue without a bound in the certificate: the capacity of the queue, and
+/// the text of [`push_no_bound`].
 fn push_open_queue(
     alloc: Global,
     text: &mut String,
@@ -92,8 +89,9 @@ pub(crate) fn push_queue_size(text: &mut String, pool: &Pool) -> Result<(), Allo
     write!(text, "{queue}")
 }
 
-/// Appends why a queue has no bound, if it is unbounded. Otherwise appends that the pool may reject
-/// jobs, and after how many events it rejects one, if this number is known.
+/// Appends why the certificate has no bound for the queue, if the queue is unbounded. Otherwise
+/// appends that the pool may reject jobs, and after how many events it rejects one, if this number
+/// is known.
 fn push_no_bound(
     alloc: Global,
     text: &mut String,
@@ -112,9 +110,9 @@ fn push_no_bound(
     }
 }
 
-/// Appends why the unbounded queue of the pool has no bound. This is a text for each body that
-/// submits a job to the pool and never gets it. If there is no such body, appends that no bound is
-/// known.
+/// Appends why the certificate has no bound for the unbounded queue of the pool. This is a text for
+/// each body that submits a job to the pool and never gets this job. If there is no such body,
+/// appends that no bound is known.
 fn push_growth(
     alloc: Global,
     text: &mut String,
@@ -143,8 +141,8 @@ fn push_rejection(text: &mut String, rejection: Option<u64>) -> Result<(), Alloc
     }
 }
 
-/// Appends the capacity of the pool's queue, the bound of the queue, and the shares in the bound.
-/// Appends nothing if the vector of the bound does not fit the plan.
+/// Appends the capacity of the pool's queue, the bound of the queue, and the shares of client kinds
+/// and pools in the bound. Appends nothing if the vector of the bound does not fit the plan.
 fn push_bounded(
     alloc: Global,
     text: &mut String,
@@ -165,8 +163,8 @@ fn push_bounded(
     push_places(alloc, text, plan, bound)
 }
 
-/// Returns the words that precede the bound of a pool. If the plan says that the pool may reject
-/// jobs, and its queue is bounded, these words say that it never rejects jobs. Otherwise they are
+/// Returns the words that precede the bound of a pool's queue. They say that the pool never rejects
+/// jobs, if the plan allows this pool to reject jobs and its queue is bounded. Otherwise they are
 /// empty.
 fn never_words(pool: &Pool) -> &'static str
     ensures { result.now ≡ spec.never_text pool.now }
@@ -178,8 +176,7 @@ fn never_words(pool: &Pool) -> &'static str
     }
 }
 
-/// Appends the bound of a queue and the shares in the bound. A share is the part of the bound that
-/// the clients of one kind, or the threads of one pool, account for.
+/// Appends the bound of a queue, and the shares of client kinds and pools in the bound.
 fn push_places(
     alloc: Global,
     text: &mut String,
@@ -201,9 +198,9 @@ fn push_places(
     text.push_str(")")
 }
 
-/// Appends the bound `total` of a queue. If `bound` is a standing vector, the text says that this
-/// is the maximum number of jobs in the queue at one time. If it is a lifetime vector, the text
-/// says that this is the maximum number of jobs that are ever submitted to the pool.
+/// Appends what the total of a queue's bound limits, such as `up to 3 jobs wait at once`. The total
+/// of a standing vector limits the jobs in the queue at one time. The total of a lifetime vector
+/// limits the jobs that are ever submitted to the pool.
 pub(crate) fn push_most(text: &mut String, bound: &Bound, total: u64) -> Result<(), AllocError>
     ensures { Pushes result text.old text.new (spec.most_text bound.now total) }
 {
@@ -215,9 +212,9 @@ pub(crate) fn push_most(text: &mut String, bound: &Bound, total: u64) -> Result<
     }
 }
 
-/// Appends the number of threads that the pool can have, such as `4 threads`. If the core size and
-/// the maximum differ, appends both, such as `2 to 4 threads`. If the queue is unbounded, appends
-/// only the core size, because the pool never has more threads.
+/// Appends the number of threads that the pool can have, such as `4 threads`, or `2 to 4 threads`
+/// if the core size and the maximum differ. If the queue is unbounded, appends only the core size,
+/// because the pool never has more threads.
 pub(crate) fn push_threads(text: &mut String, pool: &Pool) -> Result<(), AllocError>
     ensures { Pushes result text.old text.new (spec.threads_text pool.now) }
 {
@@ -232,9 +229,8 @@ pub(crate) fn push_threads(text: &mut String, pool: &Pool) -> Result<(), AllocEr
     }
 }
 
-/// Appends the shares in the total of a vector, such as `200 browser, 8 from threads of web`. Skips
-/// the shares that are 0. A share is the part of the total that the clients of one kind, or the
-/// threads of one pool, account for.
+/// Appends the share of each client kind and of each pool in the total of a vector, such as
+/// `200 browser, 8 from threads of web`. Skips shares of 0.
 fn push_shares(
     alloc: Global,
     text: &mut String,
@@ -289,8 +285,8 @@ fn push_workers(
     Ok(())
 }
 
-/// Appends the text of one share, such as `8 from threads of web`. `from` is the text between the
-/// number and the name. Appends nothing if the share is 0.
+/// Appends the text of the share of a client kind or of a pool, such as `8 from threads of web`.
+/// `from` is the text between the number and the name. Appends nothing if the share is 0.
 #[tactic(auto, using(std::proofs::lemmas::List::map_push))]
 fn push_share(
     alloc: Global,

@@ -13,8 +13,8 @@ use std::alloc::{AllocError, Global};
 use weights::Vector;
 
 /// Appends the line with the pools for which the pool's jobs wait. The line also has the maximum
-/// number of core threads of the pool that wait at counted gets at once. This number is omitted if
-/// it is not known or 0. A counted get can block a thread that other jobs need.
+/// number of core threads that wait at counted gets at once, if this number is known and not 0. A
+/// counted get can block a thread that other jobs need.
 pub(crate) fn push_waits(
     alloc: Global,
     text: &mut String,
@@ -34,8 +34,8 @@ pub(crate) fn push_waits(
 }
 
 /// Appends the maximum number of core threads that wait at counted gets at once, and the number of
-/// the other core threads. The maximum is the total of the vector `blocked`. Appends nothing if the
-/// total is 0, or if this vector does not fit the plan.
+/// the other core threads. The maximum is the total of the vector `blocked`. Appends nothing if it
+/// is 0, or if the vector does not fit the plan.
 fn push_left(
     text: &mut String,
     plan: &Plan,

@@ -10,18 +10,18 @@ use job_bodies::Plan;
 use std::alloc::{AllocError, Global};
 use weights::Vector;
 
-/// The shares in the total of a vector, whose sum is this total. A share is the part of the total
-/// that the clients of one kind, or the threads of one pool, account for.
+/// The total of a vector as a sum of shares: one share for each client kind, and one for each pool.
 #[derive(Drop)]
 pub struct Shares {
-    /// For each client kind in plan order, the share of its clients.
+    /// For each client kind in plan order, the weight of all its clients at their start.
     pub clients: Vec<u64>,
-    /// For each pool in plan order, the share of its threads.
+    /// For each pool in plan order, the weight of all its threads if the pool has its maximum of
+    /// threads.
     pub workers: Vec<u64>,
 }
 
-/// Returns the shares in the total of this vector, whose sum is the total. A share is the part of
-/// the total that the clients of one kind, or the threads of one pool, account for.
+/// Splits the total of this vector into shares: one for each client kind, and one for each pool.
+/// The sum of the shares is the total.
 ///
 /// # Errors
 ///

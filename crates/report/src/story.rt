@@ -17,9 +17,9 @@ use interleaving::{Event, World};
 use job_bodies::Plan;
 use std::alloc::{AllocError, Global};
 
-/// Appends the text that describes the events, which start from the plan's initial state. The text
-/// shows the events, the state of the pools after them, and what each of the jobs `members` waits
-/// for. It ignores the first event that is not possible, and all later events.
+/// Appends a description of the events from the plan's initial state, the state of the pools after
+/// them, and what each of the jobs `members` waits for. Ignores the first event that is not
+/// possible, and all later events.
 ///
 /// # Errors
 ///

@@ -39,9 +39,8 @@ pub(crate) fn push_step(text: &mut String, plan: &Plan, step: EventStep) -> Resu
     push_act(text, plan, submitted, taken, step.outcome)
 }
 
-/// Returns the name of the class whose job the actor's action submits, or an empty name if `action`
-/// is `None`. If the action is not a submit, the name has no meaning, and the caller does not use
-/// it.
+/// Returns the name of the class that the actor's action submits, or an empty name if `action` is
+/// `None`. If the action is not a submit, the name has no meaning, and the caller does not use it.
 fn submitted_name(plan: &Plan, actor: Actor, action: Option<usize>) -> &str
     ensures { result.now ≡ spec.submitted_name plan.now actor action }
 {

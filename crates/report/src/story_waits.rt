@@ -15,10 +15,9 @@ use weights::submitted_class;
 /// The maximum number of waiting jobs that are listed.
 const MAX_WAITS: usize = 20;
 
-/// Appends a line for each job in `members`, which says what this job waits for. A line has the
-/// form `job 0 (report) waits for job 1 (section)` or `job 1 (section) waits in the queue of p,
-/// ..`. Only the first 20 jobs get a line. If there are more, a last line has the number of the
-/// others.
+/// Appends a line for each job in `members` that says what the job waits for, such as
+/// `job 0 (report) waits for job 1 (section)`. Only the first 20 jobs get a line. If there are
+/// more, a last line has the number of the others.
 ///
 /// # Errors
 ///

@@ -16,7 +16,7 @@ pub(crate) fn uri_of(alloc: Global, name: &str) -> Result<String, AllocError>
     Ok(uri)
 }
 
-/// Returns the prefix without which the start of the name would be read as a host or a scheme:
+/// Returns the prefix that keeps the start of the name from being read as a host or a scheme:
 ///
 /// - `/.` if the name starts with two slashes,
 /// - `./` if the name has a colon before its first slash, and

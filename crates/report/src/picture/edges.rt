@@ -13,7 +13,8 @@ use weights::Ranks;
 
 // ---- from clients
 
-/// Appends the edges from each client kind to the classes whose jobs its clients submit or get.
+/// Appends the edges from each client kind to the classes of the jobs that its clients submit or
+/// get.
 pub(crate) fn push_client_edges(text: &mut String, plan: &Plan) -> Result<(), AllocError>
     ensures { Pushes result text.old text.new (spec.client_edges plan.now) }
 {
@@ -52,8 +53,8 @@ fn push_client_edges_to(
 
 // ---- from classes
 
-/// Appends the edges from each class to the classes whose jobs its jobs submit or get. `ranks`
-/// determines which gets are counted. If `ranks` is `None`, no get is counted.
+/// Appends the edges from each class to the classes of the jobs that its own jobs submit or get.
+/// `ranks` determines which gets are counted. If `ranks` is `None`, no get is counted.
 pub(crate) fn push_class_edges(
     text: &mut String,
     plan: &Plan,
