@@ -20,17 +20,15 @@ pub(crate) struct Attempt {
     /// The sum of the amounts by which the cores, maximums and queues exceed the declared ones. The
     /// maximum of a pool with an unbounded queue does not count.
     pub(crate) cost: u64,
-    /// The largest number of pools among which a round chose the pool whose core it raised. It is 0
-    /// if no round raised a core. If the rounds were repeated, only their first execution counts.
+    /// The largest number of pools from which a round chose the pool to raise. It is 0 if no round
+    /// raised a core. If the rounds were repeated, this is the number of their first execution.
     pub(crate) choices: usize,
 }
 
 /// Searches for a certificate and for the least sizes with which it accepts the plan. The search
-/// starts with the cores and maximums in `threads`.
-///
-/// A round that finds no pool with a large enough core raises the core of the pool that needs the
-/// smallest increase. The first such round skips the `passed_over` pools that need the smallest
-/// increases, and raises the core of the next pool.
+/// starts with the cores and maximums in `threads`. A round that finds no pool with a large enough
+/// core raises the core of the pool that needs the smallest increase. The first such round skips
+/// the first `passed_over` pools in this order.
 ///
 /// # Errors
 ///

@@ -9,15 +9,13 @@ use least_vectors::Kind;
 use std::alloc::Global;
 use weights::Bound;
 
-/// Returns the vector that bounds the pool's queue. `pool_threads` has the current core and maximum
-/// of this pool, and `maxes` has the current maximums of all pools.
+/// Returns the vector that bounds the pool's queue:
 ///
-/// - If the queue is unbounded, the result is a standing vector, or `None` if the search finds
-///   none.
-/// - If the queue is bounded and the pool may reject jobs, the result is a vector for which the
-///   queue is large enough. It is `None` if the search finds no such vector.
-/// - For any other pool, the result is the vector that requires the smallest increase of the queue.
-///   If the search finds no vector, returns the pool as the obstacle.
+/// - For an unbounded queue, a standing vector, or `None` if the search finds none.
+/// - For a bounded queue of a pool that may reject jobs, a vector for which the queue is large
+///   enough, or `None` if the search finds none.
+/// - For any other queue, the vector that requires the smallest increase of the queue. If the
+///   search finds none, returns the pool as the obstacle.
 pub(crate) fn bound_of(
     alloc: Global,
     cache: &mut VectorCache,

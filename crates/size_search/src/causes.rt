@@ -38,9 +38,9 @@ pub fn cause_of(alloc: Global, plan: &Plan) -> Result<Option<Cause>, AllocError>
     Ok(None)
 }
 
-/// Returns whether repeating clients, or jobs that result from their submits, never get a job that
-/// they submit to a pool that needs no bound. Such a submit is not a cause, but then no sizes are
-/// enough for the plan's steady certificate. [`cause_of`] must have found no cause for the plan.
+/// Returns whether a repeating client, or a job that results from its submits, submits a job to a
+/// pool that needs no bound and never gets this job. Then no sizes are enough for the plan's steady
+/// certificate. [`cause_of`] must have found no cause for the plan.
 pub(crate) fn loses_without_bound(alloc: Global, plan: &Plan) -> Result<bool, AllocError>
     requires { IsWithoutCause plan.now }
     ensures loses { IfOk result (λ loses. loses ≡ true → LosesWithoutBound plan.now) }
@@ -84,12 +84,9 @@ fn submits_itself(alloc: Global, plan: &Plan, number: usize) -> Result<bool, All
     Ok(submitted_classes.has(number))
 }
 
-/// Returns the first submit without a get in the bodies of the client kinds that repeat. The result
-/// is the number of the client kind and the position of the submit. It is `None` if there is no
-/// such submit.
-///
-/// If `without_bound` is `true`, considers only submits to pools that need no bound. Otherwise
-/// considers only submits to pools that need a bound.
+/// Returns the first submit without a get in the bodies of the repeating client kinds: the number
+/// of the client kind and the position of the submit. Considers only submits to pools that need no
+/// bound if `without_bound` is `true`, and only the other submits if it is `false`.
 fn lost_by_clients(plan: &Plan, without_bound: bool) -> Option<(usize, usize)>
     ensures lost { IfSome result (λ found. LostByClients plan.now without_bound found.0 found.1) }
     ensures none { IfNone result ((c i : ℕ) → ¬ LostByClients plan.now without_bound c i) }
@@ -105,13 +102,10 @@ fn lost_by_clients(plan: &Plan, without_bound: bool) -> Option<(usize, usize)>
     None
 }
 
-/// Returns the first submit without a get in the bodies of the classes in `submitted_classes`. The
-/// result is the number of the class and the position of the submit. It is `None` if there is no
-/// such submit. `submitted_classes` must have exactly the classes that repeating clients submit,
-/// directly or through other jobs.
-///
-/// If `without_bound` is `true`, considers only submits to pools that need no bound. Otherwise
-/// considers only submits to pools that need a bound.
+/// Returns the first submit without a get in the bodies of the classes in `submitted_classes`: the
+/// number of the class and the position of the submit. `submitted_classes` must have exactly the
+/// classes that repeating clients submit, directly or through other jobs. `without_bound` is as in
+/// [`lost_by_clients`].
 fn lost_by_jobs(
     plan: &Plan,
     submitted_classes: &SubmittedClasses,
@@ -132,11 +126,8 @@ fn lost_by_jobs(
     None
 }
 
-/// Returns the position of the first submit whose job the body never gets. Returns `None` if there
-/// is no such submit.
-///
-/// If `without_bound` is `true`, considers only submits to pools that need no bound. Otherwise
-/// considers only submits to pools that need a bound.
+/// Returns the position of the first submit of a job that the body never gets, or `None` if there
+/// is no such submit. `without_bound` is as in [`lost_by_clients`].
 fn submit_without_get(plan: &Plan, body: &[Action], without_bound: bool) -> Option<usize>
     ensures found { IfSome result
         (λ i. IsNeverGot body.now i × (goes_without_bound plan.now body.now i ≡ without_bound)) }

@@ -14,7 +14,9 @@ use weights::{Ranks, Vector};
 /// The certificate can need smaller sizes than those of the assignment. So the caller computes the
 /// sizes anew, from the plan's sizes.
 ///
-/// Returns an obstacle as the error in these cases:
+/// # Errors
+///
+/// Returns an obstacle in these cases:
 ///
 /// - A pool has no rank.
 /// - The blocked vector of a pool is not found.
@@ -39,8 +41,7 @@ pub(crate) fn cert_of(
     })
 }
 
-/// Returns the bound and the blocked vector of each pool. The bound is the vector that bounds the
-/// pool's queue. It is `None` in two cases:
+/// Returns the bound and the blocked vector of each pool. The bound is `None` in two cases:
 ///
 /// - The queue is unbounded, and the search finds no standing vector.
 /// - The queue is bounded, the pool may reject jobs, and the search finds no vector for which the
@@ -68,12 +69,9 @@ fn pool_certs(
     Ok(pools)
 }
 
-/// Returns the blocked vector that was found for a pool in the round that gave the pool this rank.
-/// Returns the pool as the obstacle if there is no vector.
-///
-/// The ranks of the later rounds do not invalidate the vector. Each pool without a rank in that
-/// round later got at least this rank. So the pool's jobs have the same counted gets as in that
-/// round.
+/// Returns the blocked vector that was found for a pool in the round that gave the pool this rank,
+/// or the pool as the obstacle if there is none. Later rounds give at least this rank to all pools
+/// without a rank in that round, so the vector remains valid.
 fn blocked_of(
     alloc: Global,
     cache: &VectorCache,

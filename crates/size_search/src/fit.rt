@@ -31,11 +31,8 @@ pub(crate) fn core_needed(plan: &Plan, blocked: &Vector) -> u64
 }
 
 /// Returns the queue capacity that this bound requires of a pool with the core and maximum of
-/// `pool`.
-///
-/// For a standing vector, the capacity is the total of the vector. For a lifetime vector, it is the
-/// total minus the number of threads that are not prestarted. Each of these threads starts with a
-/// job, and this job needs no place in the queue.
+/// `pool`. This is the total of the vector. For a lifetime vector, it is smaller by the number of
+/// threads that are not prestarted, because each of them starts with a job.
 fn queue_of_bound(plan: &Plan, bound: &Bound, pool: &Pool) -> u64
     requires well_formed { IsWellFormed plan.now }
     requires fits { IsTrue (vector_fits plan.now (bound_vector bound.now)) }
@@ -78,9 +75,9 @@ fn raised_queue(pool: &Pool, needed: u64) -> u64
     }
 }
 
-/// Returns the pool with this number, with its core and its queue raised to what the certificate
-/// needs. The core is raised first, because a prestarted pool with a larger core can need a larger
-/// queue. If the pool needs no bound, its queue stays unchanged.
+/// Returns the pool with this number, with its core and then its queue raised to what the
+/// certificate needs. With a larger core, a prestarted pool can need a larger queue. If the pool
+/// needs no bound, its queue stays unchanged.
 fn raised_pool(alloc: Global, plan: &Plan, cert: &Cert, number: usize) -> Result<Pool, AllocError>
     requires fits { IsTrue (cert_fits plan.now cert.now) }
     requires number { number < length plan.now.pools }
@@ -205,16 +202,15 @@ fn unfit(
     }
 }
 
-/// Raises the cores and queues of the plan to the least with which the certificate accepts the
-/// plan, and returns the resulting plan. No core or queue becomes smaller. If the certificate
-/// already accepts the plan, the plan stays unchanged. Larger maximums would not allow smaller
+/// Returns the plan with the smallest cores and queues with which the certificate accepts it. A
+/// core or a queue is only raised, never made smaller. Larger maximums would not allow smaller
 /// cores.
 ///
-/// If no such cores and queues exist, the inner result is an error: the given plan and the reason.
+/// The queue of a pool is never raised if the pool may reject jobs or the queue is unbounded. If
+/// the pool may reject jobs, its queue is bounded, and the certificate has a bound for this queue,
+/// the capacity must already be large enough.
 ///
-/// The queue of a pool stays unchanged if the pool may reject jobs or the queue is unbounded. A
-/// bounded queue for which the certificate has a bound must then already be as large as the bound
-/// requires.
+/// If no such cores and queues exist, returns the given plan and the reason as the inner error.
 ///
 /// # Errors
 ///

@@ -20,9 +20,8 @@ use job_bodies::Plan;
 use std::alloc::{AllocError, Global};
 
 /// Returns the plan with the least sizes that its steady certificate needs. Returns
-/// [`NoSizes::TooLarge`] if the steady certificate is too large or no sizes are enough for it.
-/// `TooLarge` then names the pool of `obstacle`, which is where the attempt to find sizes by rounds
-/// failed.
+/// [`NoSizes::TooLarge`] with the pool of `obstacle` if this certificate is too large or no sizes
+/// are enough for it. `obstacle` is where the attempt to find sizes by rounds failed.
 pub(crate) fn fit_steady(
     alloc: Global,
     plan: &Plan,

@@ -49,9 +49,9 @@ pub fn smallest_fit_is_least()
 /// maximum is raised to the core that the certificate needs with the plan's own maximums, if this
 /// core is larger.
 ///
-/// Let the certificate accept the plan with other sizes, and let none of their maximums be smaller
-/// than the plan's. Then each of these maximums is at least the widened plan's. Each core is at
-/// least the core that the certificate needs with the plan's own maximums.
+/// Let the certificate accept the plan with other sizes, and let no maximum be smaller than in the
+/// plan. Then each maximum of these sizes is at least as large as in the widened plan. Each core is
+/// at least the core that the certificate needs with the plan's own maximums.
 pub fn widened_maxes_are_least()
     ensures { WidenedMaxesAreLeast }
 {}
@@ -59,8 +59,8 @@ pub fn widened_maxes_are_least()
 /// States that a pool needs a larger maximum if its core is the reason why the plan cannot be
 /// fitted.
 ///
-/// Let the certificate accept the plan with other sizes, and let none of their maximums be smaller
-/// than the plan's. Then the maximum of this pool is larger than in the plan.
+/// Let the certificate accept the plan with other sizes, and let no maximum be smaller than in the
+/// plan. Then the maximum of this pool is larger than in the plan.
 pub fn reported_cores_need_larger_maxes()
     ensures { ReportedCoresNeedLargerMaxes }
 {}

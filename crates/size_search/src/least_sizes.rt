@@ -29,13 +29,10 @@ pub(crate) fn least_sizes(
     })
 }
 
-/// Returns the plan with its maximums raised until no maximum is below the core that the pool
-/// needs. Returns the reason if the certificate does not fit the plan, or needs a core above
-/// `MAX_SIZE`.
-///
-/// Raising one maximum can make another raise necessary. The raises are therefore repeated, at most
-/// once for each pool. If that is not enough, some maximum was raised twice, and no sizes are
-/// enough.
+/// Returns the plan with its maximums raised until no maximum is below the core that its pool
+/// needs. Since one raise can make another necessary, repeats the raises at most once for each
+/// pool. Returns the reason as the inner error if no sizes are enough or the certificate does not
+/// fit.
 fn widest(alloc: Global, plan: &Plan, cert: &Cert) -> Result<Result<Plan, Unfit>, AllocError>
     ensures { IfOk result (λ answer. IfOk answer (IsLeastWide plan.now cert.now)) }
 {

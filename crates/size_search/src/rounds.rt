@@ -20,8 +20,8 @@ pub(crate) struct RankAssignment {
     /// Whether a round raised the maximum of a pool, because it raised the pool's core above that
     /// maximum.
     pub(crate) has_widened: bool,
-    /// The largest number of pools among which a round chose the pool whose core it raised. It is 0
-    /// if no round raised a core.
+    /// The largest number of pools from which a round chose the pool to raise. It is 0 if no round
+    /// raised a core.
     pub(crate) choices: usize,
 }
 
@@ -93,8 +93,11 @@ impl RankAssignment {
 
     /// Gives the rank to one pool, and raises its core, and if necessary its maximum, to what its
     /// blocked vector needs. The pool is number `choice`, counted from 0, in ascending order of the
-    /// necessary increases. Returns [`Obstacle::Unknown`] as the error if `choice` is not below the
-    /// number of hits.
+    /// necessary increases.
+    ///
+    /// # Errors
+    ///
+    /// Returns [`Obstacle::Unknown`] if `choice` is not below the number of hits.
     fn assign_one(
         &mut self,
         hits: &[CacheHit],
@@ -114,8 +117,8 @@ impl RankAssignment {
     }
 
     /// Returns the obstacle of a round in which each pool without a rank needs a core above
-    /// `MAX_SIZE`. The obstacle names the one of these pools that needs the smallest increase of
-    /// its core and maximum.
+    /// `MAX_SIZE`. The obstacle names the pool that needs the smallest increase of its core and
+    /// maximum.
     fn obstacle_of(&self, hits: &[CacheHit]) -> Obstacle {
         match self.choice_of(hits, 0) {
             Some(hit) => Obstacle::Pool(hit.pool),
@@ -164,7 +167,7 @@ fn core_for(hit: &CacheHit) -> u64 {
     hit.total.saturating_add(1)
 }
 
-/// Returns those of the hits whose pools need a core of at most `MAX_SIZE`.
+/// Returns the hits of the pools that need a core of at most `MAX_SIZE`.
 fn within_limit(alloc: Global, hits: &[CacheHit]) -> Result<Vec<CacheHit>, AllocError> {
     hits.iter()
         .filter(|hit| core_for(hit) <= MAX_SIZE)
@@ -174,26 +177,21 @@ fn within_limit(alloc: Global, hits: &[CacheHit]) -> Result<Vec<CacheHit>, Alloc
 
 /// Gives each pool a rank and a blocked vector, and raises cores and maximums if the vectors need
 /// it. The rounds start with the cores and maximums in `threads`. If `lending` is `false`, workers
-/// have no weight in the vectors.
-///
-/// A round consists of these steps:
+/// have no weight in the vectors. A round consists of these steps:
 ///
 /// 1. The round searches for the blocked vector of each pool without a rank.
-/// 2. Each of these pools whose core is large enough for its vector gets the number of the round as
+/// 2. If a core is large enough for the vector of its pool, this pool gets the round's number as
 ///    its rank.
-/// 3. If there is no such pool, the round chooses one pool, and raises its core, and if necessary
-///    its maximum, to what its vector needs. This pool gets the rank.
+/// 3. If there is no such pool, the round raises the core, and if necessary the maximum, of the
+///    pool that needs the smallest increase. This pool gets the rank.
 ///
-/// Step 3 chooses the pool that needs the smallest increase of its core and maximum. The first
-/// round that reaches step 3 instead skips the `passed_over` pools that need the smallest
-/// increases, and chooses the next pool. A pool that needs a core above `MAX_SIZE` is never chosen.
+/// The first round that reaches step 3 skips `passed_over` pools. A pool that needs a core above
+/// `MAX_SIZE` is never raised.
 ///
-/// Returns an obstacle as the error in these cases:
+/// # Errors
 ///
-/// - In step 3, each pool without a rank needs a core above `MAX_SIZE`.
-/// - In step 3, there are at most `passed_over` pools to choose from, and the round must skip that
-///   many.
-/// - The search has already computed as many vectors as it may.
+/// Returns an obstacle if step 3 finds no pool, or if the search has already computed as many
+/// vectors as it may.
 pub(crate) fn assign_ranks(
     alloc: Global,
     cache: &mut VectorCache,
@@ -224,13 +222,11 @@ pub(crate) fn assign_ranks(
     Ok(assignment)
 }
 
-/// Repeats all rounds until no maximum grows, and returns the last assignment. The repetition is
-/// needed because a larger maximum can increase totals: the weight of a pool's workers counts once
-/// for each thread.
+/// Repeats all rounds until no maximum grows, because a larger maximum can increase totals. Returns
+/// the last assignment. The number of repetitions is limited, and in the last of them workers have
+/// no weight, so that totals do not depend on maximums.
 ///
-/// The number of repetitions is limited. In the last of them, workers have no weight, so the totals
-/// do not depend on maximums. `passed_over` applies only to the first execution of the rounds, and
-/// the field `choices` of the result is that of the first execution.
+/// `passed_over` and the field `choices` of the result are about the first execution of the rounds.
 pub(crate) fn assign_ranks_to_fixpoint(
     alloc: Global,
     cache: &mut VectorCache,

@@ -256,9 +256,8 @@ fn outcome(
 }
 
 /// Returns the pools whose core plus maximum is larger in `best` than declared, in descending order
-/// of the increase. If the plan has more than [`FEW_POOLS`] pools, returns only the first
-/// [`FURTHER_ATTEMPTS`] of these pools. If a queue is unbounded, the increase of the pool's maximum
-/// does not count.
+/// of the increase. A plan with more than [`FEW_POOLS`] pools gets only the first
+/// [`FURTHER_ATTEMPTS`] of them. The maximum of a pool with an unbounded queue is ignored.
 fn most_raised_pools(
     alloc: Global,
     best: &Attempt,

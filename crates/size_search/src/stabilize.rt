@@ -30,16 +30,16 @@ enum Recheck {
     Nothing,
 }
 
-/// Returns the plan with sizes with which a new search finds a certificate again. `fit` is the plan
-/// with the sizes that were found, and `cert` is a certificate that accepts `fit`. The steps are:
+/// Returns a plan and a certificate that accepts it, such that a new search finds a certificate for
+/// this plan again. `fit` is the plan with the sizes that were found, and `cert` is a certificate
+/// that accepts `fit`.
 ///
 /// 1. If no size of `fit` has grown, or if a new search finds a certificate that accepts `fit`,
 ///    returns `fit` and `cert`.
 /// 2. If the new search finds a certificate that needs larger sizes, repeats step 1 with this
 ///    certificate and these sizes, at most [`MAX_TURNS`] times.
-/// 3. Otherwise returns the plan with the least sizes for its steady certificate. With these sizes,
-///    the search always finds a certificate. If these sizes are too large, returns `fit` and
-///    `cert`.
+/// 3. Otherwise returns the least sizes for the steady certificate or, if they are too large, `fit`
+///    and `cert`.
 pub(crate) fn stabilize(
     alloc: Global,
     plan: &Plan,

@@ -53,11 +53,10 @@ impl CacheEntry {
     }
 
     /// Returns whether a new search with these maximums would give the vector of this entry. This
-    /// is so if each pool whose workers got weight has the same maximum as before, and no other
-    /// pool has a smaller maximum.
+    /// requires that no pool has a smaller maximum than in the entry, and that each pool whose
+    /// workers got weight has the same maximum.
     ///
-    /// If a pool has a larger maximum than in the entry, weight of its workers adds at least as
-    /// much to the total. So a new search would give these workers no weight either.
+    /// With a larger maximum, weight of the pool's workers would only add more to the total.
     fn is_valid_for(&self, maxes: &[u64]) -> bool {
         self.key.maxes.iter().zip(maxes).enumerate().all(|(pool, (before, now))| before == now
             || (before < now && !self.is_lender(pool)))
@@ -136,12 +135,14 @@ impl<'a> VectorCache<'a> {
     }
 
     /// Returns, as a cache hit, the lightest vector of this kind for the pool with these maximums.
-    /// Computes the vector if the cache does not have it. A search for a vector stops when the
-    /// total is at most `enough`. The hit has no vector if the search finds none, or if there is no
-    /// such pool.
+    /// Computes the vector if the cache does not have it. The computation stops when the total is
+    /// at most `enough`. The hit has no vector if the search finds none, or if there is no such
+    /// pool.
     ///
-    /// Returns [`Obstacle::Unknown`] as the error if a vector must be computed after
-    /// [`MAX_VECTORS`] vectors have been computed.
+    /// # Errors
+    ///
+    /// Returns [`Obstacle::Unknown`] if a vector must be computed after [`MAX_VECTORS`] vectors
+    /// have been computed.
     pub(crate) fn lightest(
         &mut self,
         alloc: Global,
