@@ -51,11 +51,9 @@ pub(crate) fn reason_of(rt: &impl Files, name: &str) -> &'static str {
     }
 }
 
-/// Returns the reason why the file could not be written, or an empty text if the reason is not
-/// known.
-///
-/// To find the reason, opens the file again, but neither creates nor changes it. Opens the file
-/// only if it is a regular file, because opening a pipe could block.
+/// Returns the reason why the file could not be written, or an empty text if it is not known. Opens
+/// the file again to find the reason, but neither creates nor changes it. Opens only a regular
+/// file, because opening a pipe could block.
 pub(crate) fn reason_unwritten(rt: &impl Files, name: &str) -> &'static str {
     if is_special(rt, name) {
         return "";
@@ -95,9 +93,9 @@ fn is_directory(rt: &impl Files, name: &str) -> bool {
     }
 }
 
-/// Returns the name of a file with a likely mistake, and a hint about this mistake. The file is one
-/// that the arguments `words` name. Returns `None` if no such file shows a known mistake. The
-/// caller must have run the command, and the command must have found a fault in a text.
+/// Returns a hint about a likely mistake in a file that the arguments `words` name, and the name of
+/// this file. Returns `None` if no file shows a known mistake. The caller must have run the
+/// command, which found a fault in a text.
 pub(crate) fn hint_of<'a>(
     rt: &impl Files,
     alloc: Global,
