@@ -29,11 +29,9 @@ const POOLS_OF_A_WORKER: usize = 16;
 
 /// Returns a certificate that accepts the plan, or `None` if two searches find none:
 ///
-/// - The first search is for a certificate of the plan, in at most `workers` threads.
-/// - The second search is for sizes. If the certificate of the sizes that it finds also accepts the
-///   declared sizes, the result is this certificate.
-///
-/// So `certify` finds a certificate if `fit` changes no size.
+/// - The first search is for a certificate, in at most `workers` threads.
+/// - The second search is for sizes. If the certificate of these sizes also accepts the declared
+///   sizes, it is the result. So `certify` finds a certificate if `fit` changes no size.
 ///
 /// # Errors
 ///
@@ -87,8 +85,8 @@ fn certificate_of_sizes(alloc: Global, plan: &Plan) -> Result<Option<Cert>, Allo
 pub(crate) enum SizesComparison {
     /// A certificate that accepts the plan with its declared sizes.
     Accepted(Cert),
-    /// The sizes that were found, whose certificate does not accept the declared sizes. If no sizes
-    /// were found, the reason why.
+    /// The sizes that were found, with a certificate that does not accept the declared sizes. If no
+    /// sizes were found, the reason why.
     Other(SizesFound),
 }
 

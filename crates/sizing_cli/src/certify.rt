@@ -121,13 +121,14 @@ fn found_text<R: Threads + Wait + Sync>(
     Ok(CertificateSearch::Text(text))
 }
 
-/// Returns the bundle of the two texts.
+/// Returns the bundle of the plan's text and the certificate's text, after `check` accepted it.
 ///
 /// # Errors
 ///
 /// - Fails with fault 20 if memory runs out.
-/// - Fails with fault 43 if the check ends with that fault.
-/// - Fails with fault 42 if `check` does not accept the bundle, which contradicts the search.
+/// - Fails with fault 42 if `check` does not accept the bundle. The check then contradicts the
+///   search that found the certificate.
+/// - Fails with fault 43 if the check ends with fault 43.
 fn bundle<R: Threads + Wait + Sync>(
     rt: &R,
     alloc: Global,

@@ -25,13 +25,13 @@ use std::thread::Threads;
 /// The maximum number of states that a search for a witness visits.
 const STATES: usize = DEFAULT_STATES as usize;
 
-/// Returns the finding whether a plan is safe, and whether the given certificate is stale. A
-/// certificate is stale if it does not accept the plan. The finding is made in these steps:
+/// Returns the finding whether a plan is safe, and whether the given certificate is stale, which
+/// means that it does not accept the plan.
 ///
-/// - If a certificate is given and it accepts the plan, the plan is safe.
-/// - Otherwise a search for a certificate is made. If it finds one, the plan is safe.
-/// - Otherwise searches for a witness and for other sizes are made. A witness is a list of events
-///   that shows that the plan is not safe.
+/// 1. If a certificate is given and accepts the plan, the plan is safe.
+/// 2. Otherwise, the plan is safe if a search finds a certificate.
+/// 3. Otherwise, searches for a witness, which shows that the plan is not safe, and for other
+///    sizes.
 ///
 /// # Errors
 ///

@@ -33,7 +33,7 @@ use std::alloc::{AllocError, Global};
 /// Returns the answer for this finding.
 ///
 /// - `lowered` has the plan with each maximum lowered to the core size, and a certificate that
-///   accepts this plan. It is `None` if there is no such certificate.
+///   accepts this plan, or is `None` without such a certificate.
 /// - `file` is the name that messages use for the plan's file.
 /// - `is_stale` says whether a certificate was given that does not accept the plan.
 pub(crate) fn answer_of(
@@ -136,10 +136,9 @@ fn declared_warnings(
     Ok(warnings)
 }
 
-/// Returns, for each pool, a queue capacity that the certificate proves to be enough. It is `None`
-/// if the certificate proves no such capacity. The certificate is the plan's. If the plan has none,
-/// it is the certificate of the sizes that were found. If there is no certificate, the list is
-/// empty.
+/// Returns, for each pool, a queue capacity that the certificate proves to be enough, or `None` if
+/// it proves none. The certificate is that of the plan or, if there is none, that of the sizes that
+/// were found. The list is empty if there is no certificate.
 fn needed_of(
     alloc: Global,
     plan: &Plan,

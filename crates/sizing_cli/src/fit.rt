@@ -122,8 +122,9 @@ fn lines_of(alloc: Global, plan: &Plan, found: &SizesFound) -> Result<Answer, Al
     }
 }
 
-/// Returns the answer with the sizes of the plan `fit`, which has the sizes that were found. The
-/// answer is a no if these sizes differ from the declared sizes.
+/// Returns the answer that lists the sizes of `fit`, which is `plan` with the sizes that were
+/// found. The status is [`Status::Done`] if all sizes of `fit` are the declared ones, and otherwise
+/// [`Status::Refused`].
 fn sizes(alloc: Global, plan: &Plan, fit: &Plan) -> Result<Answer, AllocError>
     ensures { IfOk result (λ answer. answer ≡ spec.sizes_answer plan.now fit.now) }
 {
@@ -164,9 +165,9 @@ fn bundle<R: Threads + Wait + Sync>(
     }
 }
 
-/// Returns the bundle of the plan `fit`, which has the sizes that were found, and its certificate.
-/// If the text of the plan or of the certificate would be too long to be read back, the answer says
-/// only that.
+/// Returns the bundle of `fit`, the plan with the sizes that were found, and of `cert`, its
+/// certificate. If one of the two texts would be too long to be read back, returns an answer that
+/// says only this.
 fn bundle_of_sizes<R: Threads + Wait + Sync>(
     rt: &R,
     alloc: Global,

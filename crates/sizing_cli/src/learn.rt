@@ -77,20 +77,15 @@ fn learn_from_all(alloc: Global, strict: bool, recording: &[u8]) -> Result<Answe
     }
 }
 
-/// Returns the answer for the derived plan. In the answer's plan, each pool that rejects jobs in
-/// the recording may reject jobs. The answer is one of these:
+/// Returns the answer for the derived plan, in which each pool that rejects jobs in the recording
+/// may reject jobs. The answer is one of these:
 ///
-/// - If the text of the plan would be too long, the answer says only that.
-/// - Otherwise, if `strict` is true and the recording does not conform to the plan, the answer is
-///   the list of differences.
-/// - Otherwise, the answer is the text of the plan. It begins with comments that list what the
-///   recording shows beyond the plan.
+/// - a message that the text of the plan would be too long, if this is so;
+/// - the list of differences, if `strict` is true and the recording does not conform to the plan;
+/// - otherwise the text of the plan, after comments that list what the recording shows beyond it.
 ///
-/// Returns `None` if the plan does not explain the recording. This is so in these cases, in which a
-/// round is one pass of a client through its body:
-///
-/// - A job or a round follows no body of the plan, or it is undecided whether it does.
-/// - There are more rounds of a client kind than the plan allows.
+/// Returns `None` if the plan does not explain the recording, because a job or a round follows no
+/// body or is undecided, or because there are too many rounds of a client kind.
 fn plan_answer(
     alloc: Global,
     strict: bool,
@@ -295,8 +290,8 @@ fn push_comment(text: &mut String, plan: &Plan, finding: &Finding) -> Result<(),
     text.push('\n')
 }
 
-/// Returns the answer for a learned plan, whose text is `text`. If there are findings, the status
-/// is a no. If there are findings and `strict` is true, the answer has the findings in place of the
+/// Returns the answer for a learned plan with the text `text`. If there are findings, the answer is
+/// no. If there are findings and `strict` is true, the answer has the findings in place of the
 /// plan.
 fn learned_answer(
     alloc: Global,

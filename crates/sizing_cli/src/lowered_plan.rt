@@ -25,17 +25,15 @@ pub(crate) struct LoweredPlan {
 }
 
 /// Searches for a certificate of the lowered plan, which is the plan with each maximum lowered to
-/// the core size of its pool. Returns `None` if no certificate is found.
-///
-/// Does not search, and returns `None`, in these cases:
+/// the core size of its pool. Returns `None` if no certificate is found and, without a search, in
+/// these cases:
 ///
 /// - No maximum is above the core size of its pool.
 /// - A pool whose maximum is above its core size may reject jobs.
 /// - `finding` already says whether the plan is safe.
 ///
-/// If no pool whose maximum is above its core size may reject jobs, both plans behave alike until
-/// the lowered plan refuses a submit. So if the plan is not safe, the lowered plan is not safe
-/// either.
+/// In all other cases, both plans behave alike until the lowered plan refuses a submit. So if the
+/// plan is not safe, the lowered plan is not safe either.
 ///
 /// # Errors
 ///

@@ -4,8 +4,9 @@
 use cert_check::PoolGate;
 use locked_runner::{Actor, Gate, GateFault};
 
-/// A gate that never stops a search or a check. In a run, the work that a plan declares takes no
-/// time with this gate.
+/// A gate that does nothing. A search or a check calls the gate before each pool, and this gate
+/// never stops it. A run calls the gate to do the declared work, which takes no time with this
+/// gate.
 pub struct NoopGate;
 
 impl PoolGate for NoopGate {

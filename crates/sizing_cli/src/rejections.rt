@@ -12,8 +12,8 @@ use std::alloc::{AllocError, Global};
 const STATES: usize = 100_000;
 
 /// Returns, for each pool of the certificate, the number of events after which the pool rejects a
-/// job. It is `None` if no such events are found. A pool with a bound is not searched, because it
-/// never rejects a job if the certificate accepts the plan.
+/// job, or `None` if no such events are found. Does not search if the certificate has a bound for
+/// the pool: if the certificate accepts the plan, this pool never rejects a job.
 #[tactic(auto, using(crate::proofs::RejectionLists::one_more))]
 pub(crate) fn rejections_of(
     alloc: Global,

@@ -58,10 +58,9 @@ fn confirm(
     confirmed(alloc, plan, found.events, members, &standing)
 }
 
-/// Returns, for each pool in plan order, the standing vector that a search finds. If the search
-/// finds none for a pool, the list has a vector without weights in its place. If a class submits
-/// itself, the list is empty. A standing vector can prove that the pool never has more threads than
-/// its core size.
+/// Returns, for each pool in plan order, the standing vector that a search finds, or a vector
+/// without weights if it finds none. If a class submits itself, the list is empty. A standing
+/// vector can prove that the pool never has more threads than its core size.
 fn standing_vectors(alloc: Global, plan: &Plan) -> Result<Vec<Vector>, AllocError> {
     let mut vectors = Vec::new(alloc);
     let Some(levels) = Levels::of(alloc, plan)? else {
