@@ -12,17 +12,19 @@ ghost use Rattle.soundness.specs.Drain.{FullIsWhole, FullIsOfThePlan};
 /// blocked is at most the vector's total and less than the pool's core size.
 ///
 /// A job can be blocked if it runs, and its current action or a later action is a counted get. The
-/// ranks determine which gets are counted. Any other get waits for a job that always makes
-/// progress.
+/// ranks determine which gets are counted. A get that is not counted waits for a job that always
+/// makes progress.
 pub fn fewer_than_core_may_block()
     ensures { FewerThanCoreMayBlock }
 {}
 
 /// States that jobs never wait only for each other, if the rows (the conditions) of the ranks and
-/// of a blocked vector for each pool hold. No reachable state has a set of unfinished jobs that
-/// wait only for members of the set, now or at later gets. A running member of the set need not be
-/// at a get yet. It is enough that it has created another unfinished member, and that its body
-/// still has a get of a job of that member's class.
+/// of a blocked vector for each pool hold. In every reachable state, each non-empty set of
+/// unfinished jobs has a member that does not wait only for members of the set.
+///
+/// The law also covers jobs that wait later. A running member already counts as waiting for another
+/// member in this case: it created the other member, and its body still has a get of a job of the
+/// other member's class.
 pub fn no_loose_waiting_sets()
     ensures { NoLooseWaitingSets }
 {}
