@@ -173,11 +173,9 @@ fn the_first_condition_that_fails(rt: HostRuntime) -> Result<(), Fail> {
     Ok(())
 }
 
-/// Returns whether the action at this position of the class's body is a counted get. This is a get
-/// that may block a thread that other jobs need. Returns `None` in these cases:
-///
-/// - The plan has no such class, or the class's body has no such position.
-/// - The ranks do not have the shape of the plan.
+/// Returns whether the action at this position of the class's body is a counted get, which may
+/// block a thread that other jobs need. Returns `None` if the class or the position does not exist,
+/// or if the ranks do not have the shape of the plan.
 fn is_counted(plan: &Plan, ranks: &Ranks, class: usize, position: usize) -> Option<bool> {
     let found = plan.class_at(class)?;
     if position >= found.body.len() || !ranks.fits(plan) {

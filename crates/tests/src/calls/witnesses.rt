@@ -174,13 +174,9 @@ const CASES: &[Case] = &[
     (REJECTING, &REJECTED, &[], "none"),
 ];
 
-/// Tests which lists of events are witnesses. A list is a witness in these cases:
-///
-/// - The last event is a refused submit.
-/// - The given jobs wait only for each other after the last event. The numbers of these jobs must
-///   be in ascending order.
-///
-/// The jobs wait permanently if the pool has all its threads.
+/// Tests which lists of events are witnesses: lists that end with a refused submit, and lists after
+/// which the given jobs wait only for each other. The numbers of these jobs must be in ascending
+/// order. The jobs wait permanently if the pool has all its threads.
 #[test]
 fn lists_that_are_witnesses(rt: HostRuntime) -> Result<(), Fail> {
     let alloc = rt.alloc();
@@ -209,12 +205,9 @@ fn a_witness_ends_at_its_first_refusal(rt: HostRuntime) -> Result<(), Fail> {
     Ok(())
 }
 
-/// Tests that a standing vector can show that jobs wait permanently. If the conditions of the
-/// vector hold, the pool never has more than its one core thread. The vector shows nothing in these
-/// cases:
-///
-/// - It breaks a condition.
-/// - Its total exceeds the queue of 5, as it does for three clients of weight 2.
+/// Tests that a standing vector can show that jobs wait permanently, because the pool never has
+/// more than its one core thread. The vector shows nothing if it breaks a condition, or if its
+/// total exceeds the queue of 5, as it does for three clients of weight 2.
 #[test]
 fn a_standing_vector_shows_that_jobs_wait_for_ever(rt: HostRuntime) -> Result<(), Fail> {
     let alloc = rt.alloc();

@@ -6,7 +6,7 @@ use plan_text::read_plan;
 use std::alloc::{AllocError, Global};
 use std::thread::Threads;
 
-/// A gate that never stops a check.
+/// A gate that never stops a check. A check calls the gate before each pool.
 #[derive(Clone, Copy)]
 struct Open;
 

@@ -42,8 +42,9 @@ const TWO_POOLS_CERT: &str = r#"{"version": 1, "pools": [
         "clients": [[0, 0, 0], [1, 0, 1]]}}],
     "ranks": {"pools": [1, 0], "reach": [1, 0, 1, 1], "levels": [1, 0, 1, 0]}}"#;
 
-/// A gate that holds the first call until another call is made. If no other call is made within
-/// 10,000 waits of a millisecond, the gate refuses the pool of the first call.
+/// A gate that holds the first call until another call is made. The gate is called before each
+/// pool. If no other call is made within 10,000 waits of a millisecond, the gate refuses the pool
+/// of the first call.
 #[derive(Drop)]
 struct Rendezvous<'a, C> {
     clock: &'a C,
@@ -65,7 +66,7 @@ impl<C: Clock + Sync> PoolGate for Rendezvous<'_, C> {
     }
 }
 
-/// A gate that opens only for the pool with this number.
+/// A gate that refuses every pool except the one with this number.
 #[derive(Drop)]
 struct Only(usize);
 
@@ -75,8 +76,8 @@ impl PoolGate for Only {
     }
 }
 
-/// Tests that two workers check two pools at the same time. The gate would refuse a pool if only
-/// one worker checked at a time.
+/// Tests that two workers check two pools at the same time. If only one worker checked at a time,
+/// the gate would refuse a pool, and the check would fail.
 #[test]
 fn two_pools_are_looked_at_at_once(rt: HostRuntime) -> Result<(), Fail> {
     let gate = Rendezvous {
@@ -108,7 +109,7 @@ fn a_no_of_the_gate(rt: HostRuntime) -> Result<(), Fail> {
     Ok(())
 }
 
-/// A gate that opens for every pool except the one with this number.
+/// A gate that refuses only the pool with this number.
 #[derive(Drop)]
 struct AllBut(usize);
 
