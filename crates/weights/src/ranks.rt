@@ -15,7 +15,8 @@ pub struct Ranks {
     /// The rank of each pool.
     pub pools: Vec<u64>,
     /// The reach of each class. A certificate requires that this number is at least the rank of the
-    /// class's pool. It must also be at least the reach of each class whose jobs the class gets.
+    /// class's pool. It must also be at least the reach of the class of each job that this class
+    /// gets.
     pub reach: Vec<u64>,
     /// The level of each class. A certificate requires that the level is above the level of each
     /// class that the class submits.
