@@ -50,10 +50,10 @@ pub fn waiting_sets_are_tested()
 
 /// States that, in every reachable state of a well-formed plan, each waiting set is also a loose
 /// waiting set. A waiting set is a non-empty set of jobs that wait only for each other. In a loose
-/// waiting set, a running member need not be at a get yet. It is enough that
+/// waiting set, a running member need not be at a get yet, but it must meet these two conditions:
 ///
-/// - the member created another member, and
-/// - the body of the member has, at its position or later, a get of a job of that other member's
+/// - The member created another member.
+/// - The body of the member has, at its position or later, a get of a job of that other member's
 ///   class.
 pub fn waiting_sets_are_loose()
     ensures { WaitingSetsAreLoose }
