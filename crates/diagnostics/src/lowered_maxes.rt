@@ -2,7 +2,9 @@
 
 ghost use Rattle.std.specs.Prelude.{◌≡◌, IfOk, map};
 ghost use Rattle.job_bodies.specs.WellFormed.{IsWellFormed};
+ghost use Rattle.std.specs.List.{list_any};
 ghost use Rattle.diagnostics.specs.AtCore as spec;
+ghost use Rattle.diagnostics.specs.Lints.{may_grow};
 
 use crate::lint_conditions::may_grow;
 use job_bodies::{Plan, Pool};
@@ -16,8 +18,19 @@ use std::alloc::{AllocError, Global};
 pub fn can_be_lowered(plan: &Plan) -> bool
     ensures { result ≡ spec.can_be_lowered plan.now }
 {
-    let pools = plan.pools();
-    pools.iter().any(|pool| may_grow(pool)) && !pools.iter().any(|pool| may_grow_and_reject(pool))
+    some_may_grow(plan) && !some_may_grow_and_reject(plan)
+}
+
+fn some_may_grow(plan: &Plan) -> bool
+    ensures { result ≡ list_any may_grow plan.now.pools }
+{
+    plan.pools().iter().any(|pool| may_grow(pool))
+}
+
+fn some_may_grow_and_reject(plan: &Plan) -> bool
+    ensures { result ≡ list_any spec.may_grow_and_reject plan.now.pools }
+{
+    plan.pools().iter().any(|pool| may_grow_and_reject(pool))
 }
 
 /// Returns whether the pool has a bounded queue and a maximum above its core size, and may reject

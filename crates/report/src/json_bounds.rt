@@ -112,7 +112,7 @@ fn threads_value(alloc: Global, plan: &Plan, shares: &[u64]) -> Result<Value, Al
 }
 
 /// Appends the JSON object of one share in the total of a bound. Appends nothing if the share is 0.
-#[tactic(auto, using(std::proofs::lemmas::List::map_push))]
+#[tactic(auto, using(std::proofs::lemmas::List::map_push), unfolding(crate::specs::JsonPools::share_data))]
 fn push_share(
     alloc: Global,
     values: &mut Vec<Value>,
@@ -136,6 +136,7 @@ fn push_share(
 /// Creates a JSON object with two numbers: the maximum number of core threads that wait at counted
 /// gets at once, and the number of the other core threads. A counted get can block a thread that
 /// other jobs need. The value is null if the vector `blocked` does not fit the plan.
+#[tactic(auto, unfolding(crate::specs::JsonPools::waiting_data))]
 pub(crate) fn blocked_value(
     alloc: Global,
     plan: &Plan,
