@@ -131,6 +131,17 @@ class Comparison:
     def walks_after(self, walks, step, body, actor):
         return body.moves(new for walk in walks for new in self.stepped(walk, step, body, actor.sort))
 
+    def missing(self, actor, body):
+        """Returns the job that the actor should have got, if its whole path is explained by the body: on the way from the last place that
+        a walk reaches, the first class of which too many jobs are open decides."""
+        walks = body.moves([Walk(0, ())])
+        for step in self.paths[actor]:
+            walks = self.walks_after(walks, step, body, actor)
+        last = max(walks, key=lambda walk: walk.position)
+        jobs = Counter(number for _, number in last.open)
+        missing = next(number for counts in body.open[last.position + 1:] for number in jobs if jobs[number] > counts[number])
+        return next(job for job, number in last.open if number == missing)
+
     def excess(self, actor, body, most):
         """Returns the class, the number of its open jobs and the limit, if these jobs keep the body from a submit of the class of the
         path's step `most`, and None otherwise."""
@@ -209,9 +220,10 @@ class Comparison:
         best = [body for body in bodies if self.walk(actor, body) == most]
         after = f"after {path[most - 1].what} {path[most - 1].job.name}" if most else "at its begin"
         if most == len(path):
-            got = {step.job for step in path if step.what == "get"}
-            left = next(step.job for step in path if step.what == "submit" and step.job not in got)
-            self.finds(PATHS, subject, actor.last, f"{described(actor)} ended without a get of {described(left)}; its body has a get before its end")
+            left = self.missing(actor, best[-1])
+            failed = sum(act.word in ("timeout", "interrupted") and act.job is left for act in actor.acts)
+            asked = f", after {failed} gets of it that timed out or were interrupted" if failed > 1 else ""
+            self.finds(PATHS, subject, actor.last, f"{described(actor)} ended without a get of {described(left)}{asked}; its body has a get before its end")
             return
         step = path[most]
         name, pool = step.job.name, step.job.pool

@@ -3,6 +3,7 @@ use Rattle.std.proofs.Common.{◌≡◌, ℕ, Bool, List, [], ◌∷◌, Option,
 use Rattle.std.specs.List.Sorted.{IsPermutation}
 use Rattle.job_bodies.specs.Plan.{Plan}
 use Rattle.recordings.specs.RecordingLine.{RecordedLine}
+use Rattle.recordings.specs.declared.recording_line.RecordedActor.{RecordedActor}
 use Rattle.recordings.specs.declared.step.RecordedStep.{RecordedStep}
 use Rattle.conformance.specs.declared.classified_actor.ClassifiedActor.{ClassifiedActor}
 use Rattle.conformance.specs.declared.round_comparison.RoundExcess.{RoundExcess}
@@ -12,7 +13,7 @@ use Rattle.conformance.specs.declared.describe_mismatch.JobStep.{JobStep}
 use Rattle.conformance.specs.declared.describe_mismatch.JobStep.TheVariants as step
 use Rattle.conformance.specs.declared.finding.Finding.{Finding}
 use Rattle.conformance.specs.declared.mismatch.DeviatingStep.{DeviatingStep}
-use Rattle.conformance.specs.declared.open_excess.OpenExcess.{OpenExcess}
+use Rattle.conformance.specs.declared.explained_prefix.ExplainedPrefix.{ExplainedPrefix}
 use Rattle.conformance.specs.declared.survey.Survey.{Survey}
 use Rattle.conformance.specs.Description.{IsDeviatingStep}
 use Rattle.conformance.specs.Description as steps
@@ -28,11 +29,11 @@ use Rattle.conformance.specs.Survey.{IsSurveyOf}
 use Rattle.conformance.proofs.NoInvalidation.{counted_is}
 
 -- ---- equal tests describe the same step
-same_step : (plan : Plan) (lines : List RecordedLine) (one other : ℕ → Bool) → ((job : ℕ) → one job ≡ other job) → (path : List RecordedStep) (excess : Option OpenExcess) (did : Option JobStep) (found : DeviatingStep) → IsDeviatingStep plan lines one path excess did found → IsDeviatingStep plan lines other path excess did found
-same_step plan lines one other same path excess _ _ (steps.ends found end) = steps.ends found end
-same_step plan lines one other same path excess _ _ (steps.submits job label so) =
-    subst (λ (is_classless : Bool). IsDeviatingStep plan lines other path excess (Some (step.Submits job)) (steps.deviating_submit is_classless (is_planned_class plan (string_bytes label.name) (string_bytes label.pool)) job label excess)) (sym (same job)) (steps.submits job label so)
-same_step plan lines one other same path excess _ _ (steps.gets job label so) = steps.gets job label so
+same_step : (plan : Plan) (lines : List RecordedLine) (one other : ℕ → Bool) → ((job : ℕ) → one job ≡ other job) → (actor : RecordedActor) (path : List RecordedStep) (explained : ExplainedPrefix) (did : Option JobStep) (found : DeviatingStep) → IsDeviatingStep plan lines one actor path explained did found → IsDeviatingStep plan lines other actor path explained did found
+same_step plan lines one other same actor path explained _ _ (steps.ends found end) = steps.ends found end
+same_step plan lines one other same actor path explained _ _ (steps.submits job label so) =
+    subst (λ (is_classless : Bool). IsDeviatingStep plan lines other actor path explained (Some (step.Submits job)) (steps.deviating_submit is_classless (is_planned_class plan (string_bytes label.name) (string_bytes label.pool)) job label explained.excess)) (sym (same job)) (steps.submits job label so)
+same_step plan lines one other same actor path explained _ _ (steps.gets job label so) = steps.gets job label so
 
 same_reported : (plan : Plan) (lines : List RecordedLine) (one other : ℕ → Bool) → ((job : ℕ) → one job ≡ other job) → (reported : ClassifiedActor) (found : Finding) → IsMismatchFinding plan lines one reported found → IsMismatchFinding plan lines other reported found
 same_reported plan lines one other same reported _ (made.mismatches number mismatch so) =
@@ -43,7 +44,7 @@ same_reported plan lines one other same reported _ (made.mismatches number misma
       line = so.line;
       first = so.first;
       number_is = so.number_is;
-      did = same_step plan lines one other same _ _ _ _ so.did;
+      did = same_step plan lines one other same _ _ _ _ _ so.did;
       after = so.after;
     })
 

@@ -8,7 +8,7 @@ use Rattle.conformance.specs.declared.body_gets.BodyGet.{BodyGet}
 use Rattle.conformance.specs.declared.blocking_get.Way.{Way}
 use Rattle.conformance.specs.declared.blocking_get.Way.TheVariants as way
 use Rattle.conformance.specs.Path.{is_submit_of}
-use Rattle.conformance.specs.BlockingGet.{may_pass, IsLastReached, IsFreeFrom, IsFree, IsBlocked, AreReached, way_at, blocking_at, least_get, free_after, way_after}
+use Rattle.conformance.specs.BlockingGet.{may_pass, IsLastReached, IsFreeFrom, IsFree, IsBlocked, AreReached, IsBlockingEnd, way_at, blocking_at, least_get, free_after, way_after}
 
 -- The last index that is not yet `n` is below `n`.
 below_or_at : (index n : ℕ) → index < suc n → (index < n) ⊎ (index ≡ n)
@@ -191,6 +191,11 @@ module _ (row passes : List Bool) (gets : List (Option BodyGet)) where
   blocks_not n m way.Unreached is_submit e is so index lt at = absurd (false≢true (sym (so index lt) ∙ at))
   blocks_not n m way.Free is_submit e is so index lt at = so
   blocks_not n m (way.Blocked least) is_submit e is so index lt at = absurd (none-some least (sym e ∙ ap (λ (b : Bool). cond b (Some least) None) is))
+
+  -- ---- the end of the body
+  pub ends_with : (end : ℕ) (here : Way) (found : Option BodyGet) → found ≡ blocking_at here true → IsWay (suc end) end here → IsBlockingEnd row passes gets end found
+  ends_with end here None e so = λ index within at. blocks_not (suc end) end here true (sym e) refl so index (omega (arith, within)) at
+  ends_with end here (Some get) e so = (blocks (suc end) end here true get (sym e) so).1
 
   module _ (body : List Action) (class : ℕ) where
     pub none_reached : AreReached row passes gets body class 0

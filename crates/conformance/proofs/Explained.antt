@@ -35,13 +35,13 @@ begun_whole kind Prefix body path of = of
 
 -- ---- body by body
 -- A body that the path matches explains all of it.
-pub explained_fits : (kind : ActorKind) (path_state : PathState) (bodies : List (List Action)) (path : List PathStep) (body : List Action) → IsPathOf kind path_state body path → IsMostExplained kind (bodies ++ body ∷ []) path (record { length = length path; excess = None })
+pub explained_fits : (kind : ActorKind) (path_state : PathState) (bodies : List (List Action)) (path : List PathStep) (body : List Action) → IsPathOf kind path_state body path → IsMostExplained kind (bodies ++ body ∷ []) path (record { length = length path; excess = None; missing = None })
 explained_fits kind path_state bodies path body of =
     let all : path ≡ take (length path) path = sym (take_all (length path) path (omega arith)) in
     let begun : IsPathOf kind Prefix body (take (length path) path) = subst (IsPathOf kind Prefix body) all (begun_whole kind path_state body path of) in
     record {
       within = omega arith;
-      front = λ _. Any-push (Explains kind path (record { length = length path; excess = None })) bodies body (begun, none_ahead_at_end kind body path (length path) refl);
+      front = λ _. Any-push (Explains kind path (record { length = length path; excess = None; missing = None })) bodies body (begun, none_ahead_at_end kind body path (length path) refl, tt);
       longest = λ more longer within. absurd (omega arith);
       without = λ _ k d inside of. none_ahead_at_end kind (get_or (bodies ++ body ∷ []) k d) path (length path) refl;
       none = λ empty. absurd (omega (arith, length-push bodies body));
@@ -60,7 +60,7 @@ none_left kind bodies path before now old more_now none_before within = elim (ca
 explained_more : (kind : ActorKind) (bodies : List (List Action)) (path : List PathStep) (body : List Action) (before now : ExplainedPrefix) → IsMostExplained kind bodies path before → IsExplained kind body path now → before.length ≤ now.length → (before.length ≡ now.length → before.excess ≡ None) → IsMostExplained kind (bodies ++ body ∷ []) path now
 explained_more kind bodies path body before now old new more_now none_before = record {
   within = new.within;
-  front = λ _. Any-push (Explains kind path now) bodies body (new.front, new.reason);
+  front = λ _. Any-push (Explains kind path now) bodies body (new.front, new.reason, new.missing);
   longest = λ more longer within. All-push (λ one. ¬ IsPathOf kind Prefix one (take more path)) bodies body (old.longest more (omega (arith, more_now, longer)) within) (new.longest more longer within);
   without = λ no_excess. All-push (HasNoSubmitLeft kind path now.length) bodies body (none_left kind bodies path before now old more_now none_before new.within) (λ _. subst (IsReason kind body path now.length) no_excess new.reason);
   none = λ empty. absurd (omega (arith, length-push bodies body));
@@ -71,7 +71,7 @@ some_before : (kind : ActorKind) (bodies : List (List Action)) (path : List Path
 some_before kind bodies path before now old less_now excess_before = elim (cases_lt 0 (length bodies)) [
   | inl filled ↦ filled
   | inr empty ↦
-      let nothing : before ≡ record { length = 0; excess = None } = old.none (omega (arith, empty)) in
+      let nothing : before ≡ record { length = 0; excess = None; missing = None } = old.none (omega (arith, empty)) in
       let short : before.length ≡ 0 = ap (λ (one : ExplainedPrefix). one.length) nothing in
       let no_excess : is_none before.excess ≡ true = ap (λ (one : ExplainedPrefix). is_none one.excess) nothing in
       absurd (false≢true (sym (excess_before (omega (arith, short, less_now))) ∙ no_excess))

@@ -18,14 +18,14 @@ use Rattle.conformance.specs.FirstLines.{is_same_query, IsSeenAs, IsFound, nowhe
 use Rattle.conformance.specs.Description.{number_seen}
 
 -- ---- options and truth values
-some_is : {X : Type 0} (x y : X) → Some x ≡ Some y → x ≡ y
+pub some_is : {X : Type 0} (x y : X) → Some x ≡ Some y → x ≡ y
 some_is x y h = ap (λ o. unwrap_or o x) h
 
 false_unless : (a : Bool) → (a ≡ true → false ≡ true) → a ≡ false
 false_unless true wrong = sym (wrong refl)
 false_unless false wrong = refl
 
-and_both : (a b : Bool) → (a && b) ≡ true → (a ≡ true) × (b ≡ true)
+pub and_both : (a b : Bool) → (a && b) ≡ true → (a ≡ true) × (b ≡ true)
 and_both true b h = (refl, h)
 and_both false b h = absurd (let e : false ≡ true = h in cc)
 
@@ -35,11 +35,11 @@ both_true a b first second = ap (λ x. x && b) first ∙ second
 number_is_own : (n : ℕ) → (n == n) ≡ true
 number_is_own n = grind arith
 
-same_number : (n m : ℕ) → (n == m) ≡ true → n ≡ m
+pub same_number : (n m : ℕ) → (n == m) ≡ true → n ≡ m
 same_number n m h = grind (arith, h)
 
 -- ---- the equality of conditions
-same_actors : (one other : RecordedActor) → (actor_eq.ghosts).eq one other ≡ true → one ≡ other
+pub same_actors : (one other : RecordedActor) → (actor_eq.ghosts).eq one other ≡ true → one ≡ other
 same_actors (Job n) (Job m) h = ap Job (same_number n m h)
 same_actors (Round n) (Round m) h = ap Round (same_number n m h)
 same_actors one other h = absurd (let e : false ≡ true = h in cc)
@@ -181,7 +181,7 @@ nowhere_yet : (before : List RecordedLine) (query : LineQuery) (found : Option F
 nowhere_yet before query _ is (nowhere h) = h
 nowhere_yet before query _ is (somewhere number line found first seen) = absurd (let e : Some found ≡ None = is in cc)
 
-empty_if : {X : Type 0} (xs : List X) → length xs ≡ 0 → xs ≡ []
+pub empty_if : {X : Type 0} (xs : List X) → length xs ≡ 0 → xs ≡ []
 empty_if [] h = refl
 empty_if (x ∷ xs) h = absurd (let e : ⊥ = omega (arith, h) in e)
 

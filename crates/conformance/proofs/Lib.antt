@@ -7,7 +7,9 @@ pub mod Candidates
 pub mod WalkStates
 pub mod WalkSteps
 pub mod BlockingGet
+pub mod PassedGets
 pub mod StoppedWalks
+pub mod MissingJobs
 pub mod WalkProgress
 pub mod MachineJobs
 pub mod OpenSubmits
@@ -100,3 +102,4 @@ pub mod AllFound
 pub mod NoneUndecided
 pub mod SameDifferences
 pub mod FirstLinesAfter
+pub mod FailedGetsAfter

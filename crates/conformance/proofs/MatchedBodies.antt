@@ -58,7 +58,7 @@ bodies_more body_of matched n = map-append body_of matched (n ∷ [])
 
 -- The path matches the next body.
 pub reported_fits : (kind : ActorKind) (body_of : ℕ → List Action) (path_state : PathState) (path : List PathStep) (matched members : List ℕ) (longest : ExplainedPrefix) (is_decided : Bool) (n : ℕ) → IsCorrectResult kind body_of path_state path matched members longest is_decided → IsPathOf kind path_state (body_of n) path
-    → IsCorrectResult kind body_of path_state path (matched ++ n ∷ []) (members ++ n ∷ []) (record { length = length path; excess = None }) is_decided
+    → IsCorrectResult kind body_of path_state path (matched ++ n ∷ []) (members ++ n ∷ []) (record { length = length path; excess = None; missing = None }) is_decided
 reported_fits kind body_of path_state path matched members longest is_decided n reported of =
     let P : ℕ → Type 0 = λ m. IsPathOf kind path_state (body_of m) path → Contains members m in
     let Q : ℕ → Type 0 = λ m. IsPathOf kind path_state (body_of m) path → Contains (members ++ n ∷ []) m in
@@ -68,7 +68,7 @@ reported_fits kind body_of path_state path matched members longest is_decided n 
       sound = All-push (IsMember kind body_of path_state path (matched ++ n ∷ [])) members n (members_stay kind body_of path_state path matched members n reported.sound) (Contains-push matched n, of);
       complete = λ all. All-push Q matched n (All-weaker P Q (λ m there one. Contains-append_left members (n ∷ []) m (there one)) matched (reported.complete all)) (λ _. Contains-push members n);
       sure = All-push S matched n (All-weaker R S (λ m there only one. Contains-append_left members (n ∷ []) m (there only one)) matched reported.sure) (λ _ _. Contains-push members n);
-      explained = λ all. subst (λ (bodies : List (List Action)). IsMostExplained kind bodies path (record { length = length path; excess = None })) (sym (bodies_more body_of matched n)) (explained_fits kind path_state (map body_of matched) path (body_of n) of);
+      explained = λ all. subst (λ (bodies : List (List Action)). IsMostExplained kind bodies path (record { length = length path; excess = None; missing = None })) (sym (bodies_more body_of matched n)) (explained_fits kind path_state (map body_of matched) path (body_of n) of);
       decided = reported.decided;
       few = omega (arith, reported.few, length-append members (n ∷ []), length-append matched (n ∷ []));
       ascending = λ pairs. all_pairs_push (λ l m. l < m) members n (reported.ascending (pairs_front matched n pairs)) (λ k d inside. below_last matched n (get_or members k d) pairs (reported.sound k d inside).0);

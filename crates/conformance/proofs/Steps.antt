@@ -3,10 +3,11 @@ use Rattle.std.proofs.Common.{◌≡◌, ◌≤◌, ◌-◌, ℕ, zero, suc, Boo
 use Rattle.job_bodies.specs.Plan.{Plan}
 use Rattle.recordings.specs.declared.step.RecordedStep.{RecordedStep}
 use Rattle.recordings.specs.RecordingLine.{RecordedLine}
+use Rattle.recordings.specs.declared.recording_line.RecordedActor.{RecordedActor}
 use Rattle.conformance.specs.declared.actor_label.ActorLabel.{ActorLabel}
 use Rattle.conformance.specs.declared.describe_mismatch.JobStep.{JobStep}
 use Rattle.conformance.specs.declared.describe_mismatch.JobStep.TheVariants as step
-use Rattle.conformance.specs.declared.open_excess.OpenExcess.{OpenExcess}
+use Rattle.conformance.specs.declared.explained_prefix.ExplainedPrefix.{ExplainedPrefix}
 use Rattle.conformance.specs.declared.mismatch.NamedStep.{NamedStep}
 use Rattle.conformance.specs.declared.mismatch.NamedStep.TheVariants as named
 use Rattle.conformance.specs.declared.mismatch.DeviatingStep.{DeviatingStep}
@@ -27,21 +28,21 @@ named_get lines did one job label is one_is so =
     subst (λ (d : Option JobStep). spec.IsNamed lines d (Some (named.Gets label.name))) (sym (is ∙ ap Some one_is)) (spec.something (step.Gets job) (named.Gets label.name) (spec.got job label.name (string_bytes label.pool) so))
 
 -- ---- the first deviating step
-pub mismatch_end : (plan : Plan) (lines : List RecordedLine) (is_classless : ℕ → Bool) (path : List RecordedStep) (excess : Option OpenExcess) (did : Option JobStep) (first : Option ℕ) (found : DeviatingStep) → did ≡ None → first ≡ spec.first_open path → spec.IsDeviatingEnd lines first found
-    → spec.IsDeviatingStep plan lines is_classless path excess did found
-mismatch_end plan lines is_classless path excess did first found is is_first so =
-    subst (λ (d : Option JobStep). spec.IsDeviatingStep plan lines is_classless path excess d found) (sym is) (spec.ends found (subst (λ (job : Option ℕ). spec.IsDeviatingEnd lines job found) is_first so))
+pub mismatch_end : (plan : Plan) (lines : List RecordedLine) (is_classless : ℕ → Bool) (actor : RecordedActor) (path : List RecordedStep) (explained : ExplainedPrefix) (did : Option JobStep) (first : Option ℕ) (found : DeviatingStep) → did ≡ None → first ≡ spec.missing_job path explained.missing → spec.IsDeviatingEnd lines actor first found
+    → spec.IsDeviatingStep plan lines is_classless actor path explained did found
+mismatch_end plan lines is_classless actor path explained did first found is is_first so =
+    subst (λ (d : Option JobStep). spec.IsDeviatingStep plan lines is_classless actor path explained d found) (sym is) (spec.ends found (subst (λ (job : Option ℕ). spec.IsDeviatingEnd lines actor job found) is_first so))
 
-pub mismatch_submit : (plan : Plan) (lines : List RecordedLine) (is_classless : ℕ → Bool) (path : List RecordedStep) (excess : Option OpenExcess) (did : Option JobStep) (one : JobStep) (job : ℕ) (label : ActorLabel) (found : DeviatingStep) → did ≡ Some one → one ≡ step.Submits job → spec.IsLabelOfJob lines job label
-    → found ≡ spec.deviating_submit (is_classless job) (is_planned_class plan (string_bytes label.name) (string_bytes label.pool)) job label excess → spec.IsDeviatingStep plan lines is_classless path excess did found
-mismatch_submit plan lines is_classless path excess did one job label found is one_is so found_is =
-    subst (λ (d : Option JobStep). spec.IsDeviatingStep plan lines is_classless path excess d found) (sym (is ∙ ap Some one_is))
-    (subst (spec.IsDeviatingStep plan lines is_classless path excess (Some (step.Submits job))) (sym found_is) (spec.submits job label so))
+pub mismatch_submit : (plan : Plan) (lines : List RecordedLine) (is_classless : ℕ → Bool) (actor : RecordedActor) (path : List RecordedStep) (explained : ExplainedPrefix) (did : Option JobStep) (one : JobStep) (job : ℕ) (label : ActorLabel) (found : DeviatingStep) → did ≡ Some one → one ≡ step.Submits job → spec.IsLabelOfJob lines job label
+    → found ≡ spec.deviating_submit (is_classless job) (is_planned_class plan (string_bytes label.name) (string_bytes label.pool)) job label explained.excess → spec.IsDeviatingStep plan lines is_classless actor path explained did found
+mismatch_submit plan lines is_classless actor path explained did one job label found is one_is so found_is =
+    subst (λ (d : Option JobStep). spec.IsDeviatingStep plan lines is_classless actor path explained d found) (sym (is ∙ ap Some one_is))
+    (subst (spec.IsDeviatingStep plan lines is_classless actor path explained (Some (step.Submits job))) (sym found_is) (spec.submits job label so))
 
-pub mismatch_get : (plan : Plan) (lines : List RecordedLine) (is_classless : ℕ → Bool) (path : List RecordedStep) (excess : Option OpenExcess) (did : Option JobStep) (one : JobStep) (job : ℕ) (label : ActorLabel) → did ≡ Some one → one ≡ step.Gets job → spec.IsLabelOfJob lines job label
-    → spec.IsDeviatingStep plan lines is_classless path excess did (mismatch.Gets label)
-mismatch_get plan lines is_classless path excess did one job label is one_is so =
-    subst (λ (d : Option JobStep). spec.IsDeviatingStep plan lines is_classless path excess d (mismatch.Gets label)) (sym (is ∙ ap Some one_is)) (spec.gets job label so)
+pub mismatch_get : (plan : Plan) (lines : List RecordedLine) (is_classless : ℕ → Bool) (actor : RecordedActor) (path : List RecordedStep) (explained : ExplainedPrefix) (did : Option JobStep) (one : JobStep) (job : ℕ) (label : ActorLabel) → did ≡ Some one → one ≡ step.Gets job → spec.IsLabelOfJob lines job label
+    → spec.IsDeviatingStep plan lines is_classless actor path explained did (mismatch.Gets label)
+mismatch_get plan lines is_classless actor path explained did one job label is one_is so =
+    subst (λ (d : Option JobStep). spec.IsDeviatingStep plan lines is_classless actor path explained d (mismatch.Gets label)) (sym (is ∙ ap Some one_is)) (spec.gets job label so)
 
 -- ---- the step before
 pub after_begin_line : (lines : List RecordedLine) (path : List RecordedStep) (place : ℕ) (after : Option NamedStep) → (1 ≤ place → ⊥) → after ≡ None → spec.IsNamed lines (spec.step_before path place) after

@@ -1,8 +1,8 @@
 -- Where the walks stop at a submit of the path, and why.
-use Rattle.std.proofs.Common.{◌≡◌, ℕ, zero, suc, ◌<◌, ◌≤◌, inl, inr, true, false, eqb, List, length, get_or, Option, Some, None, refl, sym, ap, subst, ◌∙◌, arith}
+use Rattle.std.proofs.Common.{◌≡◌, ℕ, zero, suc, ◌<◌, ◌≤◌, inl, inr, true, eqb, List, length, get_or, Option, Some, None, refl, sym, ap, subst, ◌∙◌, arith}
 use Rattle.std.specs.Prelude.{slice_get}
-use Rattle.std.proofs.lemmas.Bool.{cases_lt, cases_Bool, false≢true, leb-false, eqb-true, eqb-false, eq-eqb}
-use Rattle.std.proofs.lemmas.Option.{slice_get_within, get_or_from_slice_get, same_Some, none-some}
+use Rattle.std.proofs.lemmas.Bool.{cases_lt, cases_Bool, false≢true, eqb-true, eqb-false, eq-eqb}
+use Rattle.std.proofs.lemmas.Option.{slice_get_within, same_Some, none-some}
 use Rattle.support.proofs.Members.{In-slice_get, list_any_at_In}
 use Rattle.job_bodies.specs.declared.action.Action.{Action}
 use Rattle.job_bodies.specs.declared.action.Action.TheVariants.{Submit}
@@ -16,14 +16,15 @@ use Rattle.conformance.specs.declared.step.PathStep.TheVariants as step
 use Rattle.conformance.specs.declared.walk_state.WalkState.{WalkState}
 use Rattle.conformance.specs.PathStep.{submits}
 use Rattle.conformance.specs.Path.{Walks, IsWithin, count_in, count_in_body, is_submit_of, has_submit_of}
-use Rattle.conformance.specs.BodyGets.{AreGets, get_at, can_pass}
-use Rattle.conformance.specs.BlockingGet.{may_pass, IsFree, IsBlocked, IsFreeFrom, AreReached, IsBlockingGet, IsBlocking}
+use Rattle.conformance.specs.BodyGets.{AreGets, get_at}
+use Rattle.conformance.specs.BlockingGet.{IsFree, IsBlocked, AreReached, IsBlockingGet, IsBlocking}
 use Rattle.conformance.specs.Candidate.{IsCandidate}
 use Rattle.conformance.specs.OpenExcess.{IsSubmitAhead, IsOpenExcess, IsReason}
 use Rattle.conformance.specs.WalkState.{is_at, IsStateAt, CanSubmit}
 use Rattle.conformance.proofs.OpenCounts.{get_limit, count_stays}
-use Rattle.conformance.proofs.Walks.{walk_within, walk_last}
-use Rattle.conformance.proofs.WalkStates.{walk_moves, submit_is, no_submit_of_get}
+use Rattle.conformance.proofs.PassedGets as passed
+use Rattle.conformance.proofs.Walks.{walk_last}
+use Rattle.conformance.proofs.WalkStates.{submit_is, no_submit_of_get}
 
 -- If none of the indices before the end of the body is such a submit, there is none.
 pub cannot_at_end : (body : List Action) (class n : ℕ) (state : WalkState) → length body ≤ n → ((index : ℕ) → index < n → is_at state index ≡ true → is_submit_of class (slice_get body index) ≡ true → ⊥) → CanSubmit body class state → ⊥
@@ -80,23 +81,7 @@ module _ (kind : ActorKind) (body : List Action) (path : List PathStep) (place :
     -- ---- moves of the body alone
     module _ (gets : List (Option BodyGet)) (are_gets : AreGets body gets) where
       get_here : (q : ℕ) → q < length body → get_or gets q None ≡ get_at body q
-      get_here q lt = get_or_from_slice_get gets q (get_at body q) None (are_gets.each q lt)
-
-      pass_here : (q : ℕ) (get : Option BodyGet) → get_at body q ≡ get → q < length body → may_pass get (get_or state.passes.items q false) ≡ true → can_pass (get_at body q) state.jobs.items ≡ true
-      pass_here q None e lt may = ap (λ g. can_pass g state.jobs.items) e
-      pass_here q (Some get) e lt may = sym (is_state.tables.passes q lt) ∙ may
-
-      -- The walk continues to each index up to which the body may pass.
-      walk_over : (reached : ℕ) → is_at state reached ≡ true → (m : ℕ) → IsFreeFrom state.passes.items gets reached m → (index : ℕ) → reached ≤ index → index ≤ m → index ≤ length body → Walks kind body path index place state.jobs.items
-      walk_over reached at m free zero above within in_body =
-          subst (λ n. Walks kind body path n place state.jobs.items) (omega (arith, above)) (is_state.sound reached at)
-      walk_over reached at m free (suc q) above within in_body = elim (cases_lt q reached) [
-        | inl less ↦ subst (λ n. Walks kind body path n place state.jobs.items) (omega (arith, above, less)) (is_state.sound reached at)
-        | inr more ↦
-            let lt : q < length body = omega (arith, in_body) in
-            let may = subst (λ g. may_pass g (get_or state.passes.items q false) ≡ true) (get_here q lt) (free q more (omega (arith, within))) in
-            walk_moves kind body path q place state.jobs.items (walk_over reached at m free q more (omega (arith, within)) (omega (arith, in_body))) lt (pass_here q (get_at body q) refl lt may)
-      ]
+      get_here = passed.get_here kind body path place state is_state gets are_gets
 
       submit_in_body : (submit : ℕ) → is_submit_of class (slice_get body submit) ≡ true → submit < length body
       submit_in_body submit is_submit = slice_get_within body submit (Submit class) (submit_is class (slice_get body submit) is_submit)
@@ -106,7 +91,7 @@ module _ (kind : ActorKind) (body : List Action) (path : List PathStep) (place :
       not_free submit is_submit free =
           let in_body = submit_in_body submit is_submit in
           let before = free.from.before in
-          let walk = walk_over free.reached free.from.at submit free.free submit (omega (arith, before)) (omega arith) (omega (arith, in_body)) in
+          let walk = passed.walk_over kind body path place state is_state gets are_gets free.reached free.from.at submit free.free submit (omega (arith, before)) (omega arith) (omega (arith, in_body)) in
           cannot (submit, (is_state.complete submit state.jobs.items walk).1, is_submit)
 
       not_reached : (end : ℕ) → AreReached state.row.items state.passes.items gets body class end → (submit : ℕ) → submit < end → IsSubmitAhead kind body path place submit → ⊥
@@ -142,28 +127,17 @@ module _ (kind : ActorKind) (body : List Action) (path : List PathStep) (place :
         }
 
         fits_before : (index : ℕ) → way.reached ≤ index → index ≤ way.stop → IsWithin state.jobs.items body index
-        fits_before index above within =
-            let stop_lt = way.within in
-            let long = in_body in
-            walk_within kind body path (walk_over way.reached way.from.at way.stop way.free index above within (omega (arith, within, stop_lt, long)))
-
-        first_at : get_at body way.stop ≡ Some way.first
-        first_at = let stop_lt = way.within in let long = in_body in sym (get_here way.stop (omega (arith, stop_lt, long))) ∙ way.first_is
+        fits_before = passed.fits_before kind body path place state is_state gets are_gets found.submit (omega (arith, in_body)) get way
 
         -- Too many jobs are open for the first get.
         first_exceeds : way.first.limit < count_in get.class state.jobs.items
-        first_exceeds =
-            let stop_lt = way.within in
-            let long = in_body in
-            let stops : can_pass (Some way.first) state.jobs.items ≡ false = ap (λ g. can_pass g state.jobs.items) (sym first_at) ∙ (sym (is_state.tables.passes way.stop (omega (arith, stop_lt, long))) ∙ way.stops) in
-            let less : way.first.limit < count_in way.first.class state.jobs.items = leb-false (count_in way.first.class state.jobs.items) way.first.limit stops in
-            subst (λ k. way.first.limit < count_in k state.jobs.items) way.same_class less
+        first_exceeds = passed.first_exceeds kind body path place state is_state gets are_gets found.submit (omega (arith, in_body)) get way
 
         least_first : get.limit ≤ way.first.limit
         least_first = way.least way.stop way.first (omega arith) way.within way.first_is way.same_class
 
         first_count : count_in_body get.class body (suc way.stop) ≡ way.first.limit
-        first_count = subst (λ k. count_in_body k body (suc way.stop) ≡ way.first.limit) way.same_class (get_limit body way.stop way.first first_at)
+        first_count = passed.first_count kind body path place state is_state gets are_gets found.submit (omega (arith, in_body)) get way
 
         limit_at_get : (q : ℕ) (other : BodyGet) → way.stop ≤ q → q < found.submit → get_at body q ≡ Some other → other.class ≡ get.class → get.limit ≤ count_in_body get.class body (suc q)
         limit_at_get q other above lt at same =
@@ -208,10 +182,7 @@ module _ (kind : ActorKind) (body : List Action) (path : List PathStep) (place :
           jobs = state.jobs.items;
           walk = way_walk;
           before = way_ahead;
-          last = λ index others w within. elim (cases_lt way.reached index) [
-            | inl later ↦ absurd (false≢true (sym (way.from.last index later (omega (arith, within))) ∙ (is_state.complete index others w).1))
-            | inr less ↦ less
-          ];
+          last = passed.last_reached kind body path place state is_state gets are_gets found.submit (omega (arith, in_body)) get way;
           open_is = open_is ∙ ap (λ k. count_in k state.jobs.items) (sym class_is);
           stop = suc way.stop;
           after = let lt = way.after in omega (arith, lt);

@@ -23,6 +23,7 @@ use Rattle.conformance.specs.declared.path_match.PathMatch.TheVariants.{Fits, De
 use Rattle.conformance.specs.Path.{Walks, IsPathOf, HasOneClass, is_submit_of}
 use Rattle.conformance.specs.BodyGets.{get_at, can_pass}
 use Rattle.conformance.specs.OpenExcess.{IsReason}
+use Rattle.conformance.specs.MissingJob.{IsMissingJob}
 use Rattle.conformance.specs.Candidate.{IsCandidate}
 use Rattle.conformance.specs.PathMatch.{OnFits, OnDeviates, IfDeviates, IsExplained, IsDecided, IsUnambiguous, IsMatch}
 use Rattle.conformance.specs.WalkState.{is_at, IsAfterSubmit, IsAfterGet, IsStateAt, IsBegun, CanSubmit, IsProgress, progress_of}
@@ -72,7 +73,7 @@ module _ (kind : ActorKind) (body : List Action) (path : List PathStep) where
 
   -- ---- the result
   pub result_if_stops : (path_state : PathState) (p : ℕ) (one : PathStep) (state : WalkState) → slice_get path p ≡ Some one → IsStateAt kind body path p state → IsBegun state
-      → (excess : Option OpenExcess) → ((q : ℕ) (jobs : List OpenJob) → ¬ Walks kind body path q (p + 1) jobs) → IsReason kind body path p excess → IsMatch kind path_state body path (Deviates (record { length = p; excess = excess }))
+      → (excess : Option OpenExcess) → ((q : ℕ) (jobs : List OpenJob) → ¬ Walks kind body path q (p + 1) jobs) → IsReason kind body path p excess → IsMatch kind path_state body path (Deviates (record { length = p; excess = excess; missing = None }))
   result_if_stops path_state p one state at_path is_state begun excess none reason =
       let lt = slice_get_within path p one at_path in
       let none_suc : (q : ℕ) (jobs : List OpenJob) → ¬ Walks kind body path q (suc p) jobs = λ q jobs w. none q jobs (subst (λ n. Walks kind body path q n jobs) (sym (add-one p)) w) in
@@ -84,9 +85,10 @@ module _ (kind : ActorKind) (body : List Action) (path : List PathStep) where
   pub result_at_whole : (state : WalkState) → IsStateAt kind body path (length path) state → is_at state (length body) ≡ true → IsPathOf kind Whole body path
   result_at_whole state is_state at = (state.jobs.items, is_state.sound (length body) at)
 
-  pub result_if_short : (state : WalkState) → IsStateAt kind body path (length path) state → IsBegun state → is_at state (length body) ≡ false → IsMatch kind Whole body path (Deviates (record { length = length path; excess = None }))
-  result_if_short state is_state begun at =
-      ((λ of. false≢true (sym at ∙ (is_state.complete (length body) of.0 of.1).1)), explained_to_end kind body path begun.0 state.jobs.items (is_state.sound begun.0 begun.1) (none_ahead_at_end kind body path (length path) refl))
+  pub result_if_short : (state : WalkState) → IsStateAt kind body path (length path) state → IsBegun state → is_at state (length body) ≡ false → (job : ℕ) → IsMissingJob kind body path (length path) job
+      → IsMatch kind Whole body path (Deviates (record { length = length path; excess = None; missing = Some job }))
+  result_if_short state is_state begun at job missing =
+      ((λ of. false≢true (sym at ∙ (is_state.complete (length body) of.0 of.1).1)), explained_to_end kind body path begun.0 state.jobs.items (is_state.sound begun.0 begun.1) (none_ahead_at_end kind body path (length path) refl) job missing)
 
 -- A step whose job can have several classes makes the path ambiguous.
 pub ambiguous : (body : List Action) (path : List PathStep) (p : ℕ) (one : PathStep) → slice_get path p ≡ Some one → ¬ HasOneClass body one → ¬ IsUnambiguous body path

@@ -15,6 +15,7 @@ use Rattle.conformance.specs.PathStep.{submits}
 use Rattle.conformance.specs.Path.{Walks, starts, body_moves, both_submit, path_gets, IsWithin, MayGet, open_class, without, IsPathOf}
 use Rattle.conformance.specs.declared.open_excess.OpenExcess.{OpenExcess}
 use Rattle.conformance.specs.OpenExcess.{IsReason}
+use Rattle.conformance.specs.MissingJob.{IsMissingJob}
 use Rattle.conformance.specs.PathMatch.{IsExplained}
 
 module _ (kind : ActorKind) (body : List Action) (path : List PathStep) where
@@ -96,7 +97,7 @@ walk_from_begins kind body path n h of =
 
 -- If no walk goes over the step at this index, the path is explained up to it.
 pub explained_from_walks : (kind : ActorKind) (body : List Action) (path : List PathStep) (n q : ℕ) (jobs : List OpenJob) → n < length path → Walks kind body path q n jobs
-    → ((index : ℕ) (others : List OpenJob) → ¬ Walks kind body path index (suc n) others) → (excess : Option OpenExcess) → IsReason kind body path n excess → IsExplained kind body path (record { length = n; excess = excess })
+    → ((index : ℕ) (others : List OpenJob) → ¬ Walks kind body path index (suc n) others) → (excess : Option OpenExcess) → IsReason kind body path n excess → IsExplained kind body path (record { length = n; excess = excess; missing = None })
 explained_from_walks kind body path n q jobs lt w none excess reason = record {
   within = omega (arith, lt);
   front = begins_from_walk kind body path n q jobs (omega (arith, lt)) w;
@@ -105,15 +106,20 @@ explained_from_walks kind body path n q jobs lt w none excess reason = record {
       let next = walk_begins kind body path longer.2 (suc n) (omega (arith, above)) in
       none next.0 next.1 next.2;
   reason = reason;
+  missing = tt;
+  named = λ whole. absurd (omega (arith, lt, whole));
 }
 
--- A path whose steps are all walked is explained to its end.
-pub explained_to_end : (kind : ActorKind) (body : List Action) (path : List PathStep) (q : ℕ) (jobs : List OpenJob) → Walks kind body path q (length path) jobs → IsReason kind body path (length path) None → IsExplained kind body path (record { length = length path; excess = None })
-explained_to_end kind body path q jobs w reason = record {
+-- A path whose steps are all walked is explained to its end, with the job that is missing there.
+pub explained_to_end : (kind : ActorKind) (body : List Action) (path : List PathStep) (q : ℕ) (jobs : List OpenJob) → Walks kind body path q (length path) jobs → IsReason kind body path (length path) None → (job : ℕ) → IsMissingJob kind body path (length path) job
+    → IsExplained kind body path (record { length = length path; excess = None; missing = Some job })
+explained_to_end kind body path q jobs w reason job is_missing = record {
   within = omega arith;
   front = begins_from_walk kind body path (length path) q jobs (omega arith) w;
   longest = λ more above within of. omega (arith, above, within);
   reason = reason;
+  missing = is_missing;
+  named = λ _. refl;
 }
 
 -- A path that matches is walked to its end.

@@ -63,6 +63,12 @@ abbrev pub IsBlocking : List Bool → List Bool → List (Option BodyGet) → Li
 IsBlocking row passes gets body class None = (end : ℕ) → AreReached row passes gets body class end
 IsBlocking row passes gets body class (Some get) = IsBlockingGet row passes gets body class get
 
+-- ---- the end of the body
+-- The get keeps the body from its end, or the body can reach its end if it can be anywhere.
+abbrev pub IsBlockingEnd : List Bool → List Bool → List (Option BodyGet) → ℕ → Option BodyGet → Type 0
+IsBlockingEnd row passes gets end None = (index : ℕ) → index ≤ end → slice_index_or row index false ≡ true → IsFree row passes gets (suc end) end
+IsBlockingEnd row passes gets end (Some get) = IsBlocked row passes gets (suc end) end get
+
 -- ---- the way to and over one index, as the functions of `blocking_get.rt` compute it
 abbrev pub way_at : Way → Bool → Way
 way_at before is_at = if is_at then way.Free else before

@@ -16,6 +16,7 @@ use Rattle.conformance.specs.declared.actor_label.ActorLabel.{ActorLabel}
 use Rattle.conformance.specs.declared.classified_actor.ClassifiedActor.{ClassifiedActor}
 use Rattle.conformance.specs.declared.describe_mismatch.JobStep.{JobStep}
 use Rattle.conformance.specs.declared.describe_mismatch.JobStep.TheVariants as step
+use Rattle.conformance.specs.declared.explained_prefix.ExplainedPrefix.{ExplainedPrefix}
 use Rattle.conformance.specs.declared.open_excess.OpenExcess.{OpenExcess}
 use Rattle.conformance.specs.declared.mismatch.NamedStep.{NamedStep}
 use Rattle.conformance.specs.declared.mismatch.NamedStep.TheVariants as named
@@ -25,6 +26,7 @@ use Rattle.conformance.specs.declared.mismatch.DeviatingStep.TheVariants as mism
 use Rattle.conformance.specs.declared.line_query.LineQuery.{LineQuery}
 use Rattle.conformance.specs.declared.line_query.LineQuery.TheVariants as line_query
 use Rattle.conformance.specs.LineQuery.{IsFirstLine, IsLabelOf}
+use Rattle.conformance.specs.FailedGets.{failed_gets}
 
 -- ---- one step of a path
 abbrev pub got_by : RecordedStep → Option JobStep
@@ -67,6 +69,19 @@ open_jobs path = flat_map (open_job_at path) (enumerate_from 0 path)
 abbrev pub first_open : List RecordedStep → Option ℕ
 first_open path = slice_get (open_jobs path) 0
 
+abbrev pub submitted_by : RecordedStep → Option ℕ
+submitted_by (recorded.Submits job) = Some job
+submitted_by (recorded.Gets place) = None
+
+-- The job of the submit at an index, or `None` if there is no submit.
+abbrev pub submitted_job : List RecordedStep → ℕ → Option ℕ
+submitted_job path submit = option_and_then submitted_by (slice_get path submit)
+
+-- The job that the actor should have got before its end: that of the submit at the given index or, without one, the first open job.
+abbrev pub missing_job : List RecordedStep → Option ℕ → Option ℕ
+missing_job path None = first_open path
+missing_job path (Some submit) = submitted_job path submit
+
 -- ---- what is reported
 -- The step, with the class that the submit of its job names.
 pub data IsNamedStep (lines : List RecordedLine) : JobStep → NamedStep → Type 0 where
@@ -92,17 +107,18 @@ deviating_submit is_classless is_planned job label excess =
     if not is_classless then submit_of_body label excess
     else (if is_planned then mismatch.SubmitsMismatched job label else mismatch.SubmitsUnplanned job label)
 
--- The end of an actor, with the label of its first open job if there is one.
-pub data IsDeviatingEnd (lines : List RecordedLine) : Option ℕ → DeviatingStep → Type 0 where
-  closed : IsDeviatingEnd lines None mismatch.Ends
-  while_open : (job : ℕ) (label : ActorLabel) → IsLabelOfJob lines job label → IsDeviatingEnd lines (Some job) (mismatch.EndsOpen job label)
+-- The end of an actor. If it should have got a job, with the label of that job, and with the number of gets of that job by the
+-- actor that timed out or were interrupted.
+pub data IsDeviatingEnd (lines : List RecordedLine) (actor : RecordedActor) : Option ℕ → DeviatingStep → Type 0 where
+  closed : IsDeviatingEnd lines actor None mismatch.Ends
+  while_open : (job : ℕ) (label : ActorLabel) → IsLabelOfJob lines job label → IsDeviatingEnd lines actor (Some job) (mismatch.EndsOpen job label (failed_gets lines actor job))
 
--- The first deviating step: the actor's end, with its first open job if there is one; a submit; or a get.
-pub data IsDeviatingStep (plan : Plan) (lines : List RecordedLine) (is_classless : ℕ → Bool) (path : List RecordedStep) (excess : Option OpenExcess) : Option JobStep → DeviatingStep → Type 0 where
-  ends : (found : DeviatingStep) → IsDeviatingEnd lines (first_open path) found → IsDeviatingStep plan lines is_classless path excess None found
+-- The first deviating step: the actor's end, with the job that it should have got if there is one; a submit; or a get.
+pub data IsDeviatingStep (plan : Plan) (lines : List RecordedLine) (is_classless : ℕ → Bool) (actor : RecordedActor) (path : List RecordedStep) (explained : ExplainedPrefix) : Option JobStep → DeviatingStep → Type 0 where
+  ends : (found : DeviatingStep) → IsDeviatingEnd lines actor (missing_job path explained.missing) found → IsDeviatingStep plan lines is_classless actor path explained None found
   submits : (job : ℕ) (label : ActorLabel) → IsLabelOfJob lines job label
-      → IsDeviatingStep plan lines is_classless path excess (Some (step.Submits job)) (deviating_submit (is_classless job) (is_planned_class plan (string_bytes label.name) (string_bytes label.pool)) job label excess)
-  gets : (job : ℕ) (label : ActorLabel) → IsLabelOfJob lines job label → IsDeviatingStep plan lines is_classless path excess (Some (step.Gets job)) (mismatch.Gets label)
+      → IsDeviatingStep plan lines is_classless actor path explained (Some (step.Submits job)) (deviating_submit (is_classless job) (is_planned_class plan (string_bytes label.name) (string_bytes label.pool)) job label explained.excess)
+  gets : (job : ℕ) (label : ActorLabel) → IsLabelOfJob lines job label → IsDeviatingStep plan lines is_classless actor path explained (Some (step.Gets job)) (mismatch.Gets label)
 
 abbrev pub number_seen : Option (ℕ × RecordedLine) → Option ℕ
 number_seen found = option_map (λ (number, line). number) found
@@ -116,5 +132,5 @@ pub record IsDescriptionOf (plan : Plan) (lines : List RecordedLine) (is_classle
   pub line : Option (ℕ × RecordedLine)
   pub first : IsFirstLine lines (line_query_of reported.actor (step_at reported.path.items reported.family.explained.length)) line
   pub number_is : number ≡ number_seen line
-  pub did : IsDeviatingStep plan lines is_classless reported.path.items reported.family.explained.excess (step_at reported.path.items reported.family.explained.length) found.step
+  pub did : IsDeviatingStep plan lines is_classless reported.actor reported.path.items reported.family.explained (step_at reported.path.items reported.family.explained.length) found.step
   pub after : IsNamed lines (step_before reported.path.items reported.family.explained.length) found.after

@@ -12,6 +12,7 @@ use Rattle.conformance.specs.declared.step.PathState.TheVariants.{Prefix}
 use Rattle.conformance.specs.Path.{IsPathOf}
 use Rattle.conformance.specs.Family.{class_family, client_family}
 use Rattle.conformance.specs.OpenExcess.{IsReason}
+use Rattle.conformance.specs.MissingJob.{IsMissing}
 
 -- ---- one class, or one client kind
 abbrev pub class_body : Plan → ℕ → List Action
@@ -41,9 +42,10 @@ class_bodies plan label pool = map (class_body plan) (class_family plan label po
 abbrev pub client_bodies : Plan → List ℕ → List (List Action)
 client_bodies plan label = map (client_body plan) (client_family plan label)
 
--- The body explains this prefix of the path, with the reason why it does not explain the next step.
+-- The body explains this prefix of the path, with the reason why it does not explain the next step, and the job that is
+-- missing at the end, if one is given.
 abbrev pub Explains : ActorKind → List PathStep → ExplainedPrefix → List Action → Type 0
-Explains kind path explained body = IsPathOf kind Prefix body (take explained.length path) × IsReason kind body path explained.length explained.excess
+Explains kind path explained body = IsPathOf kind Prefix body (take explained.length path) × IsReason kind body path explained.length explained.excess × IsMissing kind body path explained.length explained.missing
 
 -- If the body explains this many steps of the path, it has no such submit left for the next step.
 abbrev pub HasNoSubmitLeft : ActorKind → List PathStep → ℕ → List Action → Type 0
@@ -57,7 +59,7 @@ pub record IsMostExplained (kind : ActorKind) (bodies : List (List Action)) (pat
   pub longest : (more : ℕ) → explained.length < more → more ≤ length path → All (λ body. ¬ IsPathOf kind Prefix body (take more path)) bodies
   -- The reason is `None` only if no body that explains as much has such a submit left.
   pub without : explained.excess ≡ None → All (HasNoSubmitLeft kind path explained.length) bodies
-  pub none : length bodies ≡ 0 → explained ≡ record { length = 0; excess = None }
+  pub none : length bodies ≡ 0 → explained ≡ record { length = 0; excess = None; missing = None }
 
 -- Each job of the path can belong to at most one class.
 abbrev pub HasAtMostOneClass : PathStep → Type 0

@@ -7,6 +7,7 @@ pub mod WalkState
 pub mod Narrowing
 pub mod BlockingGet
 pub mod OpenExcess
+pub mod MissingJob
 pub mod PathMatch
 pub mod Family
 pub mod FamilyMatch
@@ -32,6 +33,7 @@ pub mod RoundComparison
 pub mod ComparisonLaws
 pub mod Lines
 pub mod LineQuery
+pub mod FailedGets
 pub mod FirstLines
 pub mod LabelSet
 pub mod JobSet

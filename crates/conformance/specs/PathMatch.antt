@@ -1,5 +1,5 @@
 -- Results of matching.
-use Rattle.std.specs.Prelude.{◌≤◌, ◌<◌, ◌==◌, ◌||◌, ◌&&◌, ℕ, nat_lt, is_none, if◌then◌else◌, List, ⊤, length, take, All}
+use Rattle.std.specs.Prelude.{◌≡◌, ◌≤◌, ◌<◌, ◌==◌, ◌||◌, ◌&&◌, ℕ, true, nat_lt, is_none, is_some, if◌then◌else◌, List, ⊤, length, take, All}
 use Rattle.job_bodies.specs.declared.action.Action.{Action}
 use Rattle.conformance.specs.declared.step.ActorKind.{ActorKind}
 use Rattle.conformance.specs.declared.step.PathStep.{PathStep}
@@ -10,6 +10,7 @@ use Rattle.conformance.specs.declared.path_match.PathMatch.{PathMatch}
 use Rattle.conformance.specs.declared.path_match.PathMatch.TheVariants.{Fits, Deviates, Undecided}
 use Rattle.conformance.specs.Path.{IsPathOf, HasOneClass}
 use Rattle.conformance.specs.OpenExcess.{IsReason}
+use Rattle.conformance.specs.MissingJob.{IsMissing}
 
 -- `P` holds if the path matches.
 abbrev pub OnFits : PathMatch → Type 0 → Type 0
@@ -28,12 +29,15 @@ abbrev pub OnDeviates : PathMatch → Type 0 → Type 0
 OnDeviates path_match P = IfDeviates path_match (λ explained. P)
 
 -- `explained` is the longest prefix of the path that begins a path of the body, with the reason why the next step does not
--- extend it.
+-- extend it, or the job that is missing at the end of the path.
 pub record IsExplained (kind : ActorKind) (body : List Action) (path : List PathStep) (explained : ExplainedPrefix) : Type 0 where
   pub within : explained.length ≤ length path
   pub front : IsPathOf kind Prefix body (take explained.length path)
   pub longest : (more : ℕ) → explained.length < more → more ≤ length path → ¬ IsPathOf kind Prefix body (take more path)
   pub reason : IsReason kind body path explained.length explained.excess
+  pub missing : IsMissing kind body path explained.length explained.missing
+  -- If the prefix is the whole path, a job is missing.
+  pub named : explained.length ≡ length path → is_some explained.missing ≡ true
 
 -- The longer of two prefixes. If their lengths are the same, it is the first one if that has open jobs, and otherwise the second
 -- one.

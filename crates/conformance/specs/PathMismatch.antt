@@ -1,5 +1,5 @@
 -- The description of an actor whose path matches no body of the plan.
-use Rattle.std.specs.Prelude.{ℕ, ◌==◌, if◌then◌else◌, ◌++◌, List, codes, decimal, string_bytes, Option, Some, None}
+use Rattle.std.specs.Prelude.{ℕ, ◌==◌, nat_lt, if◌then◌else◌, ◌++◌, List, [], codes, decimal, string_bytes, Option, Some, None}
 use Rattle.job_bodies.specs.Plan.{Plan, class_at}
 use Rattle.recordings.specs.declared.recording_line.RecordedActor.{RecordedActor}
 use Rattle.recordings.specs.declared.recording_line.RecordedActor.TheVariants.{Job, Round}
@@ -54,8 +54,15 @@ end_reason = codes "; its body has a get before its end"
 abbrev pub without_get_text : ℕ → List ℕ → List ℕ → List ℕ
 without_get_text job class pool = codes " ended without a get of job " ++ (decimal job ++ (codes " of class " ++ (class ++ (codes " in pool " ++ pool))))
 
-abbrev pub open_end_text : ℕ → List ℕ → List ℕ → List ℕ
-open_end_text job class pool = without_get_text job class pool ++ end_reason
+-- The number of gets that timed out or were interrupted, if there are several.
+abbrev pub failed_gets_text : ℕ → List ℕ
+failed_gets_text gets = if nat_lt gets 2 then [] else codes ", after " ++ decimal gets ++ codes " gets of it that timed out or were interrupted"
+
+abbrev pub end_after_text : ℕ → List ℕ
+end_after_text failed_gets = failed_gets_text failed_gets ++ end_reason
+
+abbrev pub open_end_text : ℕ → List ℕ → List ℕ → ℕ → List ℕ
+open_end_text job class pool failed_gets = without_get_text job class pool ++ end_after_text failed_gets
 
 abbrev pub cause_text : ℕ → List ℕ
 cause_text job = codes " as job " ++ decimal job ++ codes ", whose own path matches no such class"
@@ -78,7 +85,7 @@ deviating_step_text plan (step.SubmitsWhileOpen label excess) after = submit_tex
 deviating_step_text plan (step.Gets label) after = (get_text (string_bytes label.name) (string_bytes label.pool) ++ missing_text (codes "get")) ++ position_text after
 deviating_step_text plan (step.SubmitsMismatched job label) after = submit_text (string_bytes label.name) (string_bytes label.pool) ++ cause_text job
 deviating_step_text plan (step.SubmitsUnplanned job label) after = submit_text (string_bytes label.name) (string_bytes label.pool) ++ unplanned_job_text job
-deviating_step_text plan (step.EndsOpen job label) after = open_end_text job (string_bytes label.name) (string_bytes label.pool)
+deviating_step_text plan (step.EndsOpen job label failed_gets) after = open_end_text job (string_bytes label.name) (string_bytes label.pool) failed_gets
 deviating_step_text plan step.Ends after = end_text
 
 abbrev pub mismatch_text : Plan → PathMismatch → List ℕ

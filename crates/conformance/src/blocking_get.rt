@@ -1,4 +1,4 @@
-//! The get that blocks a body before its next submit of a class.
+//! The get that blocks a body before its next submit of a class, or before its end.
 
 ghost use Rattle.std.specs.Prelude.{◌≡◌, ◌+◌, ◌==◌, ◌&&◌, nat_lt, if◌then◌else◌, length};
 ghost use Rattle.conformance.specs.BlockingGet as spec;
@@ -49,9 +49,35 @@ pub(crate) fn blocking_get(
     None
 }
 
-/// Returns the [`Way`] to an index. This is [`Way::Free`] if the body can be at the index itself
-/// (`is_at`). Otherwise it is `before`, the way that leads from the last earlier index where the
-/// body can be.
+/// Returns a get that blocks the body before its end, which is the index `end`. Returns `None` if
+/// the body can be at its end, or at no index. `row` says for each index whether the body can be
+/// there, and `passes` says for each action whether the body may pass it.
+///
+/// Consider the last index where the body can be, and the first get at or after it that the body may
+/// not pass. The result is the get with the smallest limit among this one and the later gets of the
+/// same class.
+pub(crate) fn get_before_end(
+    row: &[bool],
+    passes: &[bool],
+    gets: &[Option<BodyGet>],
+    end: usize,
+) -> Option<BodyGet>
+    requires row { length row.now ≡ end + 1 }
+    requires passes { length passes.now ≡ end }
+    requires gets { length gets.now ≡ end }
+    ensures { spec.IsBlockingEnd row.now passes.now gets.now end result }
+{
+    let mut way = Way::Unreached;
+    for index in 0..end {
+        let here = way_at(way, row[index]);
+        way = way_after(here, passes[index], gets[index]);
+    }
+    let here = way_at(way, row[end]);
+    blocking_at(here, true)
+}
+
+/// Returns the [`Way`] to an index: [`Way::Free`] if the body can be at the index itself (`is_at`),
+/// and otherwise `before`, the way from the last earlier index where the body can be.
 fn way_at(before: Way, is_at: bool) -> Way
     ensures { result ≡ spec.way_at before is_at }
 {

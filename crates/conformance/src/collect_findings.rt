@@ -156,6 +156,9 @@ fn push_mismatches(
         (spec.AreMismatchesOf plan.now (lines_of recording.now) (has_job classless.now) mismatches.now)
         findings.new.items) }
 {
+    if mismatches.is_empty() {
+        return Ok(());
+    }
     let queries = queries_of(alloc, mismatches)?;
     let first = FirstLines::new(alloc, recording, &queries)?;
     push_described(findings, alloc, plan, &first, classless, mismatches)

@@ -15,7 +15,7 @@ use crate::job_set::JobSet;
 use crate::line_query::LineQuery;
 use crate::mismatch::{DeviatingStep, NamedStep, PathMismatch};
 use crate::open_excess::OpenExcess;
-use crate::{ClassifiedActor, first_class};
+use crate::{ClassifiedActor, ExplainedPrefix, first_class};
 use job_bodies::Plan;
 use recordings::{RecordedActor, RecordedStep};
 use std::alloc::{AllocError, Global};
@@ -55,8 +55,9 @@ pub(crate) fn describe_mismatch(
             plan,
             first,
             classless,
+            reported.actor,
             &reported.path,
-            explained.excess,
+            explained,
             step,
         )?,
         after,
@@ -86,14 +87,14 @@ pub(crate) fn push_queries(
     queries: &mut Vec<LineQuery>,
     reported: &ClassifiedActor,
 ) -> Result<(), AllocError> {
-    let explained = reported.family.explained.length;
-    let step = step_at(&reported.path, explained);
+    let explained = reported.family.explained;
+    let step = step_at(&reported.path, explained.length);
     queries.push(line_query_of(reported.actor, step))?;
     match step {
-        None => push_submit_query(queries, open_job(&reported.path))?,
+        None => push_submit_query(queries, missing_job(&reported.path, explained.missing))?,
         Some(step) => push_submit_query(queries, Some(job_of(step)))?,
     }
-    if let Some(last) = explained.checked_sub(1) {
+    if let Some(last) = explained.length.checked_sub(1) {
         if let Some(step) = step_at(&reported.path, last) {
             push_submit_query(queries, Some(job_of(step)))?;
         }
@@ -168,21 +169,22 @@ fn deviating_step(
     plan: &Plan,
     first: &FirstLines<'_>,
     classless: &JobSet,
+    actor: RecordedActor,
     path: &[RecordedStep],
-    excess: Option<OpenExcess>,
+    explained: ExplainedPrefix,
     step: Option<JobStep>,
 ) -> Result<DeviatingStep, AllocError>
     ensures { IfOk result
-        (spec.IsDeviatingStep plan.now (lines_of first.now) (has_job classless.now) path.now excess step) }
+        (spec.IsDeviatingStep plan.now (lines_of first.now) (has_job classless.now) actor path.now explained step) }
 {
     match step {
         None => {
-            let end = deviating_end(alloc, first, open_job(path))?;
+            let end = deviating_end(alloc, first, actor, missing_job(path, explained.missing))?;
             Ok(end)
         }
         Some(JobStep::Submits(job)) => {
             let label = first.label_of(alloc, job)?;
-            Ok(deviating_submit(plan, classless, job, label, excess))
+            Ok(deviating_submit(plan, classless, job, label, explained.excess))
         }
         Some(JobStep::Gets(job)) => {
             let label = first.label_of(alloc, job)?;
@@ -191,25 +193,51 @@ fn deviating_step(
     }
 }
 
-/// Returns the deviation of an actor that ended too early. `job` is the actor's first open job, or
-/// `None` if the actor got all jobs that it submitted.
+/// Returns the deviation of an actor that ended too early. `job` is the job that it should have got,
+/// if there is one.
 fn deviating_end(
     alloc: Global,
     first: &FirstLines<'_>,
+    actor: RecordedActor,
     job: Option<usize>,
 ) -> Result<DeviatingStep, AllocError>
-    ensures { IfOk result (spec.IsDeviatingEnd (lines_of first.now) job) }
+    ensures { IfOk result (spec.IsDeviatingEnd (lines_of first.now) actor job) }
 {
     match job {
         None => Ok(DeviatingStep::Ends),
         Some(job) => {
             let label = first.label_of(alloc, job)?;
-            Ok(DeviatingStep::EndsOpen { job, label })
+            Ok(DeviatingStep::EndsOpen {
+                job,
+                label,
+                failed_gets: first.failed_gets(actor, job),
+            })
         }
     }
 }
 
-/// Returns the first job that the path submits and does not get, or `None` if there is no such job.
+/// Returns the job that the submit at index `missing` of the path submits. If `missing` is `None`,
+/// returns the first open job of the path, or `None` if there is none.
+fn missing_job(path: &[RecordedStep], missing: Option<usize>) -> Option<usize>
+    ensures { result ≡ spec.missing_job path.now missing }
+{
+    match missing {
+        Some(submit) => submitted_job(path, submit),
+        None => open_job(path),
+    }
+}
+
+/// Returns the job of the submit at this index of the path, or `None` if there is no submit.
+fn submitted_job(path: &[RecordedStep], submit: usize) -> Option<usize>
+    ensures { result ≡ spec.submitted_job path.now submit }
+{
+    match path.get(submit)? {
+        RecordedStep::Submits(job) => Some(*job),
+        RecordedStep::Gets(_) => None,
+    }
+}
+
+/// Returns the first job that the path submits and does not get, or `None` if there is none.
 fn open_job(path: &[RecordedStep]) -> Option<usize>
     ensures { result ≡ spec.first_open path.now }
 {

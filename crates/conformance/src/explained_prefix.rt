@@ -18,6 +18,9 @@ pub struct ExplainedPrefix {
     /// - The body has no such submit left.
     /// - There is no step after the prefix.
     pub excess: Option<OpenExcess>,
+    /// The index in the path of the submit of the job that the body has to get, and that the actor did
+    /// not get. `None` if the prefix is not the whole path, or if the path matches the body.
+    pub missing: Option<usize>,
 }
 
 /// Returns the longer of two prefixes. If both have the same length, returns `one` if it has an

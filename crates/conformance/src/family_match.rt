@@ -37,6 +37,7 @@ impl FamilyMatch {
             explained: ExplainedPrefix {
                 length: 0,
                 excess: None,
+                missing: None,
             },
             is_decided: true,
         }
@@ -68,6 +69,7 @@ impl FamilyMatch {
                 self.explained = ExplainedPrefix {
                     length: path.len(),
                     excess: None,
+                    missing: None,
                 };
                 self.members.push(number)?;
                 Ok(())

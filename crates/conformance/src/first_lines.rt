@@ -4,13 +4,15 @@ ghost use Rattle.std.specs.Prelude.{◌≡◌, ◌+◌, ◌++◌, ◌∷◌, [],
 ghost use Rattle.recordings.specs.RecordingLine.{RecordedLine, line_view};
 ghost use Rattle.conformance.specs.Lines.{lines_of};
 ghost use Rattle.conformance.specs.LineQuery.{IsLabelOf};
+ghost use Rattle.conformance.specs.FailedGets.{failed_gets};
 ghost use Rattle.conformance.specs.FirstLines as spec;
 ghost use Rattle.recordings.specs.declared.recording_line.RecordedActor.TheVariants.{Job};
 
 use crate::actor_label::ActorLabel;
+use crate::failed_gets::{FailedGets, JobGet, count_of, failed_gets_in};
 use crate::line_query::{LineQuery, first_line, label_in, pool_in, query_of};
 use crate::well_formed_lines::WellFormedLines;
-use recordings::Line;
+use recordings::{Line, RecordedActor};
 use std::alloc::{AllocError, Global};
 use std::collections::HashMap;
 use std::marker::Model;
@@ -30,30 +32,34 @@ pub(crate) struct FoundLine {
 /// the condition.
 pub(crate) type LineTable = HashMap<LineQuery, Option<FoundLine>>;
 
-/// The text of a recording, and the first lines that meet some conditions.
+/// The text of a recording, the first lines that meet some conditions, and the numbers of gets that
+/// timed out or were interrupted.
 ///
 /// In contracts, the value of this type is the text.
 #[derive(Drop)]
 pub(crate) struct FirstLines<'a> {
     text: &'a [u8],
     table: LineTable,
+    failed: FailedGets,
 }
 
 impl<'a> Model for FirstLines<'a> {
     ghost use Rattle.std.specs.Prelude.{ℕ, List};
     ghost use Rattle.conformance.specs.Lines.{lines_of};
     ghost use Rattle.conformance.specs.FirstLines.{AreFirst};
+    ghost use Rattle.conformance.specs.FailedGets.{AreCounts};
 
     ghost Value = { List ℕ };
 
     ghost view = { λ first. first.text.now };
 
-    ghost invariant = { λ first. AreFirst (lines_of first.text.now) first.table };
+    ghost invariant = { λ first.
+        AreFirst (lines_of first.text.now) first.table × AreCounts (lines_of first.text.now) first.failed };
 }
 
 impl<'a> FirstLines<'a> {
-    /// Creates the value for this text, and finds the first line that meets each of these
-    /// conditions.
+    /// Finds the first lines of the text that meet these conditions, and counts the gets that timed
+    /// out or were interrupted.
     ///
     /// # Errors
     ///
@@ -70,7 +76,12 @@ impl<'a> FirstLines<'a> {
             seek(&mut table, *query)?;
         }
         note_lines(alloc, text, &mut table)?;
-        Ok(FirstLines { text, table })
+        let failed = failed_gets_in(alloc, text)?;
+        Ok(FirstLines {
+            text,
+            table,
+            failed,
+        })
     }
 
     /// Returns the first line that meets the condition, or `None` if no line does. If the condition
@@ -109,6 +120,13 @@ impl<'a> FirstLines<'a> {
                 pool: String::new(alloc),
             }),
         }
+    }
+
+    /// Returns the number of gets of the job by the actor that timed out or were interrupted.
+    pub(crate) fn failed_gets(&self, actor: RecordedActor, job: usize) -> usize
+        ensures { result ≡ failed_gets (lines_of self.now) actor job }
+    {
+        count_of(&self.failed, JobGet { actor, job })
     }
 }
 

@@ -28,6 +28,7 @@ mod ended_actor;
 mod excess;
 mod excess_tracker;
 mod explained_prefix;
+mod failed_gets;
 mod family;
 mod family_match;
 mod finding;

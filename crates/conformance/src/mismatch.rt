@@ -51,11 +51,13 @@ pub enum DeviatingStep {
         job: usize,
         label: ActorLabel,
     },
-    /// The actor ended, although its body still has a get. `job` is the first job that the actor
-    /// submitted and did not get, and `label` is the label of this job.
+    /// The actor ended before a get of its body. `job` is a job that it should have got: the first
+    /// open job of the class that this get gets. `label` is the label of this job. `failed_gets` is the number of gets of the job
+    /// by the actor that timed out or were interrupted.
     EndsOpen {
         job: usize,
         label: ActorLabel,
+        failed_gets: usize,
     },
     /// The actor got all its jobs and ended, although its body still has a get.
     Ends,
@@ -119,7 +121,11 @@ fn push_deviation(
             push_submit(text, label)?;
             push_unplanned_job(text, *job)
         }
-        DeviatingStep::EndsOpen { job, label } => push_open_end(text, *job, label),
+        DeviatingStep::EndsOpen {
+            job,
+            label,
+            failed_gets,
+        } => push_open_end(text, *job, label, *failed_gets),
         DeviatingStep::Ends => push_end(text),
     }
 }
@@ -241,12 +247,39 @@ fn push_end(text: &mut String) -> Result<(), AllocError>
     write!(text, " ended; its body has a get before its end")
 }
 
-fn push_open_end(text: &mut String, job: usize, label: &ActorLabel) -> Result<(), AllocError>
+fn push_open_end(
+    text: &mut String,
+    job: usize,
+    label: &ActorLabel,
+    failed_gets: usize,
+) -> Result<(), AllocError>
     ensures { Pushes result text.old text.new
-        (spec.open_end_text job (string_bytes label.now.name) (string_bytes label.now.pool)) }
+        (spec.open_end_text job (string_bytes label.now.name) (string_bytes label.now.pool) failed_gets) }
 {
     push_without_get(text, job, &label.name, &label.pool)?;
+    push_end_after(text, failed_gets)
+}
+
+/// Appends the number of gets that timed out or were interrupted, if there are several, and the
+/// reason why the end is a deviation.
+fn push_end_after(text: &mut String, failed_gets: usize) -> Result<(), AllocError>
+    ensures { Pushes result text.old text.new (spec.end_after_text failed_gets) }
+{
+    push_failed_gets(text, failed_gets)?;
     push_end_reason(text)
+}
+
+/// Appends the number of gets that timed out or were interrupted, if there are several.
+fn push_failed_gets(text: &mut String, gets: usize) -> Result<(), AllocError>
+    ensures { Pushes result text.old text.new (spec.failed_gets_text gets) }
+{
+    if gets < 2 {
+        return Ok(());
+    }
+    write!(
+        text,
+        ", after {gets} gets of it that timed out or were interrupted"
+    )
 }
 
 fn push_without_get(

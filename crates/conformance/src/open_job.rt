@@ -1,6 +1,7 @@
 //! The open jobs of a path.
 
 ghost use Rattle.std.specs.Prelude.{◌≡◌, ◌<◌, ◌==◌, length, position, IfSome};
+ghost use Rattle.conformance.specs.MissingJob.{first_in};
 ghost use Rattle.conformance.specs.Path as spec;
 
 /// A job of a path that is submitted and not yet got.
@@ -18,7 +19,17 @@ pub(crate) fn count_in(class: usize, jobs: &[OpenJob]) -> usize
     jobs.iter().filter(|one| one.class == class).count()
 }
 
-/// Removes the job and returns its class. Returns `None` if the job is not open.
+/// Returns the first job in `jobs` that has the class, or `None` if there is none.
+pub(crate) fn first_in(class: usize, jobs: &[OpenJob]) -> Option<usize>
+    ensures { result ≡ first_in class jobs.now }
+{
+    match jobs.iter().find(|one| one.class == class) {
+        Some(one) => Some(one.job),
+        None => None,
+    }
+}
+
+/// Removes the job and returns its class, or `None` if it is not open.
 pub(crate) fn take_job(jobs: &mut Vec<OpenJob>, job: usize) -> Option<usize>
     ensures class { result ≡ spec.open_class job jobs.old.items }
     ensures jobs { jobs.new.items ≡ spec.without job jobs.old.items }

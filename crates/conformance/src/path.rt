@@ -4,9 +4,10 @@ ghost use Rattle.std.specs.Prelude.{IfOk, IsTrue, length};
 ghost use Rattle.conformance.specs.declared.step.ActorKind.{ActorKind};
 ghost use Rattle.conformance.specs.Path.{IsPathOf};
 ghost use Rattle.conformance.specs.PathMatch.{OnFits, OnDeviates, IfDeviates, IsExplained, IsDecided, IsUnambiguous, IsMatch};
-ghost use Rattle.conformance.specs.WalkState.{IsStateAt, IsBegun};
+ghost use Rattle.conformance.specs.BodyGets.{AreGets};
+ghost use Rattle.conformance.specs.WalkState.{HasTables, IsStateAt, IsBegun};
 
-use crate::body_gets::body_gets;
+use crate::body_gets::{BodyGet, body_gets};
 use crate::explained_prefix::ExplainedPrefix;
 use crate::narrowing::{Pick, narrowed};
 use crate::path_match::PathMatch;
@@ -112,12 +113,13 @@ fn match_exactly(
                 return Ok(PathMatch::Deviates(ExplainedPrefix {
                     length: place,
                     excess,
+                    missing: None,
                 }));
             }
             Progress::Undecided => return Ok(PathMatch::Undecided),
         }
     }
-    Ok(match_at_end(&state, body, path, path_state))
+    Ok(match_at_end(&state, body, &gets, path, path_state))
 }
 
 /// Returns true if the path matches the body for at least one rule of [`Pick`], which picks the
@@ -171,14 +173,18 @@ fn fits_with(
     }
 }
 
-/// Returns the result for a path if the walk could make all its steps. `state` is the state after
-/// the last step. A whole path matches only if the walk can then be at the end of the body.
+/// Returns the result for a path whose steps could all be walked together with the body. `state` is
+/// the state after the last step, and `gets` has the gets of the body. A whole path matches only if
+/// the body can be at its end.
 fn match_at_end(
     state: &WalkState,
     body: &[Action],
+    gets: &[Option<BodyGet>],
     path: &[PathStep],
     path_state: PathState,
 ) -> PathMatch
+    requires gets { AreGets body.now gets.now }
+    requires tables { HasTables body.now state.now }
     ensures { (kind : ActorKind)
         → IsStateAt kind body.now path.now (length path.now) state.now
         → IsBegun state.now
@@ -193,6 +199,7 @@ fn match_at_end(
                 PathMatch::Deviates(ExplainedPrefix {
                     length: path.len(),
                     excess: None,
+                    missing: state.missing_job(body, gets),
                 })
             }
         }

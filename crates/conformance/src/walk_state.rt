@@ -1,21 +1,22 @@
 //! The state of the walks of a body and a path. A walk goes through both together, each in its own
 //! order.
 
-ghost use Rattle.std.specs.Prelude.{◌≡◌, ℕ, false, List, Some, IfOk, OnOk, IsTrue, slice_get};
+ghost use Rattle.std.specs.Prelude.{◌≡◌, ℕ, false, List, Some, IfOk, OnOk, IsTrue, length, slice_get};
 ghost use Rattle.std.specs.List.{list_any};
 ghost use Rattle.conformance.specs.declared.step.ActorKind.{ActorKind};
 ghost use Rattle.conformance.specs.declared.step.PathStep.{PathStep};
 ghost use Rattle.conformance.specs.declared.candidate.Candidate.TheVariants as candidate;
 ghost use Rattle.conformance.specs.BodyGets.{AreGets};
 ghost use Rattle.conformance.specs.Candidate.{IsCandidate};
+ghost use Rattle.conformance.specs.MissingJob.{IsMissingJob};
 ghost use Rattle.conformance.specs.OpenExcess.{IsReason};
 ghost use Rattle.conformance.specs.WalkState as spec;
 
-use crate::blocking_get::blocking_get;
+use crate::blocking_get::{blocking_get, get_before_end};
 use crate::body_gets::{BodyGet, end_of_gets};
 use crate::candidate::{Candidate, candidate_of};
 use crate::open_excess::OpenExcess;
-use crate::open_job::{OpenJob, count_in, take_job};
+use crate::open_job::{OpenJob, count_in, first_in, take_job};
 use crate::row::{close_row, cut_row, has_submit_at, shift_row, update_passes};
 use crate::step::{ActorKind, PathStep};
 use job_bodies::Action;
@@ -148,7 +149,25 @@ impl WalkState {
         }
     }
 
-    /// Updates the state for a submit of the class. The submit is at index `job` of the path.
+    /// Returns the first open job of the path whose class the body has to get before its end: the
+    /// class of the first get that the body cannot pass. Returns `None` if the body can be at its
+    /// end.
+    pub(crate) fn missing_job(&self, body: &[Action], gets: &[Option<BodyGet>]) -> Option<usize>
+        requires gets { AreGets body.now gets.now }
+        requires tables { spec.HasTables body.now self.now }
+        ensures { (kind : ActorKind) (path : List PathStep) (place : ℕ)
+            → spec.IsStateAt kind body.now path place self.now
+            → spec.IsBegun self.now
+            → spec.is_at self.now (length body.now) ≡ false
+            → (job : ℕ) × (result ≡ Some job) × IsMissingJob kind body.now path place job }
+    {
+        match get_before_end(&self.row, &self.passes, gets, body.len()) {
+            Some(get) => first_in(get.class, &self.jobs),
+            None => None,
+        }
+    }
+
+    /// Updates the state for a submit of the class, at index `job` of the path.
     fn submit(
         &mut self,
         body: &[Action],

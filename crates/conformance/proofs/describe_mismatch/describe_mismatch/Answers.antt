@@ -25,8 +25,8 @@ returns c =
       line = found.line;
       first = subst (λ (w : LineQuery). IsFirstLine lines w found.line) (c.line_query_of.ensures ∙ ap (spec.line_query_of reported.actor) did) found.first;
       number_is = c.number_of.ensures ∙ found.number_is;
-      did = subst (λ (d : Option JobStep). spec.IsDeviatingStep c.args.plan.now lines (has_job c.args.classless.now) reported.path.items reported.family.explained.excess d c.in_ok-deviating_step.field-0) did
-          (subst (λ (path : List RecordedStep). spec.IsDeviatingStep c.args.plan.now lines (has_job c.args.classless.now) path reported.family.explained.excess c.step_at-step.result c.in_ok-deviating_step.field-0) c.deref-2.ensures.value c.in_ok-deviating_step.ensures);
+      did = subst (λ (d : Option JobStep). spec.IsDeviatingStep c.args.plan.now lines (has_job c.args.classless.now) reported.actor reported.path.items reported.family.explained d c.in_ok-deviating_step.field-0) did
+          (subst (λ (path : List RecordedStep). spec.IsDeviatingStep c.args.plan.now lines (has_job c.args.classless.now) reported.actor path reported.family.explained c.step_at-step.result c.in_ok-deviating_step.field-0) c.deref-2.ensures.value c.in_ok-deviating_step.ensures);
       after = elim c.match-checked_sub.branch [
         | in-None w ↦ after_begin_line lines reported.path.items reported.family.explained.length _ w.in-None.ensures w.after-is
         | in-Some+in_ok-after-in-Some w ↦

@@ -13,7 +13,7 @@ returns-in_ok-push-in-Fits c body_of matched same reported =
     let a = c.args in
     let fits : IsPathOf a.kind a.path_state a.body.now a.path.now = subst (λ (m : PathMatch). OnFits m (IsPathOf a.kind a.path_state a.body.now a.path.now)) c.in-Fits.is c.in_ok-path_match.ensures.fits in
     let of : IsPathOf a.kind a.path_state (body_of a.number) a.path.now = subst (λ (body : List Action). IsPathOf a.kind a.path_state body a.path.now) (sym same) fits in
-    subst (λ (members : List ℕ). IsCorrectResult a.kind body_of a.path_state a.path.now (matched ++ a.number ∷ []) members (record { length = length a.path.now; excess = None }) a.self.now.is_decided)
+    subst (λ (members : List ℕ). IsCorrectResult a.kind body_of a.path_state a.path.now (matched ++ a.number ∷ []) members (record { length = length a.path.now; excess = None; missing = None }) a.self.now.is_decided)
     (sym c.in_ok-push-in-Fits.ensures.items)
     (reported_fits a.kind body_of a.path_state a.path.now matched a.self.now.members.items a.self.now.explained a.self.now.is_decided a.number reported of)
 
