@@ -140,6 +140,8 @@ def cases_of_misplaced_files(program, folder):
         (["fit", recording], no_plan, like_a_recording, recording),
         (["conform", recording, plan], no_plan, like_a_recording, recording),
         (["conform", plan, plan], no_line, no_recording, plan),
+        (["conform", plan, bundle], no_line, no_recording, bundle),
+        (["conform", bundle, recording], b"", a_bundle, bundle),
         (["learn", plan], no_line, no_recording, plan),
         (["check", plan, plan], no_json, plan_for_a_certificate, plan),
         (["explain", plan, plan], no_json, plan_for_a_certificate, plan),

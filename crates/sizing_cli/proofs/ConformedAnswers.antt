@@ -13,7 +13,7 @@ use Rattle.conformance.specs.declared.finding.Finding.{Finding}
 use Rattle.job_bodies.specs.declared.limits.TheConstants.{MAX_RECORDED_BYTES}
 use Rattle.sizing_cli.specs.declared.status.Status.TheVariants.{Done, Refused, BadText, Undecided}
 use Rattle.sizing_cli.specs.Answer.{Answer, input_too_long}
-use Rattle.sizing_cli.specs.Bundle.{Bundle, bundle_of}
+use Rattle.sizing_cli.specs.Bundle.{Bundle, first_bundle_of}
 use Rattle.sizing_cli.specs.Conform.{AnswersBundle, AnswersReading, IsConformAnswer, IsConformingInput, IsConformance, answer_of, is_undecided, status_of}
 
 -- status 0 means that there are no findings
@@ -28,14 +28,14 @@ done_of_no_findings findings done = by_length (length findings == 0) refl done
     by_length true is outcome = nil_from_length findings (eqb-true (length findings) 0 is)
     by_length false is outcome = by_all (list_all is_undecided findings) outcome
 
-with_outcome : (input : List ℕ) (bundle : Bundle) (plan : Plan) → bundle_of input ≡ Some bundle → plan_of bundle.plan ≡ Ok plan → (outcome : Conformance)
+with_outcome : (input : List ℕ) (bundle : Bundle) (plan : Plan) → first_bundle_of input ≡ Some bundle → plan_of bundle.plan ≡ Ok plan → (outcome : Conformance)
     → IsConformance plan bundle.second outcome → (answer_of plan bundle.second outcome).status ≡ Done → IsConformingInput input
 with_outcome input bundle plan is_bundle is_plan (Invalid fault) outcome done = absurd cc
 with_outcome input bundle plan is_bundle is_plan (Compared findings rejections) outcome done =
     let all = outcome.conforms (done_of_no_findings findings.items done) in
     record { bundle = bundle; is_bundle = is_bundle; plan = plan; is_plan = is_plan; no_fault = outcome.bad; conforms = all.0; valid = all.1 }
 
-with_reading : (input : List ℕ) (bundle : Bundle) (answer : Answer) (found : Result Plan PlanFault) → bundle_of input ≡ Some bundle → plan_of bundle.plan ≡ found
+with_reading : (input : List ℕ) (bundle : Bundle) (answer : Answer) (found : Result Plan PlanFault) → first_bundle_of input ≡ Some bundle → plan_of bundle.plan ≡ found
     → AnswersReading bundle.second found answer → answer.status ≡ Done → IsConformingInput input
 with_reading input bundle answer (Err fault) is_bundle is_plan is done =
     let no : BadText ≡ Done = sym (ap (λ (a : Answer). a.status) is) ∙ done in
@@ -43,7 +43,7 @@ with_reading input bundle answer (Err fault) is_bundle is_plan is done =
 with_reading input bundle answer (Ok plan) is_bundle is_plan is done =
     with_outcome input bundle plan is_bundle is_plan is.outcome is.is_outcome (sym (ap (λ (a : Answer). a.status) is.answer_is) ∙ done)
 
-with_bundle : (input : List ℕ) (answer : Answer) (found : Option Bundle) → bundle_of input ≡ found → AnswersBundle found answer → answer.status ≡ Done → IsConformingInput input
+with_bundle : (input : List ℕ) (answer : Answer) (found : Option Bundle) → first_bundle_of input ≡ found → AnswersBundle found answer → answer.status ≡ Done → IsConformingInput input
 with_bundle input answer None is_bundle is done =
     let no : BadText ≡ Done = sym (ap (λ (a : Answer). a.status) is) ∙ done in
     absurd cc
@@ -52,8 +52,8 @@ with_bundle input answer (Some bundle) is_bundle is done = with_reading input bu
 pub conformed : (input : List ℕ) (answer : Answer) → IsConformAnswer input answer → answer.status ≡ Done → IsConformingInput input
 conformed input answer is done = by_length (nat_lt MAX_RECORDED_BYTES (length input)) is
   where
-    by_length : (long : Bool) → MatchBool long (answer ≡ input_too_long) (AnswersBundle (bundle_of input) answer) → IsConformingInput input
+    by_length : (long : Bool) → MatchBool long (answer ≡ input_too_long) (AnswersBundle (first_bundle_of input) answer) → IsConformingInput input
     by_length true too_long =
         let no : BadText ≡ Done = sym (ap (λ (a : Answer). a.status) too_long) ∙ done in
         absurd cc
-    by_length false answers = with_bundle input answer (bundle_of input) refl answers done
+    by_length false answers = with_bundle input answer (first_bundle_of input) refl answers done

@@ -1,4 +1,5 @@
 pub mod Splitting
+pub mod FirstSeparator
 pub mod Answering
 pub mod SameSets
 pub mod PastTheLimit

@@ -28,7 +28,7 @@ use Rattle.sizing_cli.specs.Report.{run}
 use Rattle.sizing_cli.specs.Certify.{IsCertifyAnswer, IsCertifiedBundle, AnswersReading, AnswersPlan, whole_lines}
 use Rattle.sizing_cli.specs.Fit as fit
 use Rattle.sizing_cli.specs.Refute as refute
-use Rattle.sizing_cli.specs.Bundle.{bundle_of}
+use Rattle.sizing_cli.specs.Bundle.{first_bundle_of}
 use Rattle.sizing_cli.specs.Conform.{AnswersBundle}
 use Rattle.sizing_cli.specs.Learn.{AnswersLines}
 use Rattle.sizing_cli.specs.CommandResult.{IsAnswer, IsTaskAnswerWith, IsRecordingAnswer, IsTaskAnswer, WritesAnswer, WritesPrefix, TaskWritesWithCertificate, MeansSafe}
@@ -72,7 +72,7 @@ answered_by_length = answered_within MAX_INPUT_BYTES
 -- for commands on recordings
 pub recorded_by_front : (remaining : Option (List ℕ)) (items : List ℕ) (reading : RecordingCommand) (answer : Answer) → IfSome remaining (λ input. items ≡ take (MAX_RECORDED_BYTES + 1) input)
     → IsRecordingAnswer reading items answer → IfSome remaining (λ input. IsRecordingAnswer reading input answer)
-recorded_by_front remaining items Conform answer front is = answered_within MAX_RECORDED_BYTES (answer ≡ input_too_long) (λ bytes. AnswersBundle (bundle_of bytes) answer) remaining items front is
+recorded_by_front remaining items Conform answer front is = answered_within MAX_RECORDED_BYTES (answer ≡ input_too_long) (λ bytes. AnswersBundle (first_bundle_of bytes) answer) remaining items front is
 recorded_by_front remaining items (Learn strict) answer front is = answered_within MAX_RECORDED_BYTES (answer ≡ input_too_long) (λ bytes. AnswersLines strict bytes answer) remaining items front is
 
 asked_by_front : (remaining : Option (List ℕ)) (items : List ℕ) (given : AskInput) (options : AskOptions) (file : Text) (left : Option (List ℕ)) (answer : Answer)

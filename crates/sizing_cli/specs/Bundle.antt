@@ -1,4 +1,5 @@
--- A bundle: a plan's text, a line that is exactly `%%`, and a second part. An input is split at its last such line.
+-- A bundle: a plan's text, a line that is exactly `%%`, and a second part. An input is split at its last such line. `conform`
+-- splits its input at the first one.
 use Rattle.std.specs.Prelude.{ℕ, Bool, true, false, ◌==◌, nat_eq, if◌then◌else◌, List, [], ◌∷◌, drop, Option, Some, None}
 use Rattle.std.specs.List.{starts_with}
 use Rattle.std.specs.Str.{bytes_eq}
@@ -34,3 +35,23 @@ split_from at_line (b ∷ bs) = later_or b (split_from (b == 10) bs) (split_here
 -- the bundle that an input is, if it is one
 abbrev pub bundle_of : List ℕ → Option Bundle
 bundle_of input = split_from true input
+
+-- ---- the first line `%%`
+-- the split, if one byte comes before the text
+abbrev pub with_byte : ℕ → Option Bundle → Option Bundle
+with_byte b None = None
+with_byte b (Some bundle) = Some (record { plan = b ∷ bundle.plan; second = bundle.second })
+
+-- the split here takes precedence over one at a later line
+abbrev pub here_or : ℕ → Option Bundle → Option Bundle → Option Bundle
+here_or b (Some here) later = Some here
+here_or b None later = with_byte b later
+
+-- the split of a text at its first line `%%`; the flag says whether the text begins at the beginning of a line
+abbrev pub first_from : Bool → List ℕ → Option Bundle
+first_from at_line [] = None
+first_from at_line (b ∷ bs) = here_or b (split_here at_line (b ∷ bs)) (first_from (b == 10) bs)
+
+-- the split of an input at its first line `%%`
+abbrev pub first_bundle_of : List ℕ → Option Bundle
+first_bundle_of input = first_from true input

@@ -27,7 +27,7 @@ use Rattle.job_bodies.specs.declared.limits.TheConstants.{MAX_RECORDED_BYTES}
 use Rattle.sizing_cli.specs.declared.status.Status.{Status}
 use Rattle.sizing_cli.specs.declared.status.Status.TheVariants.{Done, Refused, Undecided}
 use Rattle.sizing_cli.specs.Answer.{Answer, fault, input_too_long, no_separator}
-use Rattle.sizing_cli.specs.Bundle.{Bundle, bundle_of}
+use Rattle.sizing_cli.specs.Bundle.{Bundle, first_bundle_of}
 use Rattle.sizing_cli.specs.LineEnds.{line_end_hint}
 
 -- ---- the text and the status
@@ -96,13 +96,13 @@ AnswersBundle (Some bundle) answer = AnswersReading bundle.second (plan_of bundl
 
 -- the possible answers to an input
 abbrev pub IsConformAnswer : List ℕ → Answer → Type 0
-IsConformAnswer input answer = MatchBool (nat_lt MAX_RECORDED_BYTES (length input)) (answer ≡ input_too_long) (AnswersBundle (bundle_of input) answer)
+IsConformAnswer input answer = MatchBool (nat_lt MAX_RECORDED_BYTES (length input)) (answer ≡ input_too_long) (AnswersBundle (first_bundle_of input) answer)
 
 -- what status 0 means: the input is a plan and a recording that conforms to it, and each line of the recording that would invalidate this
 -- result is a rejection that the plan allows
 pub record IsConformingInput (input : List ℕ) : Type 0 where
   pub bundle : Bundle
-  pub is_bundle : bundle_of input ≡ Some bundle
+  pub is_bundle : first_bundle_of input ≡ Some bundle
   pub plan : Plan
   pub is_plan : plan_of bundle.plan ≡ Ok plan
   pub no_fault : IsFirstFault (lines_read bundle.second) None

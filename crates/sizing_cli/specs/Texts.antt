@@ -1,8 +1,10 @@
 -- The texts that the arguments of a command line name, and the input that they form.
-use Rattle.std.specs.Prelude.{◌≡◌, ◌⊎◌, ℕ, ◌+◌, false, ◌++◌, List, ◌∷◌, take, codes, Option, Some, None, if◌then◌else◌, option_and_then, option_map, IfSome, is_some, true}
+use Rattle.std.specs.Prelude.{◌≡◌, ◌⊎◌, ℕ, ◌+◌, Bool, false, ◌++◌, List, ◌∷◌, take, codes, Option, Some, None, if◌then◌else◌, option_and_then, option_map, IfSome, is_some, true}
 use Rattle.std.specs.Str.{bytes_eq}
 use Rattle.clap.specs.Words.{Text}
 use Rattle.command_line.specs.declared.command.Command.{Command}
+use Rattle.command_line.specs.declared.command.Command.TheVariants.{Sequential, OnRecording, OnThreads}
+use Rattle.command_line.specs.declared.command.RecordingCommand.TheVariants.{Conform, Learn}
 use Rattle.sizing_cli.specs.Bundle.{bundle_of}
 use Rattle.sizing_cli.specs.Certify.{whole_lines}
 use Rattle.sizing_cli.specs.Laws.{has_separator}
@@ -74,12 +76,19 @@ IsAlone command known = IfSome known (λ text. bundle_of (read_part command text
 abbrev pub IsBundle : Command → Option (List ℕ) → Type 0
 IsBundle command known = IfSome known (λ text. is_some (bundle_of (read_part command text)) ≡ true)
 
--- if two texts are named, neither is a bundle
+-- the command splits its input at the first line `%%`, not at the last one
+abbrev pub splits_at_first : Command → Bool
+splits_at_first (OnRecording Conform) = true
+splits_at_first (OnRecording (Learn strict)) = false
+splits_at_first (Sequential review) = false
+splits_at_first (OnThreads task) = false
+
+-- if two texts are named, neither is a bundle; the recording of `conform` may have lines `%%`
 abbrev pub AreAlone : Command → (Text → Option (List ℕ)) → Option (List ℕ) → Option Text × Option Text → Type 0
 AreAlone command files input (first, None) = Unit {0}
-AreAlone command files input (first, Some second) = IsAlone command (text_named files input first) × IsAlone command (text_named files input (Some second))
+AreAlone command files input (first, Some second) = IsAlone command (text_named files input first) × (splits_at_first command ≡ false → IsAlone command (text_named files input (Some second)))
 
--- the one of the two named texts that has this name in messages is a bundle
+-- the one of the two named texts that has this name in messages is a bundle; it is not the recording of `conform`
 abbrev pub IsBundleNamed : Command → (Text → Option (List ℕ)) → Option (List ℕ) → Option Text × Option Text → Text → Type 0
 IsBundleNamed command files input (first, second) name =
-    ((name ≡ name_or_none (file_named first)) × IsBundle command (text_named files input first)) ⊎ ((name ≡ name_or_none (file_named second)) × IsBundle command (text_named files input second))
+    ((name ≡ name_or_none (file_named first)) × IsBundle command (text_named files input first)) ⊎ ((splits_at_first command ≡ false) × (name ≡ name_or_none (file_named second)) × IsBundle command (text_named files input second))

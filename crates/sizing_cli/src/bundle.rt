@@ -1,12 +1,13 @@
-//! Bundles: a plan's text, a line that is exactly `%%`, and a second part.
+//! Bundles: a plan's text, a line that is exactly `%%`, and a second part. A text with several such
+//! lines is split at the last one or, for `conform`, at the first one.
 
 ghost use Rattle.std.specs.Prelude.{◌≡◌, ◌≤◌, ◌==◌, length, option_map};
 ghost use Rattle.std.specs.List.{IsAfterLastMatch};
 ghost use Rattle.sizing_cli.specs.Bundle as spec;
 
-use memchr::memrchr;
+use memchr::{memchr, memrchr};
 
-/// A plan's text, and the text after the last line `%%`.
+/// A plan's text, and the text after the line `%%` at which the input is split.
 #[derive(Clone, Copy)]
 pub struct Bundle<'a> {
     pub plan: &'a [u8],
@@ -36,8 +37,32 @@ pub fn bundle_of(input: &[u8]) -> Option<Bundle<'_>>
     }
 }
 
-/// Returns the offset at which the last line of a text begins. This is the offset after the last
-/// newline, or 0 if there is no newline.
+/// Splits an input at its first line `%%`, which needs no newline if it ends the input. Returns
+/// `None` if no line is `%%`.
+///
+/// No text of a plan has such a line. So if the second part has one, a fault can name it there.
+pub fn first_bundle_of(input: &[u8]) -> Option<Bundle<'_>>
+    ensures { option_map (λ bundle. record { plan = bundle.plan.now; second = bundle.second.now })
+        result
+        ≡ spec.first_bundle_of input.now }
+{
+    // No line that begins before this rest of the input is `%%`.
+    let mut rest = input;
+    loop {
+        if let Some(second) = after_separator(rest) {
+            let (front, _) = input.split_at(input.len() - rest.len());
+            return Some(Bundle {
+                plan: front,
+                second,
+            });
+        }
+        let newline = memchr(b'\n', rest)?;
+        let (_, after) = rest.split_at(newline + 1);
+        rest = after;
+    }
+}
+
+/// Returns the offset at which the last line of a text begins: after the last newline, or 0.
 fn last_line_start(text: &[u8]) -> usize
     ensures within { result ≤ length text.now }
     ensures behind_newline { IsAfterLastMatch (λ byte. byte == 10) text.now result }

@@ -7,14 +7,15 @@ ghost use Rattle.sizing_cli.specs.Conform as spec;
 
 use crate::Status;
 use crate::answer::{Answer, bad_recording, input_too_long, no_separator, plan_fault};
-use crate::bundle::bundle_of;
+use crate::bundle::first_bundle_of;
 use crate::texts::plan_in;
 use conformance::{Conformance, Finding, PoolRejections, conform, push_findings};
 use job_bodies::{MAX_RECORDED_BYTES, Plan};
 use std::alloc::{AllocError, Global};
 
-/// Returns the differences between a recording and a plan. The input is a bundle of the plan and
-/// the recording. If the input has a fault, the answer is this fault.
+/// Returns how the recording differs from the plan. The input is a bundle of a plan and a
+/// recording, split at its first line `%%`. If it has a fault, the answer is that fault. So a line
+/// `%%` of the recording is a malformed line, and the answer names its number.
 ///
 /// # Errors
 ///
@@ -25,7 +26,7 @@ pub fn conform_report(alloc: Global, input: &[u8]) -> Result<Answer, AllocError>
     if input.len() > MAX_RECORDED_BYTES {
         return input_too_long(alloc);
     }
-    let Some(bundle) = bundle_of(input) else {
+    let Some(bundle) = first_bundle_of(input) else {
         return no_separator(alloc);
     };
     match plan_in(alloc, bundle.plan)? {

@@ -14,7 +14,7 @@ use crate::join::join_texts;
 use crate::text_files::TextFiles;
 use crate::{ServeFault, most_bytes};
 use byte_streams::{InputError, Source, read_up_to};
-use command_line::{Cli, Command};
+use command_line::{Cli, Command, RecordingCommand};
 use std::alloc::{AllocError, Global};
 
 /// The file name that means standard input.
@@ -52,8 +52,9 @@ pub(crate) fn read_texts<'a, F: TextFiles, S: Source>(
     }
 }
 
-/// Reads the two texts of the command and joins them. Returns an error if one of the two texts is
-/// itself a bundle. So the joined text splits into the same two texts again.
+/// Reads the two texts of the command and joins them. It is an error if one of them is itself a
+/// bundle, so the joined text splits into the same two again. The recording of `conform` may have
+/// lines `%%`, since `conform` splits at the first one.
 fn read_both<'a, F: TextFiles, S: Source>(
     alloc: Global,
     command: Command,
@@ -77,7 +78,9 @@ fn read_both<'a, F: TextFiles, S: Source>(
 {
     let (plan, behind) = read_pair(alloc, command, files, input, first, second)?;
     ensure_alone(first, &plan)?;
-    ensure_alone(Some(second), &behind)?;
+    if !splits_at_first(command) {
+        ensure_alone(Some(second), &behind)?;
+    }
     Ok(join_texts(plan, &behind)?)
 }
 
@@ -135,8 +138,15 @@ fn ensure_alone<'a>(name: Option<&'a str>, text: &[u8]) -> Result<(), CliError<'
     }
 }
 
-/// Reads standard input for the command. Reads at most one byte more than the command's input may
-/// have.
+/// Returns true for `conform`, which splits its input at the first line `%%`. Every other command
+/// splits it at the last one.
+fn splits_at_first(command: Command) -> bool
+    ensures { result ≡ spec.splits_at_first command }
+{
+    matches!(command, Command::OnRecording(RecordingCommand::Conform))
+}
+
+/// Reads standard input for the command: at most one byte more than the command's input may have.
 fn read_input<'a, S: Source>(
     alloc: Global,
     command: Command,

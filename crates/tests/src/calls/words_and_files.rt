@@ -151,6 +151,19 @@ const ANSWERS: &[Case] = &[
         NO_STEP,
     ),
     (&["sizing", "replay", "both"], "", Status::Refused, NO_STEP),
+    // A line `%%` of a recording is a bad line with a number.
+    (
+        &["sizing", "conform", "plan.toml", "-"],
+        "recording 1\n%%\n",
+        Status::BadText,
+        "fault 53 BadRecording at line 2: it is not a valid line\n",
+    ),
+    (
+        &["sizing", "conform", "plan.toml", "both"],
+        "",
+        Status::BadText,
+        "fault 53 BadRecording at line 1: it is not a valid line\n",
+    ),
     (
         &["sizing", "replay"],
         PLAN_AND_EVENTS,
@@ -234,9 +247,10 @@ const NO_ANSWERS: &[(&[&str], &str, u8)] = &[
     ),
     (&["sizing", "certify", "none.toml"], "unread none.toml", 3),
     (&["sizing", "check", "-", "-"], "input twice", 2),
-    // Of two texts, neither is a bundle itself.
+    // Of two texts, neither is a bundle itself, except a recording.
     (&["sizing", "ask", "plan.toml", "both"], "bundle both", 2),
     (&["sizing", "check", "both", "cert.json"], "bundle both", 2),
+    (&["sizing", "conform", "both", "-"], "bundle both", 2),
     (&["sizing", "fit", "--bundle", "--", "-x"], "unread -x", 3),
     (&["sizing"], "no command", 2),
     // If an argument is missing or misplaced, no existing file is overwritten with a certificate.
