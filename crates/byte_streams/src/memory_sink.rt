@@ -21,7 +21,7 @@ pub struct MemorySink {
 impl MemorySink {
     ghost use Rattle.byte_streams.specs.MemorySink.{written_to, max_bytes_of, calls_before_fault, failure_count};
 
-    /// Creates a sink whose calls accept all bytes and fail only if memory runs out.
+    /// Creates a sink. Its calls accept all bytes and fail only if memory runs out.
     pub fn new(alloc: Global) -> MemorySink
         ensures written { written_to result ≡ [] }
         ensures max_bytes { max_bytes_of result ≡ 2 ^ 64 - 1 }

@@ -21,7 +21,7 @@ pub struct MemorySource<'a> {
 impl<'a> MemorySource<'a> {
     ghost use Rattle.byte_streams.specs.MemorySource.{left, max_bytes_of, calls_before_fault, failure_count};
 
-    /// Creates a source of `bytes` whose calls never fail. Each call returns as many of the
+    /// Creates a source of `bytes`. Its calls never fail. Each call returns as many of the
     /// remaining bytes as fit into the slice that it fills.
     pub fn new(bytes: &'a [u8]) -> MemorySource<'a>
         ensures left { left result ≡ bytes.now }

@@ -14,8 +14,8 @@ pub trait Sink {
     // The number of failed calls.
     ghost failures: { Self → ℕ };
 
-    /// Writes a prefix of `bytes`, and returns the length of this prefix. The length is at least 1
-    /// unless `bytes` is empty. A call that fails writes nothing.
+    /// Writes a prefix of `bytes`, and returns the length of this prefix. If `bytes` is not empty,
+    /// the length is at least 1. A call that fails writes nothing.
     fn write(&mut self, bytes: &[u8]) -> Result<usize, IoFault>
         ensures bound { WritesAtMost result bytes.now }
         ensures some { 0 < length bytes.now → IfOk result (λ count. 0 < count) }
