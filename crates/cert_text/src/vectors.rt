@@ -39,9 +39,9 @@ pub fn numbers_of(alloc: Global, value: &Value, count: usize) -> Result<Vec<u64>
     numbers_in(alloc, values)
 }
 
-/// Returns the number of weights in the row of a class: one for a queued job, one for each position
-/// of the body from 0 to its length, and one for a done job. Returns 3 if the plan has no class
-/// with this index.
+/// Returns the number of weights in the row of a class. A row has a weight for a queued job, one
+/// for each position of the body from 0 to its length, and one for a done job. Returns 3 if the
+/// plan has no class with this index.
 pub fn class_points(plan: &Plan, class: usize) -> usize
     ensures { result ≡ spec.class_points plan.now class }
 {
