@@ -33,10 +33,10 @@ use std::alloc::{AllocError, Global};
 /// actors.
 ///
 /// The classifier stores the paths of the unsettled actors. It also stores the classes of each
-/// settled job whose submitter is unsettled.
+/// settled job that an unsettled actor submitted.
 ///
-/// After its end, an actor's path is scanned only once in total, because each scan continues at the
-/// unsettled job that stopped the scan before it. No contract states the time for a line, or the
+/// The path of an ended actor is scanned only once in total, because each scan continues at the
+/// unsettled job that stopped the previous scan. No contract states the time for a line, or the
 /// order of the actors that become settled with the same line.
 #[derive(Drop)]
 pub struct ActorClassifier {

@@ -53,14 +53,16 @@ pub enum Conformance {
 ///   difference;
 /// - if the recording ends with `end`, every pool of the plan that the recording lacks;
 /// - every label that is not in the plan, with the first line that has the label;
-/// - for each label of the plan, the actor with the smallest number whose path matches no body. The
-///   finding has the first step that no body explains and the line of this step;
-/// - for each label of the plan, the actor with the smallest number for which it is undecided which
-///   bodies its path matches. There is no such actor if each label is one class in each pool;
+/// - for each label of the plan, of the actors with a path that matches no body, the one with the
+///   smallest number. The finding has the first step that no body explains and the line of this
+///   step;
+/// - for each label of the plan, of the actors for which it is undecided which bodies the path
+///   matches, the one with the smallest number. There is no such actor if each label is one class
+///   in each pool;
 /// - for each client kind, the first line at which the kind has more rounds than the plan allows.
-///   Each round counts as the first kind that it can belong to. A round whose kind is undecided is
-///   not counted;
-/// - the first get of a job by an actor other than its submitter, before the submitter got the job;
+///   Each round is counted for the first kind that it can belong to. A round with an undecided kind
+///   is not counted;
+/// - the first get of a job by an actor that did not submit the job, before the submitter got it;
 /// - for each event type that invalidates a SAFE answer, whatever the paths are, the first line
 ///   with such an event. A rejection that the plan allows is not such an event.
 ///

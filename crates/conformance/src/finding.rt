@@ -39,8 +39,8 @@ pub enum Finding {
         actor: RecordedActor,
         label: ActorLabel,
     },
-    /// The first line at which a client kind has more rounds than the plan allows. Each round
-    /// counts as the first kind that it can belong to. A round whose kind is undecided is not
+    /// The first line at which a client kind has more rounds than the plan allows. Each round is
+    /// counted for the first kind that it can belong to. A round with an undecided kind is not
     /// counted.
     TooMany(RoundExcess),
     /// The first get of a job by an actor that did not submit the job, before the submitter got it.
@@ -69,7 +69,7 @@ impl Finding {
     ///
     /// - a pool that is not recorded;
     /// - an actor that is not decided;
-    /// - a path mismatch whose deviating step no line records.
+    /// - a path mismatch with a deviating step that no line records.
     pub fn line(&self) -> Option<usize>
         ensures { result ≡ spec.line_of self.now }
     {

@@ -1,6 +1,6 @@
 //! More open jobs than a body allows.
 
-/// The reason why a body cannot reach its next submit of a class: at some moment before this
+/// The reason why a body cannot reach its next submit of a class. At some moment before this
 /// submit, the body has fewer open jobs of some class than the path.
 #[derive(Clone, Copy, PartialEq, Eq)]
 pub struct OpenExcess {

@@ -8,8 +8,8 @@ pub enum PathMatch {
     /// The path matches the body.
     Fits,
     /// The path does not match the body. The field is the longest prefix of the path that the body
-    /// explains. The step after the prefix deviates, or, if there is no such step, the actor ended
-    /// too early.
+    /// explains. The step after the prefix deviates. If there is no such step, the actor ended too
+    /// early.
     Deviates(ExplainedPrefix),
     /// A job of the path may belong to several classes that the body submits. None of the
     /// assignments of classes to jobs that were tried matches.

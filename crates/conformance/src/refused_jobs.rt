@@ -207,7 +207,7 @@ fn insert_if(jobs: &mut JobSet, refused: &JobSet, job: usize) -> Result<(), Allo
 }
 
 /// Returns the job that submits, gets or cancels a job, or calls `invokeAny`, in this line. Returns
-/// `None` if no job does so.
+/// `None` if the line reports no such action of a job.
 fn acting_job(line: &Line<'_>) -> Option<usize>
     ensures { result ≡ rule.acting_job (line_view line.now) }
 {

@@ -46,9 +46,9 @@ impl RoundCount {
 
     /// Counts the begin of a round, and then returns [`excess`](RoundCount::excess).
     ///
-    /// Fewer than [`MAX_RECORDED_ROUNDS`] rounds must have begun before, which
-    /// [`can_begin`](RoundCount::can_begin) tests. This holds in any recording that numbers its
-    /// rounds in order.
+    /// Fewer than [`MAX_RECORDED_ROUNDS`] rounds must have begun before.
+    /// [`can_begin`](RoundCount::can_begin) tests this condition. It holds in any recording that
+    /// numbers its rounds in order.
     pub fn begin(&mut self) -> Option<Excess>
         requires { self.old.begun < MAX_RECORDED_ROUNDS }
         ensures excess_tracker { self.new ≡ record self.old { begun = self.old.begun + 1 } }

@@ -18,8 +18,9 @@ use std::alloc::{AllocError, Global};
 
 /// For each label of the plan, two actors:
 ///
-/// - the first actor, by number, whose path matches no body;
-/// - the first actor, by number, for which it is undecided whether its path matches a body.
+/// - of the actors with a path that matches no body, the one with the smallest number;
+/// - of the actors for which it is undecided whether the path matches a body, the one with the
+///   smallest number.
 #[derive(Drop)]
 pub(crate) struct Verdicts {
     pub(crate) mismatches: FirstActors,
