@@ -27,19 +27,19 @@ use weights::Vector;
 /// - `standing` should be empty or have one vector for each pool, which may prove that the pool
 ///   never has more than `core` threads.
 ///
-/// The events are performed in order. A submit that a pool rejects as the plan allows is an
-/// ordinary event.
+/// The events are performed in order. If a pool rejects a job as the plan allows, the submit is not
+/// refused.
 ///
 /// - If a submit is refused, the witness ends with this event, and later events are removed.
 /// - If an event is not possible, and no submit was refused before it, returns `None`.
-/// - Otherwise returns a witness with all events, if the members are in ascending order and wait
-///   only for each other after the events. Returns `None` if not.
+/// - Otherwise, if the members are in ascending order and wait only for each other after the
+///   events, returns a witness with all events. If they are not, returns `None`.
 ///
 /// A vector is used as a proof only if it satisfies two conditions:
 ///
 /// - It satisfies all conditions of a standing vector of its pool.
-/// - In each class whose pool may reject jobs, a done job weighs at most as much as a queued job. A
-///   rejected job then does not increase the weight of a state.
+/// - In each class of a pool that may reject jobs, a done job weighs at most as much as a queued
+///   job. A rejected job then does not increase the weight of a state.
 ///
 /// # Errors
 ///

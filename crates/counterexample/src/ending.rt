@@ -19,7 +19,7 @@ pub enum Ending {
 pub enum Reason {
     /// Each pool that has one of the jobs in its queue has `max` threads.
     PoolsAreFull,
-    /// Each pool that has one of the jobs in its queue has `max` threads, or a standing vector
-    /// proves that the pool never has more than `core` threads.
+    /// For each pool that has one of the jobs in its queue, one of these holds: the pool has `max`
+    /// threads, or a standing vector proves that it never has more than `core` threads.
     PoolsStayAtCore,
 }

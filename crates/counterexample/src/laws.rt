@@ -17,7 +17,8 @@ pub fn witnessed_plans_are_not_safe()
 /// States that a pool never has more than `core` threads if some vector satisfies two conditions:
 ///
 /// - The vector is a standing vector of the pool.
-/// - In each class whose pool may reject jobs, a done job weighs at most as much as a queued job.
+/// - In each class of a pool that may reject jobs, a done job weighs at most as much as a queued
+///   job.
 ///
 /// The other pools can have any sizes, and may even refuse submits.
 pub fn standing_pools_stay_at_core()

@@ -24,7 +24,7 @@ pub(crate) struct Replay<'a> {
 }
 
 impl<'a> Replay<'a> {
-    /// Replays the events of the script whose element in `kept` is `true`. Skips an event that is
+    /// Replays an event of the script if its element in `kept` is `true`. Skips an event that is
     /// not possible, and stops after the first refused submit.
     pub(crate) fn of(
         alloc: Global,

@@ -8,7 +8,7 @@ use least_vectors::{Kind, Levels, ResizedPlan, reach};
 use std::alloc::{AllocError, Global};
 use weights::Vector;
 
-/// The weights of a vector whose total is larger than the plan's sizes allow. A walk uses these
+/// The weights of a vector that has a larger total than the plan's sizes allow. A walk uses these
 /// weights to compute how much weight a choice loses.
 #[derive(Drop)]
 pub(crate) struct Potential {
@@ -48,7 +48,7 @@ pub(crate) fn missed_vectors(alloc: Global, plan: &Plan) -> Result<Vec<Potential
     Ok(vectors.potentials)
 }
 
-/// The vectors whose totals were found to be larger than the plan's sizes allow.
+/// The vectors that were found to have larger totals than the plan's sizes allow.
 #[derive(Drop)]
 struct MissedVectors {
     alloc: Global,

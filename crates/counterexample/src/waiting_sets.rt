@@ -5,8 +5,8 @@ use job_bodies::MAX_POOLS;
 use std::alloc::{AllocError, Global};
 use written_machine::Parent;
 
-/// The maximum work for making one set of jobs minimal. The work is the number of members whose
-/// removal is tried, times the number of jobs.
+/// The maximum work for making one set of jobs minimal. The work is the number of attempts to
+/// remove a member, times the number of jobs.
 const MAX_LOOKS: usize = 4_000_000;
 
 /// A set of jobs of a machine, by number.

@@ -17,8 +17,7 @@ use written_machine::Parent;
 /// The factor is greater than every key, so the keys decide only among choices with equal losses.
 const FOR_A_LOSS: u64 = 10_000_000_000_000;
 
-/// The violation in which a list of events ends. The violation is *permanent* unless it is
-/// `StuckNow`.
+/// The violation in which a list of events ends. Every violation except `StuckNow` is *permanent*.
 #[derive(Clone, Copy, PartialEq, Eq)]
 pub(crate) enum Violation {
     /// The last event is a refused submit.
@@ -81,8 +80,8 @@ pub(crate) struct Walk<'a> {
     pub(crate) begun: Vec<u64>,
     /// The choices that ended in a rejected submit since the last choice with another outcome.
     pub(crate) rejected: Vec<usize>,
-    /// Whether an actor has stopped since this flag was last cleared: a client or a job at a get
-    /// that must wait, or a client at the end of its body.
+    /// Whether an actor has stopped since this flag was last cleared. An actor stops at a get that
+    /// must wait, and a client also stops at the end of its body.
     pub(crate) has_blocked: bool,
 }
 
