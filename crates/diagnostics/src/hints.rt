@@ -40,8 +40,7 @@ fn names_no_limit(text: &str) -> bool
     matches!(text, "unlimited" | "infinite" | "none")
 }
 
-/// Returns the end of the message for a pool whose maximum is `unbounded`, although its queue has a
-/// capacity.
+/// Returns the end of the message for a maximum of `unbounded` in a pool with a bounded queue.
 pub(crate) fn unbounded_max_hint() -> &'static str
     ensures { result.now ≡ spec.unbounded_max_hint }
 {

@@ -52,9 +52,9 @@ pub enum Lint {
     /// these pools must not reject jobs, and has one core thread and a bounded queue. The capacity
     /// of each of these queues is below the number of clients of the kind.
     Crowd(usize),
-    /// The body of a class or client kind has a `work` whose length is also a size of a pool or the
+    /// The length of a `work` in the body of a class or client kind is also a size of a pool or the
     /// count of a client kind. The length is at least 50 units. The fields are the kind of entry
-    /// (class or client kind), its number, the number of the action, and the length.
+    /// (class or client kind), the number of the entry, the number of the action, and the length.
     WorkLikeASize(Part, usize, usize, u32),
     /// The body of a class or client kind submits a job that its pool may reject, while a future is
     /// open. This means that the submit is between another submit and the get of that other submit.

@@ -178,7 +178,7 @@ fn is_unbounded(plan: &Plan, number: usize) -> bool
 }
 
 /// Returns whether the clients of this kind submit jobs, and each pool to which they submit is
-/// small for the number of these clients, as [`is_small`] defines it.
+/// small for the number of these clients (see [`is_small`]).
 pub(crate) fn are_a_crowd(plan: &Plan, client: &Client) -> bool
     ensures { result ≡ spec.are_a_crowd plan.now client.now }
 {

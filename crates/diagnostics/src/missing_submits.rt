@@ -34,8 +34,8 @@ pub(crate) fn missing_submit(
 }
 
 /// Returns the end of the message for a get of a name under which no earlier action submits a job.
-/// The end states the first of these likely causes that exists. If none exists, it is the result of
-/// [`no_submit_before`].
+/// If none of the following causes applies, this is the result of [`no_submit_before`]. Otherwise
+/// it states the first of them that applies:
 ///
 /// 1. An earlier submit without `as` of a class that has this name.
 /// 2. A similar name under which an earlier action submits a job.

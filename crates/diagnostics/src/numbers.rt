@@ -84,7 +84,7 @@ pub(crate) fn sizes(
     Ok(())
 }
 
-/// Reports the maximum `unbounded` of a pool whose queue has a capacity.
+/// Reports a maximum of `unbounded` in a pool with a bounded queue.
 fn unbounded_max(collector: &mut FaultCollector, pool: &PlacedEntry<'_>) -> Result<(), AllocError> {
     let low = least_max(pool);
     let hint = unbounded_max_hint();
