@@ -66,7 +66,7 @@ impl Clients {
         }
     }
 
-    /// Reserves memory for the first move of the actor. Does nothing unless the actor is a client
+    /// Reserves memory for the first move of the actor. Does nothing if the actor is not a client
     /// at the start of its body. `position` is the current position of the actor.
     ///
     /// # Errors
