@@ -30,8 +30,8 @@ fn are_name_bytes(bytes: &[u8]) -> bool
     bytes.iter().all(|byte| is_name_byte(*byte))
 }
 
-/// Returns true if the text is a valid name. A valid name is a letter from `a` to `z`, followed by
-/// at most 31 bytes, each of which is one of `a` to `z`, `0` to `9` and `_`.
+/// Returns true if the text is a valid name. A valid name has at most 32 bytes. The first byte is
+/// one of `a` to `z`, and each other byte is one of `a` to `z`, `0` to `9` and `_`.
 pub fn is_valid_name(name: &str) -> bool
     ensures { result ≡ is_valid_name name.now }
 {

@@ -83,8 +83,8 @@ impl Pool {
         if self.may_reject { 0 } else { 1 }
     }
 
-    /// Returns true if a certificate needs no bound for the pool's queue. This is so if the pool
-    /// may reject jobs or its queue is unbounded.
+    /// Returns true if the pool may reject jobs or its queue is unbounded. A certificate then needs
+    /// no bound for the queue.
     pub fn needs_no_bound(&self) -> bool
         ensures { result ≡ spec.needs_no_bound self.now }
     {
