@@ -6,7 +6,8 @@ use recordings::RecordedStep;
 use std::alloc::{AllocError, Global};
 use std::collections::{HashMap, HashSet};
 
-/// The classes assigned to the classified jobs whose submitters are not yet classified.
+/// The classes that were assigned to classified jobs. A job is removed when its submitter is
+/// classified.
 #[derive(Drop)]
 pub(crate) struct AssignedClasses {
     /// The class of each job, by job number. The class is `None` if no class was found for the job.

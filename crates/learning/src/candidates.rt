@@ -16,7 +16,7 @@ pub(crate) struct Choices {
     /// True if no submit of the candidate is matched both with a job that some path gets and with a
     /// job that another path does not get.
     pub(crate) marks_gets: bool,
-    /// True if the submits of the paths are merged from the last path to the first, and false if
+    /// True if the submits of the paths are merged from the last path to the first. If it is false,
     /// they are merged from the first path to the last.
     pub(crate) is_reversed: bool,
     /// True if each path is matched with the last possible submits of the candidate, and false if

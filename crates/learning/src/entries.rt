@@ -33,7 +33,7 @@ pub(crate) struct Entry {
 #[derive(Drop)]
 pub(crate) struct Entries {
     pub(crate) entries: Vec<Entry>,
-    /// The kind of the actors whose paths match the bodies: jobs for classes, and rounds for client
+    /// The kind of the actors that follow the bodies: jobs for classes, and rounds for client
     /// kinds.
     pub(crate) kind: ActorKind,
     /// The maximum number of entries that a plan may have. If there are more, `beyond` is the

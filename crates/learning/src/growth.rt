@@ -33,8 +33,8 @@ pub(crate) struct Assignment {
 }
 
 impl Entries {
-    /// Returns the assignment of the path to the first entry of this label and pool whose body the
-    /// path matches. Returns `None` if there is no such entry.
+    /// Returns the assignment of the path to an entry. This is the first entry of this label and
+    /// pool that has a body that the path matches. Returns `None` if there is no such entry.
     ///
     /// # Errors
     ///

@@ -15,11 +15,12 @@ pub enum InferenceLimit {
     Classes,
     /// More client kinds than a plan may have.
     Kinds,
-    /// A class or client kind whose name would be too long.
+    /// A class or client kind would need a name that is too long.
     Names,
     /// More rounds of a client kind that are open at the same time than a plan may have clients.
     Rounds,
-    /// Jobs or rounds for whose paths no body was found. This is also the reason in these cases:
+    /// No bodies were found for the paths of some jobs or rounds. This is also the reason in these
+    /// cases:
     ///
     /// - The bodies were learned from the start of a longer recording, and a label has several
     ///   client kinds.

@@ -58,9 +58,8 @@ impl LabelRounds {
     ///
     /// # Errors
     ///
-    /// - [`LearnError::InferenceLimit`] in two cases, which do not occur in a valid recording: a
-    ///   round begins with a number other than the number of earlier rounds, or a round ends that
-    ///   is not open.
+    /// - [`LearnError::InferenceLimit`] if a round begins with a number other than the number of
+    ///   earlier rounds, or if a round ends that is not open. Neither occurs in a valid recording.
     /// - [`LearnError::Memory`] if memory runs out.
     pub(crate) fn take(&mut self, line: &Line<'_>) -> Result<(), LearnError>
         ensures ok { (before : List RecordedLine)

@@ -92,8 +92,9 @@ fn push_from(jobs: &mut Vec<PathJob>, more: &[PathJob], index: usize) -> Result<
     Ok(())
 }
 
-/// Returns true if the merged list may continue with the next job of the first list: the longest
-/// common subsequence is then not shorter than after the next job of the second list.
+/// Returns true if the merged list may continue with the next job of the first list. The longest
+/// common subsequence of the jobs that then remain must not be shorter than if the list continued
+/// with the next job of the second list.
 ///
 /// - `left` and `other_left` are the numbers of jobs that remain in the two lists.
 /// - `lengths` is the table that [`common_lengths`] returns.
