@@ -7,7 +7,7 @@ use crate::submitted::submitted_classes;
 use job_bodies::{Action, Class, Plan};
 use std::alloc::{AllocError, Global};
 
-/// The value in `Levels::of_classes` of a class whose level is not known yet.
+/// The value in `Levels::of_classes` for a class that has no known level yet.
 const NO_LEVEL: u64 = u64::MAX;
 
 /// The levels of the classes of a plan, and which of the classes are submitted by clients, directly

@@ -193,9 +193,9 @@ fn best_loan(
     Ok(best)
 }
 
-/// Returns the largest weight that a job of the pool has at any position of its body if the workers
-/// of the pool weigh 0, and the job weighs as little as possible when it is done. Classes that are
-/// never submitted are ignored.
+/// Returns the largest weight that a job of the pool has at any position of its body, under two
+/// assumptions. The workers of the pool weigh 0, and the job weighs as little as possible when it
+/// is done. Classes that are never submitted are ignored.
 ///
 /// `workers` and `place` are as in [`next_loan`].
 fn peak(

@@ -109,8 +109,8 @@ impl<'a> Target<'a> {
         }
     }
 
-    /// Returns the maximum of `pool`, whose index is `number`. This is the maximum in `maxes` or,
-    /// if `maxes` is `None`, the maximum that the pool declares.
+    /// Returns the maximum of `pool`, which has the index `number`. This is the maximum in `maxes`
+    /// or, if `maxes` is `None`, the maximum that the pool declares.
     pub(crate) fn max_of(&self, number: usize, pool: &Pool) -> u64 {
         match self.maxes {
             Some(maxes) => number_at(maxes, number),
