@@ -10,8 +10,8 @@ pub fn totals_add_up()
     ensures { TotalsAddUp }
 {}
 
-/// States that the computed numbers of jobs, units of work and events of a run are the same for all
-/// ranks whose rows (conditions) hold. So the numbers do not depend on the certificate.
+/// States that the computed numbers of jobs, units of work and events of a run do not depend on the
+/// certificate. They are the same for all ranks that satisfy their rows (the conditions).
 pub fn numbers_are_of_the_plan()
     ensures { NumbersAreOfThePlan }
 {}

@@ -20,9 +20,8 @@ pub enum RunLimit {
     Events,
 }
 
-/// Returns the limit to report for a plan whose run exceeds a limit. This is the first limit, in
-/// this order, that the plan exceeds: the limit on rejecting pools, on clients, on threads. If the
-/// plan exceeds none of these, it is the limit on events.
+/// Returns the limit to report for a plan that exceeds a limit of a run. This is the first of these
+/// limits that the plan exceeds: the limit on rejecting pools, on clients, on threads, on events.
 pub fn limit_of(plan: &Plan) -> RunLimit
     ensures { result ≡ spec.limit_of plan.now }
 {

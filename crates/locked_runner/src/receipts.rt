@@ -136,7 +136,7 @@ pub(crate) fn each_once(
     Ok(all_are_one(&marks))
 }
 
-/// Adds 1, for each receipt in the list, to the mark whose index is the number of the receipt.
+/// Adds 1, for each receipt in the list, to the mark at the index that is the receipt's number.
 /// Ignores a receipt if `marks` has no such index. A mark of 255 does not change.
 fn mark_all(marks: &mut [u8], list: &[CompactReceipt])
     ensures len { length marks.new ≡ length marks.old }

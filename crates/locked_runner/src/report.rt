@@ -83,8 +83,8 @@ impl ThreadFault {
     }
 }
 
-/// The results of the threads of a run: the history, the receipts of each thread, and, if a thread
-/// reported a fault, the reported fault with the lowest number.
+/// The results of the threads of a run: the history and the receipts of each thread. If threads
+/// reported faults, also the reported fault with the lowest number.
 #[derive(Drop)]
 pub struct ThreadResults {
     pub history: Vec<Event>,

@@ -40,7 +40,7 @@ type MachineGuard<'a, 'b> = MutexGuard<'b, Held<CertifiedWorld<'a>>>;
 #[derive(Drop)]
 enum Wakeup {
     NoThread,
-    /// The threads whose actors are at a get.
+    /// The threads of actors that are at a get.
     AtGets,
     /// One worker thread of the pool.
     Worker(usize),
