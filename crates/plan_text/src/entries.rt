@@ -17,7 +17,7 @@ use std::marker::Model;
 use support::read_each;
 use toml::{Table, Value};
 
-/// A class whose body is not parsed yet. Its pool is still a name, and its actions are still texts.
+/// A class before its body is parsed. Its pool is still a name, and its actions are still texts.
 #[derive(Drop)]
 pub struct ClassEntry<'a> {
     pub name: &'a str,
@@ -31,7 +31,7 @@ impl<'a> Model for ClassEntry<'a> {
     ghost view = { λ k. record { name = k.name.now; pool = k.pool.now; body = map (λ text. text.now) k.body.items } };
 }
 
-/// A client kind whose body is not parsed yet. Its actions are still texts.
+/// A client kind before its body is parsed. Its actions are still texts.
 #[derive(Drop)]
 pub struct ClientEntry<'a> {
     pub name: &'a str,
