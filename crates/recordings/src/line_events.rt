@@ -27,8 +27,8 @@ pub(crate) fn event_of(line: &Line<'_>) -> Option<InvalidatingEvent>
     }
 }
 
-/// Returns the actor whose next line can discard the event. If the event is a get that timed out or
-/// was interrupted, this is the actor of the get. Returns `None` for any other event.
+/// Returns the actor of the get if the event is a get that timed out or was interrupted. The
+/// actor's next line can discard this event. Returns `None` for any other event.
 pub(crate) fn getter_of(event: InvalidatingEvent) -> Option<RecordedActor>
     ensures { result ≡ stored.getter_of event }
 {
