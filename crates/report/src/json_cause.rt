@@ -15,10 +15,9 @@ use serde_json::Value;
 use size_search::{Cause, NoSizes};
 use std::alloc::{AllocError, Global};
 
-/// Converts the reason why no sizes were found to a JSON object. Its members are the kind of the
-/// reason, its place in the plan's text, a message, and what the reason names: the class, the
-/// client kind or the pool, and the action. A member is null if the reason names nothing of its
-/// kind.
+/// Converts the reason why no sizes were found to a JSON object. The object has the kind of the
+/// reason, its place in the plan's text, and a message. It also has the class, client kind, pool or
+/// action that the reason names. A member is null if the reason names nothing of its kind.
 pub(crate) fn cause_value(
     alloc: Global,
     places: &PlanPlaces,

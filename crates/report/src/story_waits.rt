@@ -59,8 +59,8 @@ fn push_each(
     Ok(())
 }
 
-/// Appends a line that says what the job with this number waits for. Appends nothing if the job is
-/// neither in a queue nor at a get of a live job.
+/// Appends a line that says what the job with this number waits for. Appends nothing if the job
+/// does not wait in a queue or at a get of a live job.
 fn push_wait(text: &mut String, plan: &Plan, world: &World, number: usize) -> Result<(), AllocError>
     ensures { Pushes result text.old text.new (seen.wait_seen plan.now world.now.view number) }
 {
@@ -138,7 +138,7 @@ fn push_awaited(
     text.push('\n')
 }
 
-/// Returns the index of the class whose job the body of the class `class` submits at the position
+/// Returns the index of the class that the body of the class `class` submits at the position
 /// `submit`. Returns 0 if there is no submit at this position.
 fn submitted_in(plan: &Plan, class: usize, submit: usize) -> usize
     ensures { result ≡ spec.submitted_in plan.now class submit }
