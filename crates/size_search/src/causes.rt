@@ -38,9 +38,14 @@ pub fn cause_of(alloc: Global, plan: &Plan) -> Result<Option<Cause>, AllocError>
     Ok(None)
 }
 
-/// Returns whether a repeating client, or a job that results from its submits, submits a job to a
-/// pool that needs no bound and never gets this job. Then no sizes are enough for the plan's steady
-/// certificate. [`cause_of`] must have found no cause for the plan.
+/// Returns whether the plan has a submit without a get that meets two conditions:
+///
+/// - The submit goes to a pool that needs no bound.
+/// - It is in the body of a repeating client kind, or of a class that repeating clients submit,
+///   directly or through other jobs.
+///
+/// If so, no sizes are enough for the plan's steady certificate. [`cause_of`] must have found no
+/// cause for the plan.
 pub(crate) fn loses_without_bound(alloc: Global, plan: &Plan) -> Result<bool, AllocError>
     requires { IsWithoutCause plan.now }
     ensures loses { IfOk result (λ loses. loses ≡ true → LosesWithoutBound plan.now) }

@@ -152,7 +152,7 @@ fn is_tight(plan: &Plan, cert: &Cert, raised: &[Pool], number: usize) -> bool
     pool.queue < queue_needed(plan, &needs.bound, number, pool)
 }
 
-/// Returns [`Unfit::Queue`] with the number of the first raised pool whose queue is smaller than
+/// Returns [`Unfit::Queue`] with the number of the first raised pool that has a smaller queue than
 /// the certificate needs. Returns `None` if there is no such pool.
 fn tight_queue(plan: &Plan, cert: &Cert, raised: &[Pool]) -> Option<Unfit>
     requires well_formed { IsWellFormed plan.now }

@@ -51,9 +51,9 @@ fn next_levels(alloc: Global, plan: &Plan, levels: &[u64]) -> Result<Vec<u64>, A
     Ok(next)
 }
 
-/// Returns the level of each class in the steady certificate. The level is 0 if the class submits
-/// no class, and otherwise 1 more than the greatest level of the classes that it submits. This is
-/// so only if no class submits itself, directly or through other classes.
+/// Returns the level of each class in the steady certificate. No class should submit itself,
+/// directly or through other classes. The level is then 0 if the class submits no class, and
+/// otherwise 1 more than the greatest level of the classes that it submits.
 pub(crate) fn steady_levels(alloc: Global, plan: &Plan) -> Result<Vec<u64>, AllocError>
     ensures levels { IfOk result (λ levels. levels.items ≡ spec.steady_levels plan.now) }
     ensures well_formed { IsWellFormed plan.now }

@@ -44,8 +44,8 @@ fn widened_pools(alloc: Global, plan: &Plan, cert: &Cert) -> Result<Vec<Pool>, A
 /// Returns the plan with each maximum raised to the core that the certificate needs, if this core
 /// is larger. If the raises increase totals, the certificate can need still larger cores.
 ///
-/// Each raise is necessary. Consider any sizes with which the certificate accepts the plan, and
-/// whose maximums are no smaller than the plan's. Each of their maximums is at least the maximum of
+/// Each raise is necessary. Let the certificate accept the plan with other sizes, and let no
+/// maximum be smaller than in the plan. Then each maximum of these sizes is at least as large as in
 /// the returned plan.
 ///
 /// If the certificate does not fit the plan, or needs a core above 1,000,000, there are no such
