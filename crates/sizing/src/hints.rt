@@ -121,8 +121,8 @@ fn text_of(rt: &impl Files, alloc: Global, command: Command, name: &str) -> Opti
         .ok()
 }
 
-/// Returns a hint about the first file, whose content is `text`. Returns `None` if the file shows
-/// no known mistake. Also returns `None` for `ask`, whose answer already explains the mistake.
+/// Returns a hint about the first file, which has the content `text`. Returns `None` if the file
+/// shows no known mistake, and for `ask`, because its answer already explains the mistake.
 /// `is_alone` says whether the first file is the only file that the arguments name.
 fn hint_of_first(command: Command, text: &[u8], is_alone: bool) -> Option<Hint> {
     if let Command::OnRecording(RecordingCommand::Learn { .. }) = command {
@@ -163,8 +163,8 @@ fn hint_of_recording(text: &[u8]) -> Option<Hint> {
     }
 }
 
-/// Returns a hint about the second file, whose content is `text`. Returns `None` if the file shows
-/// no known mistake. Also returns `None` for `ask`, whose answer already explains the mistake.
+/// Returns a hint about the second file, which has the content `text`. Returns `None` if the file
+/// shows no known mistake, and for `ask`, because its answer already explains the mistake.
 fn hint_of_second(command: Command, text: &[u8]) -> Option<Hint> {
     match command {
         Command::OnRecording(RecordingCommand::Conform) => hint_of_recording(text),
