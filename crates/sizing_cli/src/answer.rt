@@ -127,7 +127,7 @@ pub fn bad_event(alloc: Global, line: u64) -> Result<Answer, AllocError>
     fault(format!(in alloc; "{} at line {line}", FaultHead(number::BAD_EVENT))?)
 }
 
-/// Returns the answer to a recording whose malformed line `found` names. If the malformed line ends
+/// Returns the answer to a recording with a malformed line, which `found` names. If this line ends
 /// with a carriage return, the answer says so.
 pub fn bad_recording(
     alloc: Global,

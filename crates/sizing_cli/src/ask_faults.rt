@@ -19,7 +19,7 @@ use report::{
 use std::alloc::{AllocError, Global};
 use support::number::{CERT_TOO_LONG, NOT_JSON, VERSION, WEIGHT_TOO_LARGE};
 
-/// Returns the answer to a plan's text whose first fault is `fault`. Messages use `file` as the
+/// Returns the answer to a plan's text with the first fault `fault`. Messages use `file` as the
 /// name of the plan's file.
 pub(crate) fn faults_answer(
     alloc: Global,

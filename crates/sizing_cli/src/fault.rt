@@ -16,8 +16,8 @@ const USAGE: u8 = 2;
 /// The exit status for any error other than bad arguments.
 const NO_ANSWER: u8 = 3;
 
-/// The reason why a command line got no complete answer. Nothing was written, unless the sink or
-/// the certificate's file failed.
+/// The reason why a command line got no complete answer. If neither the sink nor the certificate's
+/// file failed, nothing was written.
 #[derive(Debug, Drop)]
 pub enum CliError<'a> {
     /// An error of `clap`, or a request for help. Its `Display` writes `clap`'s own text for the

@@ -54,7 +54,7 @@ pub fn refute<R: Threads + Wait + Sync>(
     }
 }
 
-/// Returns the answer for this plan, whose text is `text`.
+/// Returns the answer for this plan, which was read from `text`.
 fn refute_plan<R: Threads + Wait + Sync>(
     rt: &R,
     alloc: Global,
