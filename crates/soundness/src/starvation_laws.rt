@@ -30,14 +30,14 @@ pub fn no_loose_waiting_sets()
 {}
 
 /// States how the work of a new job adds up, if the rows (the conditions) of the ranks hold. The
-/// work is one event for each action, one for the job's take from the queue and one for its end,
-/// plus the work of the jobs that it submits.
+/// work is a number of events: one for each action, one for the take of the job from the queue, and
+/// one for the end of the job. The work of the jobs that it submits is added.
 pub fn full_is_whole()
     ensures { FullIsWhole }
 {}
 
-/// States that the work of a new job is the same for all ranks whose rows (conditions) hold. It is
-/// the number of events of the job and of all jobs that it causes.
+/// States that the work of a new job is the same for all ranks that satisfy their rows (the
+/// conditions). The work is the number of events of the job and of all jobs that it causes.
 pub fn full_is_of_the_plan()
     ensures { FullIsOfThePlan }
 {}
