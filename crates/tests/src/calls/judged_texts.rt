@@ -70,7 +70,7 @@ pub(crate) const ONE_POOL_CERT: &str = r#"{"version": 1, "pools": [{
     "blocked": {"workers": [0], "classes": [[0, 0, 0, 0]], "clients": [[0, 0, 0]]}}],
     "ranks": {"pools": [0], "reach": [0], "levels": [0]}}"#;
 
-/// The certificate of a plan whose pool may reject jobs. The certificate bounds no queue.
+/// The certificate of a plan with a pool that may reject jobs. The certificate bounds no queue.
 pub(crate) const WITHOUT_BOUND: &str = r#"{"version": 2, "pools": [{
     "blocked": {"workers": [0], "classes": [[0, 0, 0, 0]], "clients": [[0, 0, 0]]}}],
     "ranks": {"pools": [0], "reach": [0], "levels": [0]}}"#;

@@ -20,7 +20,7 @@ fn question(given: AskInput, strict: bool, form: Form) -> Command
     })
 }
 
-/// Returns the answer to an input whose kind begins with `ask`.
+/// Returns the answer to an input of a kind that begins with `ask`.
 pub fn asked<R: Threads + Wait + Sync>(
     rt: &R,
     alloc: Global,
