@@ -127,8 +127,8 @@ fn visit_action_rows<V: RowVisitor>(
     }
 }
 
-/// Passes the conditions for class `number` to the visitor: first K1, and then, in the order of the
-/// body, K2 for each get and K3 for each submit.
+/// Passes the conditions for class `number` to the visitor. First comes K1. Then come, in the order
+/// of the body, K2 for each get and K3 for each submit.
 fn visit_class_rows<V: RowVisitor>(
     plan: &Plan,
     ranks: &Ranks,
