@@ -25,9 +25,9 @@ pub enum Finding {
     Pool(PoolDeviation),
     /// A label that is not in the plan. A label is a class with its pool, or a client kind.
     NotPlanned(NotPlanned),
-    /// For a label of the plan, the first actor, by number, with a path that matches no body, and
-    /// the line of the first step of this actor that no body explains. A label is a class with its
-    /// pool, or a client kind.
+    /// For a label of the plan, the first actor, by number, with a path that matches no body. The
+    /// line is that of the first step of this path that no body explains. A label is a class with
+    /// its pool, or a client kind.
     PathMismatch {
         line: Option<usize>,
         mismatch: PathMismatch,

@@ -14,8 +14,12 @@ use job_bodies::Plan;
 use recordings::Line;
 use std::alloc::{AllocError, Global};
 
-/// Four sets of pools: for each of the handlers `abort`, `caller_runs` and `discard`, the pools
-/// with a line that names another handler, and in addition the pools that are shut down.
+/// Four sets of pools, from the lines read so far:
+///
+/// - the pools with a line that names a handler other than `abort`;
+/// - the pools with a line that names a handler other than `caller_runs`;
+/// - the pools with a line that names a handler other than `discard`;
+/// - the pools that are shut down.
 #[derive(Drop)]
 pub(crate) struct Handlers {
     not_abort: PoolNames,

@@ -63,7 +63,8 @@ impl OtherKinds {
     }
 }
 
-// Returns the round and the kind that it counts as, if that is not the first kind of its label.
+// Returns the round and the kind for which it is counted, if this is not the first kind of its
+// label.
 fn other_kind(plan: &Plan, settled: &ClassifiedActor) -> Option<(usize, Option<usize>)>
     ensures { result ≡ spec.other_kind_of plan.now settled.now }
 {
