@@ -39,8 +39,8 @@ pub(crate) fn recorded_pool(alloc: Global, name: &str, sizes: PoolSizes) -> Resu
     })
 }
 
-// Returns the maximum of a pool with this core. Over an unbounded queue, where the maximum has no
-// effect, this is the core, as in the text of a plan.
+// Returns the maximum of a pool with this core. If the queue is unbounded, the maximum has no
+// effect, and the result is the core, as in the text of a plan.
 fn planned_max(core: u64, sizes: PoolSizes) -> u64
     ensures { result ≡ spec.planned_max core sizes }
 {
@@ -51,8 +51,8 @@ fn planned_max(core: u64, sizes: PoolSizes) -> u64
     }
 }
 
-// Returns the capacity of the queue. Of an unbounded one, whose capacity has no effect, this is the
-// largest size of a plan, as in the text of a plan.
+// Returns the capacity of the queue. If the queue is unbounded, the capacity has no effect, and the
+// result is the largest size of a plan, as in the text of a plan.
 fn planned_queue(sizes: PoolSizes) -> u64
     ensures { result ≡ spec.planned_queue sizes }
 {
@@ -63,7 +63,7 @@ fn planned_queue(sizes: PoolSizes) -> u64
     }
 }
 
-// Returns the least capacity of such a queue in a plan.
+// Returns the least capacity that a plan allows for a queue of this kind.
 fn least_capacity(sizes: PoolSizes) -> u64
     ensures { result ≡ spec.least_capacity sizes }
 {
