@@ -1,5 +1,5 @@
-//! The reaches of classes. The reach of a class is the maximum of the rank of its pool and of the
-//! reaches of the classes whose jobs it gets.
+//! The reaches of classes. The reach of a class is the greatest of these numbers: the rank of the
+//! class's pool, and the reach of the class of each job that it gets.
 
 ghost use Rattle.std.specs.Prelude.{◌≡◌, IfOk, length, vec_len};
 
