@@ -1,6 +1,6 @@
 //! The bound of a queue as JSON, with the shares in it, and the maximum number of core threads that
-//! wait. A share is the part of a bound that the clients of one kind, or the threads of one pool,
-//! account for.
+//! wait. The bound is the total of a vector. The share of a client kind in the bound is the weight
+//! of all its clients, and the share of a pool is the weight of all its threads.
 
 ghost use Rattle.std.specs.Prelude.{◌≡◌, ◌++◌, IfOk, IsTrue, OnOk, map};
 ghost use Rattle.serde_json.specs.View.{view};

@@ -1,6 +1,5 @@
-//! The shares of clients and threads in a bound. A share is the part of the bound that the clients
-//! of one kind, or the threads of one pool, account for. The bound is the total of a vector of
-//! weights of a certificate.
+//! The total of a vector of a certificate as a sum of shares. The share of a client kind is the
+//! weight of all its clients at their start. The share of a pool is the weight of all its threads.
 
 ghost use Rattle.std.specs.Prelude.{◌≡◌, ◌+◌, IfOk, IsTrue, sum};
 ghost use Rattle.weights.specs.Vector.{total, vector_fits};
