@@ -1,5 +1,5 @@
-//! The gate that the program uses, which never blocks. Runs, searches and checks on threads call a
-//! gate.
+//! The gate that the program uses. A gate is a hook that runs, searches and checks on threads call.
+//! This gate never blocks.
 
 use cert_check::PoolGate;
 use locked_runner::{Actor, Gate, GateFault};
