@@ -3,8 +3,8 @@
 //! pool, or a *lifetime vector*, which bounds the number of all jobs that are ever submitted to it.
 //! The *blocked vector* bounds the number of the pool's jobs that wait at gets of classes whose
 //! reach is at least the rank of the pool. The *reach* of a class is the greatest of these numbers:
-//! the rank of the class's pool, and the reach of the class of each job that it gets. A pool that may
-//! reject jobs or has an unbounded queue needs no bound, but can have one.
+//! the rank of the class's pool, and the reach of the class of each job that it gets. A pool that
+//! may reject jobs or has an unbounded queue needs no bound, but can have one.
 
 ghost use Rattle.std.specs.Prelude.{◌<◌, IfOk, IfSome, IsTrue, length};
 ghost use Rattle.weights.specs.Vector.{vector_fits};
