@@ -1,7 +1,7 @@
 //! The line of a pool in the text for a plan that a certificate accepts: the number of its threads,
-//! the bound of its queue and the shares in the bound. The bound is the total of a vector. The share
-//! of a client kind in the bound is the weight of all its clients, and the share of a pool is the
-//! weight of all its threads.
+//! the bound of its queue and the shares in the bound. The bound is the total of a vector. The
+//! share of a client kind in the bound is the weight of all its clients, and the share of a pool is
+//! the weight of all its threads.
 
 ghost use Rattle.std.specs.Prelude.{◌≡◌, ◌++◌, IsTrue, OnOk, map, string_bytes};
 ghost use Rattle.support.specs.Pushed.{Pushes};
