@@ -59,15 +59,14 @@ impl Entries {
     }
 
     /// Changes the body of an entry with this label and pool so that the path and the entry's
-    /// earlier paths match it. If no such body is found for any entry, adds an entry for this path
-    /// alone. Returns the assignment of the path to the entry.
+    /// earlier paths match it. Returns the assignment of the path to the entry.
     ///
-    /// Skips the entries of the classes that `reachable` marks, which the path reaches by its
-    /// submits (see [`reachable_classes`]). Otherwise a job of such a class would lead to jobs of
-    /// its own class without end.
-    ///
-    /// Returns `None` if no entry has this label and pool. Also returns `None` if no body is found
-    /// for the path alone, and then the added entry remains.
+    /// - If no such body is found for any entry, adds an entry for this path alone.
+    /// - Skips the entries of the classes that `reachable` marks, because the path leads to jobs of
+    ///   these classes (see [`reachable_classes`]). A job of such a class would otherwise lead to
+    ///   jobs of its own class without end.
+    /// - Returns `None` if no entry has this label and pool.
+    /// - Returns `None` if no body is found for the path alone. The added entry then remains.
     ///
     /// # Errors
     ///
