@@ -8,9 +8,10 @@ ghost use Rattle.report.specs.JsonObject as spec;
 use serde_json::{Map, Value, put};
 use std::alloc::{AllocError, Global};
 
-/// A JSON object that is being built. If memory runs out, it keeps the error until `done`, so a
-/// function that builds an object needs no early return. (An early return drops what the function
-/// owns, and most of the time of a check goes into such drops.)
+/// A JSON object that is being built. If memory runs out, the object keeps the error until
+/// [`done`](Object::done) returns it. So a function that builds an object has no early return.
+///
+/// The proof of a function takes longest for what the function drops at each early return.
 #[derive(Drop)]
 pub(crate) struct Object {
     alloc: Global,
