@@ -52,8 +52,8 @@ dist:
 release-notes:
 	@tools/version --notes
 
-# Runs every test, every worked row and each program's stored run before any proof: about 6 minutes on four cores. It
-# proves nothing.
+# Runs every test, every worked row but the long ones, and each program's stored run before any proof: about 6 minutes on
+# four cores. It proves nothing.
 test:
 	@tools/test
 
