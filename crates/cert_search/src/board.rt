@@ -15,15 +15,16 @@ use std::marker::Model;
 /// The state of a pool on the board of a round.
 #[derive(Clone, Copy, PartialEq, Eq)]
 pub(crate) enum PoolStatus {
-    /// A pool that no worker has claimed.
+    /// A pool that no thread of the search has claimed.
     Free,
-    /// A pool that a worker has claimed and not given back.
+    /// A pool that a thread of the search has claimed and not given back.
     Claimed,
-    /// A pool that a worker has given back in this round, or that has a rank from an earlier round.
+    /// A pool that a thread of the search has given back in this round, or that has a rank from an
+    /// earlier round.
     Done,
 }
 
-/// An action of a worker on the board of a round.
+/// An action of a worker, which is a thread of the search, on the board of a round.
 #[derive(Clone, Copy, PartialEq, Eq)]
 pub(crate) enum BoardEvent {
     /// Claims the free pool with this number.
@@ -131,8 +132,8 @@ impl PoolStatuses {
     }
 }
 
-/// The board of a round, on which workers claim the pools without a rank. Each of these pools can
-/// be claimed only once.
+/// The board of a round, on which the threads of the search claim the pools without a rank. Each of
+/// these pools can be claimed only once.
 #[derive(Drop)]
 pub(crate) struct Board {
     /// For each pool, whether it has a rank from an earlier round.

@@ -23,7 +23,8 @@ use std::thread::Threads;
 pub enum SearchFault {
     /// Memory ran out, or a thread could not be started.
     Memory,
-    /// The workers of a round were inconsistent, in one of these ways:
+    /// The workers of a round, which are threads of the search, were inconsistent, in one of these
+    /// ways:
     ///
     /// - A worker claimed a pool that the plan does not have.
     /// - A worker gave back a pool that was not claimed.

@@ -17,7 +17,7 @@ use std::sync::Wait;
 use std::sync::atomic::{AtomicBool, Ordering};
 use weights::{Bound, Vector, submitted_class};
 
-/// The data that all workers of a round share.
+/// The data that all workers (threads of the search) share in a round.
 #[derive(Clone, Copy)]
 pub(crate) struct Round<'a> {
     pub(crate) plan: &'a Plan,

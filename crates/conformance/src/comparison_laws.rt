@@ -15,9 +15,9 @@ pub fn pools_are_as_planned()
     ensures recorded { PoolsAreRecorded }
 {}
 
-/// States that client kinds with too many rounds can be found line by line. If no line shows too
-/// many rounds of a kind, each kind has at most as many rounds as the plan allows, after every
-/// line.
+/// States that a check of each line finds every client kind with too many rounds. If the check finds
+/// none in any line of a recording, then after each line every kind has at most as many rounds as
+/// the plan allows.
 pub fn rounds_are_within_plan()
     ensures adds_up { ExcessesAddUp }
     ensures within { RoundsAreWithinPlan }

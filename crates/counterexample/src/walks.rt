@@ -25,7 +25,8 @@ pub(crate) enum Violation {
     /// Some jobs wait only for each other, and each pool that has one of these jobs in its queue
     /// has `max` threads.
     StuckForever,
-    /// Some jobs wait only for each other. A later event may end their wait.
+    /// Some jobs wait only for each other now. A later event may end their wait, such as the start of
+    /// another thread.
     StuckNow,
 }
 

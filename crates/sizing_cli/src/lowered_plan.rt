@@ -25,15 +25,14 @@ pub(crate) struct LoweredPlan {
 }
 
 /// Searches for a certificate of the lowered plan, which is the plan with each maximum lowered to
-/// the core size of its pool. Returns `None` if no certificate is found and, without a search, in
-/// these cases:
+/// the core size of its pool. Returns `None` if the search finds no certificate.
+///
+/// Returns `None` without a search if one of these holds:
 ///
 /// - No maximum is above the core size of its pool.
 /// - A pool whose maximum is above its core size may reject jobs.
-/// - `finding` already says whether the plan is safe.
-///
-/// In all other cases, both plans behave alike until the lowered plan refuses a submit. So if the
-/// plan is not safe, the lowered plan is not safe either.
+/// - `finding` already says whether the plan is safe. A plan that is not safe needs no search: both
+///   plans behave alike until the lowered plan refuses a submit, so it is not safe either.
 ///
 /// # Errors
 ///
