@@ -268,9 +268,8 @@ fn push_invalidations(
     push_refusal(findings, alloc, recording, first_refusal_in(refusals))
 }
 
-/// Returns the first refusal that the plan does not allow. Returns `None` if there is no such
-/// refusal. Also returns `None` if `refusals` is `None`, because no pool of the plan may reject
-/// jobs.
+/// Returns the first refusal in `refusals` that the plan does not allow. `refusals` is `None` for a
+/// plan in which no pool may reject jobs, and then the result is `None`, too.
 fn first_refusal_in(refusals: &Option<Rejections>) -> Option<Invalidation>
     ensures { result ≡ spec.first_refusal_in refusals.now }
 {

@@ -27,10 +27,10 @@ use weights::Vector;
 /// - `standing` should be empty or have one vector for each pool, which may prove that the pool
 ///   never has more than `core` threads.
 ///
-/// The events are performed in order. If a pool rejects a job as the plan allows, the submit is not
-/// refused.
+/// The events are performed in order. A submit is *refused* only if its pool has no room for the job
+/// and must not reject jobs. A rejection that the plan allows is an event like any other.
 ///
-/// - If a submit is refused, the witness ends with this event, and later events are removed.
+/// - If a submit is refused, returns a witness that ends with this event, without the later events.
 /// - If an event is not possible, and no submit was refused before it, returns `None`.
 /// - Otherwise, if the members are in ascending order and wait only for each other after the
 ///   events, returns a witness with all events. If they are not, returns `None`.

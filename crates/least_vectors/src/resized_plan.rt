@@ -38,9 +38,9 @@ pub enum Kind<'a> {
     Standing,
     /// A lifetime vector. No workers have weight.
     Lifetime,
-    /// A blocked vector of a pool with the rank `rank`. The workers of this pool never have weight.
-    /// With weight, all of them together would weigh at least as much as the core size, but the
-    /// total must be below the core size.
+    /// A blocked vector of a pool with the rank `rank`. Each worker of this pool weighs 0. If each
+    /// weighed at least 1, all of them would weigh at least the core size, and the total of the
+    /// vector must be below that.
     Blocked {
         /// The reach of each class. It is the greatest of these numbers: the rank of the class's
         /// pool, and the reach of the class of each job that it gets.

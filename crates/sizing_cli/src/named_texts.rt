@@ -52,9 +52,9 @@ pub(crate) fn read_texts<'a, F: TextFiles, S: Source>(
     }
 }
 
-/// Reads the two texts of the command and joins them. It is an error if one of them is itself a
-/// bundle, so the joined text splits into the same two again. The recording of `conform` may have
-/// lines `%%`, since `conform` splits at the first one.
+/// Reads the two texts of the command, and joins them with a line `%%` so that the result splits
+/// into the same two texts again. So a text that has a line `%%` itself is an error, except the
+/// recording of `conform`: this command splits at the first such line.
 fn read_both<'a, F: TextFiles, S: Source>(
     alloc: Global,
     command: Command,

@@ -36,8 +36,9 @@ pub fn full_is_whole()
     ensures { FullIsWhole }
 {}
 
-/// States that the work of a new job is the same for all ranks that satisfy their rows (the
-/// conditions). The work is the number of events of the job and of all jobs that it causes.
+/// States that the plan determines the work of a new job: it is the same for all ranks that satisfy
+/// their rows (the conditions), although the definition of work mentions ranks. The work is the
+/// number of events of the job and of all jobs that it causes.
 pub fn full_is_of_the_plan()
     ensures { FullIsOfThePlan }
 {}
