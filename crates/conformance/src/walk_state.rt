@@ -149,8 +149,8 @@ impl WalkState {
         }
     }
 
-    /// Finds the first get that the body cannot pass, and returns the first open job of the path that
-    /// has the class of this get. Returns `None` if the body can be at its end.
+    /// Finds the first get that the body cannot pass, and returns the first open job of the path
+    /// that has the class of this get. Returns `None` if the body can be at its end.
     pub(crate) fn missing_job(&self, body: &[Action], gets: &[Option<BodyGet>]) -> Option<usize>
         requires gets { AreGets body.now gets.now }
         requires tables { spec.HasTables body.now self.now }

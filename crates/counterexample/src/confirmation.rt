@@ -27,8 +27,8 @@ use weights::Vector;
 /// - `standing` should be empty or have one vector for each pool, which may prove that the pool
 ///   never has more than `core` threads.
 ///
-/// The events are performed in order. A submit is *refused* only if its pool has no room for the job
-/// and must not reject jobs. A rejection that the plan allows is an event like any other.
+/// The events are performed in order. A submit is *refused* only if its pool has no room for the
+/// job and must not reject jobs. A rejection that the plan allows is an event like any other.
 ///
 /// - If a submit is refused, returns a witness that ends with this event, without the later events.
 /// - If an event is not possible, and no submit was refused before it, returns `None`.
