@@ -84,7 +84,7 @@ happens_other plan a body i m s s' o kept other stands (works b bd k u at) = rec
   jobs = keeps_moved plan a m s b bd k (k + 1) at.stands;
 }
 happens_other plan a body i m s s' o kept other stands (starts b bd k c at room) = other_submits plan a b body bd i m k c (Stage.At 0) s (other_actor a b other) stands at.stands
-happens_other plan a body i m s s' o kept other stands (queues b bd k c at core room) =
+happens_other plan a body i m s s' o kept other stands (queues b bd k c at room) =
     let submits = other_submits plan a b body bd i m k c Stage.Queued s (other_actor a b other) stands at.stands in
     record { stands = point_same plan (with_job (new_job c b k Stage.Queued) (with_position b (k + 1) s)) (queued_state plan s b k c) a refl refl ∙ submits.stands; jobs = submits.jobs }
 happens_other plan a body i m s s' o kept other stands (is_refused b bd k c at must full all) = record {
@@ -109,7 +109,7 @@ happens_other plan a body i m s s' o kept other stands (takes p j queue idle is_
           ∙ stands_staged plan s a j (Stage.At 0) body i (not_that_job plan s a j body i (λ n at. queued_not_at n queued at) stands) stands;
       jobs = keeps_staged a m s.jobs j (Stage.At 0) (λ own. (at_not_claimed 0, λ done. absurd (queued_not_done queued done)));
     }
-happens_other plan a body i m s s' o kept other stands (retires p idle is_idle above not_handed) = record {
+happens_other plan a body i m s s' o kept other stands (retires p idle is_idle not_handed) = record {
   stands = point_same plan s s' a refl refl ∙ stands;
   jobs = keeps_same a m s.jobs;
 }
