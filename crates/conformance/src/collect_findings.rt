@@ -25,11 +25,7 @@ use recordings::{InvalidatingEvent, Invalidation, RecordedActor, RecordedNotes};
 use std::alloc::{AllocError, Global};
 
 /// Returns the findings of the survey together with those for `excesses` and `refusals`. The list
-/// is not sorted.
-///
-/// # Errors
-///
-/// Returns `AllocError` if memory runs out.
+/// is not sorted. Fails if memory runs out.
 pub(crate) fn collect_findings(
     alloc: Global,
     plan: &Plan,
@@ -355,13 +351,9 @@ fn push_event(
     Ok(())
 }
 
-/// Returns the class and the pool that a message about the event names:
-///
-/// - for a call of `invokeAny`, the class or kind of the calling actor, and the pool of the first
-///   such call;
-/// - for jobs that no line submits, an empty name, and the pool of the first line that reports such
-///   jobs;
-/// - for any other event, the class and the pool of the event's job.
+/// Returns the class and the pool of the event's job, which a message names. For a call of
+/// `invokeAny` these are the caller's class or kind and the pool of the first such call. For jobs
+/// that no line submits, the name is empty, and the pool is that of the first line about them.
 fn subject_of(
     alloc: Global,
     recording: &[u8],
@@ -392,11 +384,8 @@ fn subject_of(
     }
 }
 
-/// Returns true if the event invalidates a SAFE answer, even if the path of its actor matches a
-/// body. The result is false only in these cases:
-///
-/// - The event is a get that timed out or was interrupted.
-/// - The event is a refusal, and `without_refusals` is true.
+/// Returns false if the event is a get that timed out or was interrupted, or if it is a refusal and
+/// `without_refusals` is true. Any other event invalidates a SAFE answer.
 fn is_counted(without_refusals: bool, invalidation: Invalidation) -> bool
     ensures { result ≡ spec.is_counted without_refusals invalidation }
 {

@@ -25,8 +25,7 @@ pub(crate) enum Violation {
     /// Some jobs wait only for each other, and each pool that has one of these jobs in its queue
     /// has `max` threads.
     StuckForever,
-    /// Some jobs wait only for each other now. A later event may end their wait, such as the start of
-    /// another thread.
+    /// Some jobs wait only for each other now. A later event, such as a new thread, may change that.
     StuckNow,
 }
 
@@ -74,8 +73,7 @@ pub(crate) struct Walk<'a> {
     pub(crate) machine: Machine<'a>,
     pub(crate) choices: &'a Choices,
     pub(crate) script: Script,
-    /// For each choice, the actors that are at the submit of this choice, in the order in which
-    /// they arrived there.
+    /// For each choice, the actors at its submit, in the order in which they arrived there.
     pub(crate) ready: Vec<Vec<Parent>>,
     /// For each client kind, the number of its clients that have started their bodies.
     pub(crate) begun: Vec<u64>,
@@ -88,11 +86,7 @@ pub(crate) struct Walk<'a> {
 
 /// Performs a walk by these rules from the plan's initial state, guided by the vector `potential`
 /// if there is one. After each choice, performs the steps that need no further choice. The walk
-/// ends if
-///
-/// - a submit is refused or a permanent violation is found,
-/// - no choice is possible, or
-/// - the limit of states is reached.
+/// ends at a violation, if no choice is possible, or at the limit of states.
 pub(crate) fn perform_walk<'a>(
     alloc: Global,
     plan: &'a Plan,
@@ -179,8 +173,7 @@ impl<'a> Walk<'a> {
         Ok(if now { Some(Violation::StuckNow) } else { None })
     }
 
-    /// Makes the choice that [`first_possible`](Walk::first_possible) returns. Does nothing if no
-    /// choice is possible.
+    /// Makes the choice of [`first_possible`](Walk::first_possible), if there is one.
     fn step(
         &mut self,
         rules: &Rules,
@@ -200,9 +193,8 @@ impl<'a> Walk<'a> {
 
     /// Makes the choice with this index. If the choice needs an actor that is ready for it, `newer`
     /// selects the actor: 0 for the one that became ready last, 1 for the one before, and so on.
-    /// Changes nothing and returns [`WalkStep::Nothing`] if the choice is not possible.
-    ///
-    /// The start of a new client is not checked, and must be possible.
+    /// Changes nothing and returns [`WalkStep::Nothing`] if the choice is not possible. The start of
+    /// a new client is not checked, and must be possible.
     pub(crate) fn choose(&mut self, place: usize, newer: usize) -> Result<WalkStep, AllocError> {
         match self.choices.all.get(place).copied() {
             Some(Choice::Begin(kind)) => {
@@ -285,8 +277,7 @@ impl<'a> Walk<'a> {
         }
     }
 
-    /// Returns `true` if some client of the client kind has not moved, and the body of the kind has
-    /// a submit.
+    /// Returns `true` if a client of the kind has not moved, and the kind's body has a submit.
     pub(crate) fn has_more(&self, kind: usize) -> bool {
         let Some(client) = self.machine.plan.client_at(kind) else {
             return false;
@@ -333,8 +324,7 @@ impl<'a> Walk<'a> {
         Ok(WalkStep::Advanced)
     }
 
-    /// Performs the first submit of a new client. The client must be at this submit, and must be
-    /// the last actor that became ready for it.
+    /// Performs the first submit of a new client, the last actor that became ready for it.
     fn submit_of(&mut self, client: Parent) -> Result<WalkStep, AllocError> {
         let place = match self.machine.point(client) {
             Some((position, _)) => self.choices.place_of(&self.machine, client, position),
@@ -398,8 +388,7 @@ impl<'a> Walk<'a> {
         Ok(())
     }
 
-    /// Adds the actor, which is at a submit, to the list of the actors that are ready for this
-    /// submit.
+    /// Adds the actor, which is at a submit, to the actors that are ready for it.
     fn add_ready(&mut self, actor: Parent, position: usize) -> Result<(), AllocError> {
         let place = self.choices.place_of(&self.machine, actor, position);
         if let Some(ready) = place.and_then(|place| self.ready.get_mut(place)) {
