@@ -1,5 +1,5 @@
 -- Small plans and certificates for them. proofs/WorkedVerdicts.antt computes their verdicts.
-use Rattle.std.proofs.Common.{ℕ, List, [], ◌∷◌, Option, Some, None, Bool, true, false}
+use Rattle.std.proofs.Common.{ℕ, List, [], ◌∷◌, map, Option, Some, None, Bool, true, false}
 use Rattle.job_bodies.specs.declared.action.Action.{Action}
 use Rattle.job_bodies.specs.declared.action.Action.TheVariants.{Work, Submit, Get}
 use Rattle.job_bodies.specs.Plan.{Plan, Pool, Class, Client}
@@ -12,7 +12,7 @@ use Rattle.cert_text.specs.Cert.{Cert, PoolCert}
 -- ---- parts of plans, each with a name of one letter
 
 abbrev pub a_pool : ℕ → ℕ → ℕ → ℕ → Bool → Pool
-a_pool letter core max queue prestart = record { name = letter ∷ []; core = core; max = max; queue = queue; prestart = prestart; may_reject = false; unbounded = false }
+a_pool letter core max queue prestart = record { name = letter ∷ []; core = core; max = max; queue = queue; prestart = prestart; may_reject = false; unbounded = false; core_timeout = false }
 
 abbrev pub a_class : ℕ → ℕ → List Action → Class
 a_class letter pool body = record { name = letter ∷ []; pool = pool; body = body }
@@ -60,6 +60,10 @@ unbounded_queue threads count = one_class (unbounded_pool threads) (clients 99 c
 -- a plan of one client that submits a job and never waits for it, once or repeatedly
 abbrev pub forgetting : Bool → Plan
 forgetting repeat = one_class (a_pool 112 1 1 2 false) (clients 99 1 repeat (Submit 0 ∷ []))
+
+-- the plan with core threads that may time out in each pool
+abbrev pub timing_out : Plan → Plan
+timing_out plan = record plan { pools = map (λ (pool : Pool). record pool { core_timeout = true }) plan.pools }
 
 -- a plan like `forgetting` with a client that repeats, but the queue is unbounded
 abbrev pub forgetting_unbounded : Plan

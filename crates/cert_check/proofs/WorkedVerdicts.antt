@@ -13,7 +13,7 @@ use Rattle.soundness.specs.declared.note.Section.TheVariants as section
 use Rattle.soundness.specs.Conditions.{note, failing}
 use Rattle.cert_check.specs.declared.answer.PoolLine.{PoolLine}
 use Rattle.cert_check.specs.Verdict.{Verdict, verdict}
-use Rattle.cert_check.proofs.WorkedPlans.{no_parts, one_pool, one_pool_once, rejecting, forgetting, forgetting_unbounded, unbounded_queue, nested, nested_rejecting, nested_unbounded, fan_out, front_and_back, two_pools, there_and_back, no_parts_cert, standing_cert, cert_without_bound, faulty_cert, lifetime_cert, forgetting_cert, forgetting_cert_without_bound, nested_ranks, nested_cert, nested_cert_without_bound, fan_out_cert, front_and_back_cert, two_pools_cert, there_and_back_cert}
+use Rattle.cert_check.proofs.WorkedPlans.{no_parts, one_pool, one_pool_once, rejecting, forgetting, forgetting_unbounded, unbounded_queue, timing_out, nested, nested_rejecting, nested_unbounded, fan_out, front_and_back, two_pools, there_and_back, no_parts_cert, standing_cert, cert_without_bound, faulty_cert, lifetime_cert, forgetting_cert, forgetting_cert_without_bound, nested_ranks, nested_cert, nested_cert_without_bound, fan_out_cert, front_and_back_cert, two_pools_cert, there_and_back_cert}
 
 abbrev yes : List PoolLine → Verdict
 yes pools = record { yes = true; pools = pools }
@@ -173,6 +173,26 @@ nested_unbounded_two_workers = refl
 
 pub nested_unbounded_one_worker_fails : failing (nested_unbounded 1) nested_cert_without_bound ≡ note (section.Blocked 0) (row B2 place.Total 1 0) ∷ []
 nested_unbounded_one_worker_fails = refl
+
+-- ---- core threads that may time out
+
+-- with eight core threads no job may wait for a queued job, because seven of them may have ended
+pub nested_timing_out : verdict (timing_out (nested 8 8 false)) nested_cert ≡ no (standing 1 5 1 0 ∷ [])
+nested_timing_out = refl
+
+pub nested_timing_out_fails : failing (timing_out (nested 8 8 false)) nested_cert ≡ note (section.Blocked 0) (row B2 place.Total 1 0) ∷ []
+nested_timing_out_fails = refl
+
+-- the threads are no room for jobs, because some of them may have started without a job
+pub lifetime_timing_out : verdict (timing_out (one_pool_once 2 2 1 3 false)) lifetime_cert ≡ no (lifetime 3 1 0 0 ∷ [])
+lifetime_timing_out = refl
+
+pub lifetime_timing_out_fails : failing (timing_out (one_pool_once 2 2 1 3 false)) lifetime_cert ≡ note (section.Lifetime 0) (row L3 place.Total 3 1) ∷ []
+lifetime_timing_out_fails = refl
+
+-- a queue of three holds all three jobs
+pub lifetime_timing_out_queue : verdict (timing_out (one_pool_once 2 2 3 3 false)) lifetime_cert ≡ yes (lifetime 3 3 0 0 ∷ [])
+lifetime_timing_out_queue = refl
 
 -- ---- jobs that wait for jobs of their own pool
 

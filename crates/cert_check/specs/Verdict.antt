@@ -1,7 +1,7 @@
 -- The verdict on a plan and a certificate.
 use Rattle.std.specs.Prelude.{ℕ, ◌-◌, Bool, if◌then◌else◌, List, map, Option, Some, None}
 use Rattle.std.specs.List.{enumerate_from}
-use Rattle.job_bodies.specs.Plan.{Plan, pool_at}
+use Rattle.job_bodies.specs.Plan.{Plan, pool_at, least_threads}
 use Rattle.weights.specs.declared.bound.Bound.{Bound}
 use Rattle.weights.specs.Vector.{total}
 use Rattle.weights.specs.Bound.{bound_vector, bound_limit, is_lifetime}
@@ -24,7 +24,7 @@ abbrev pub pool_line : Plan → Cert → ℕ → PoolLine
 pool_line plan cert p = record {
   bound = bound_total plan p (pool_cert_at cert p).bound;
   blocked = total plan (pool_cert_at cert p).blocked;
-  limit = (pool_at plan p).core - 1;
+  limit = least_threads (pool_at plan p) - 1;
 }
 
 pub record Verdict : Type 0 where

@@ -26,7 +26,7 @@ pub struct PoolLine {
     /// The total of the blocked vector. If the certificate accepts the plan, this total bounds the
     /// number of the pool's jobs that wait at [counted](weights::Counted) gets.
     pub blocked: u64,
-    /// The limit of `blocked`: one less than the core size.
+    /// The limit of `blocked`: one less than the core size, or 0 if core threads may time out.
     pub limit: u64,
 }
 

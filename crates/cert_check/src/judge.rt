@@ -56,7 +56,7 @@ pub(crate) fn pool_line(plan: &Plan, cert: &Cert, pool: usize) -> PoolLine
     PoolLine {
         bound: bound_total(plan, pool, &of_pool.bound),
         blocked: of_pool.blocked.total(plan),
-        limit: sizes.core - 1,
+        limit: sizes.least_threads() - 1,
     }
 }
 

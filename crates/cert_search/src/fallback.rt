@@ -1,6 +1,7 @@
 //! The steady certificate, which the search tries if the rounds find no certificate. It has one
-//! vector, which is the blocked vector of every pool and the bound of each pool that needs one. A
-//! pool that may reject jobs or has an unbounded queue has no bound in it.
+//! vector, which is the blocked vector of every pool whose core threads never time out and the bound
+//! of each pool that needs one. The other blocked vectors are 0. A pool that may reject jobs or has
+//! an unbounded queue has no bound in it.
 
 ghost use Rattle.std.specs.Prelude.{◌≡◌, false, IfOk, IfSome, IfNone, IsTrue};
 ghost use Rattle.job_bodies.specs.WellFormed.{IsWellFormed};

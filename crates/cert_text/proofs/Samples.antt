@@ -14,7 +14,7 @@ use Rattle.cert_text.proofs.OnLiterals.{cert_on_literals}
 -- a plan of one pool, one class and one client kind
 abbrev plan : Plan
 plan = record {
-  pools = record { name = codes "p"; core = 1; max = 1; queue = 2; prestart = false; may_reject = false; unbounded = false } ∷ [];
+  pools = record { name = codes "p"; core = 1; max = 1; queue = 2; prestart = false; may_reject = false; unbounded = false; core_timeout = false } ∷ [];
   classes = record { name = codes "a"; pool = 0; body = Work 1 ∷ [] } ∷ [];
   clients = record { name = codes "c"; count = 2; repeat = true; body = Submit 0 ∷ Get 0 ∷ [] } ∷ [];
 }
@@ -63,7 +63,7 @@ reads_lifetime = refl
 
 -- a plan like `plan`, but its pool may reject jobs
 abbrev rejecting_plan : Plan
-rejecting_plan = record plan { pools = record { name = codes "p"; core = 1; max = 1; queue = 2; prestart = false; may_reject = true; unbounded = false } ∷ [] }
+rejecting_plan = record plan { pools = record { name = codes "p"; core = 1; max = 1; queue = 2; prestart = false; may_reject = true; unbounded = false; core_timeout = false } ∷ [] }
 
 -- a certificate without a bound
 abbrev unbounded : Cert

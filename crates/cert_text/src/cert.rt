@@ -16,9 +16,9 @@ pub struct PoolCert {
     /// The vector that bounds the pool's queue, or `None`. In a certificate that fits the plan, it
     /// is `None` only if the pool may reject jobs or has an unbounded queue.
     pub bound: Option<Bound>,
-    /// The blocked vector. If the certificate accepts the plan, this vector bounds the number of
-    /// the pool's jobs that wait at counted gets. The number is then always below the pool's core
-    /// size. A *counted* get is one that can block a thread that other jobs need.
+    /// The blocked vector. If the certificate accepts the plan, this vector shows that the number
+    /// of the pool's jobs that wait at counted gets is always below its core size, or is 0 if core
+    /// threads may time out. A counted get can block a thread that other jobs need.
     pub blocked: Vector,
 }
 

@@ -47,7 +47,8 @@ The second text has one event per line:
   client N     client N does its next action
   job N        job N does its next action
   take POOL    an idle worker of the pool takes the job at the head of its queue
-  retire POOL  an idle worker above the pool's core ends
+  retire POOL  an idle worker above the pool's core ends; if core threads may time out, any idle
+               worker, but not the last one while jobs are queued
   stuck N ..   asks whether these jobs wait only for each other
 Clients are numbered from 0 in the order of the plan: each [[client]] has `count` of them. Jobs are
 numbered from 0 in the order in which they are submitted.
@@ -72,11 +73,12 @@ The answer is `yes` or `no`, and then a line for each pool:
   pool NAME: standing T of Q, blocked T of B
 `standing T of Q`: at most T jobs are in the queue at once, and its capacity is Q. A certificate can
 have `lifetime T of Q` instead: at most T jobs are ever submitted, and Q of them fit into queue and
-threads. `may reject` in its place: the pool has `may_reject = true`, and no bound for its queue. For
-an unbounded queue, `unbounded` is in place of Q, and T need not bound the jobs in the queue; it is
-in place of all of this if the pool has no bound.
-`blocked T of B`: at most T of the pool's threads wait for jobs that need this pool, and B, core - 1,
-may.
+threads, or into the queue alone if core threads may time out. `may reject` in its place: the pool
+has `may_reject = true`, and no bound for its queue. For an unbounded queue, `unbounded` is in place
+of Q, and T need not bound the jobs in the queue; it is in place of all of this if the pool has no
+bound.
+`blocked T of B`: at most T of the pool's threads wait for jobs that need this pool, and B may. B is
+core - 1, or 0 if core threads may time out.
 
 `yes` means that in every state that any order of events reaches, no submit was refused, each pool
 respects its maximum and, if its queue has one, the queue's capacity, and no jobs wait only for each
@@ -138,6 +140,7 @@ sizing fit [--bundle] PLAN
 The answer has a line for each pool:
   pool NAME: core C, max M, queue Q
   pool NAME: core C, queue unbounded
+  pool NAME: core C, max M, queue unbounded     if core threads may time out
 with `(now X)` after each number that changes, where X is the number in the plan. The last line is
 `changes N`, the number of changes. With --bundle the answer is the plan with the new sizes, a line
 `%%`, and a certificate, to which `sizing check` answers yes.
@@ -149,11 +152,12 @@ Otherwise the answer is `no fitting sizes found`, and the reason:
   class NAME submits itself
   client NAME action I: submits for ever, never got
   class NAME action I: submits for ever, never got
+  pool NAME: its last thread may wait for a job of this pool, since core threads may time out
   pool NAME: sizes above 1000000
-With the first three, no sizes have a certificate. With the fourth the search reached the limit for a
-size or a weight, or nothing gets some jobs of a pool that may reject or has an unbounded queue;
-other sizes may do. Actions are numbered from 0. With --bundle the answer can also be
-`no bundle: text too long`.
+With the first four, no sizes have a certificate. With the fifth the search reached the limit for a
+size or a weight, nothing gets some jobs of a pool that may reject or has an unbounded queue, or no
+client submits a class that has a get, in a pool whose core threads may time out; other sizes may do.
+Actions are numbered from 0. With --bundle the answer can also be `no bundle: text too long`.
 
 Exit status:
   0  no size changes, or a bundle was written
@@ -169,10 +173,11 @@ sizing run --rounds N PLAN CERTIFICATE
        sizing run --rounds N < INPUT",
     notes: "\
 If `sizing check` answers yes, a thread is started for each client, and for each pool as many threads
-as it may have. Each client that repeats goes through its body N times, the others once, until all
-jobs are done. No submit is refused, however the threads are scheduled. A unit of work is counted
-and takes no time. A run has at most 64 clients, 64 threads of pools, and 1000000 events: for each
-job one per action and 2 more, for each client one per action and one between two rounds.
+as it may have, or its core if it has no maximum. Each client that repeats goes through its body N
+times, the others once, until all jobs are done. No submit is refused, however the threads are
+scheduled. A unit of work is counted and takes no time. A run has at most 64 clients, 64 threads of
+pools, and 1000000 events: for each job one per action and 2 more, for each client one per action and
+one between two rounds.
 
 The answer is one of these lines:
   jobs N, units N, refused 0   the number of jobs, and the work of clients and jobs

@@ -67,7 +67,7 @@ taken_started plan a i k s = record { stage = Stage.At 0; unclaimed = at_not_cla
 taken_queued : (plan : Plan) (a : Parent) (i k : ℕ) (s : JavaState) → IsTaken a i k s (answers plan s a i k offer.Queued)
 taken_queued plan a i k s = record { stage = Stage.Queued; unclaimed = queued_not_claimed; jobs = refl; clients = refl; offering = refl; requesting = refl }
 
-taken_rejected : (plan : Plan) (a : Parent) (i k : ℕ) (s : JavaState) → IsTaken a i k s (ends_with s a (skipped s.machine a i k))
+taken_rejected : (plan : Plan) (a : Parent) (i k : ℕ) (s : JavaState) → IsTaken a i k s (ends_with s a (skipped s.machine a i k) s.looking)
 taken_rejected plan a i k s = record { stage = Stage.Done; unclaimed = done_not_claimed; jobs = refl; clients = refl; offering = refl; requesting = refl }
 
 -- The number of jobs grows.
@@ -79,7 +79,7 @@ no_growth n e = omega (arith, e)
 
 -- The state after a third step that finds max threads.
 abbrev declined : Plan → Parent → ℕ → ℕ → JavaState → Bool → JavaState
-declined plan a i k s may = let x : State × Outcome = cond may (skipped s.machine a i k, outcome.Rejected (pool_of plan k) (length s.machine.jobs)) (record s.machine { refusals = s.machine.refusals + 1 }, outcome.Refused (pool_of plan k)) in ends_with s a x.0
+declined plan a i k s may = let x : State × Outcome = cond may (skipped s.machine a i k, outcome.Rejected (pool_of plan k) (length s.machine.jobs)) (record s.machine { refusals = s.machine.refusals + 1 }, outcome.Refused (pool_of plan k)) in ends_with s a x.0 s.looking
 
 taken_declined : (plan : Plan) (a : Parent) (i k : ℕ) (s : JavaState) (may : Bool) → Grows s (declined plan a i k s may) → IsTaken a i k s (declined plan a i k s may)
 taken_declined plan a i k s true grows = taken_rejected plan a i k s

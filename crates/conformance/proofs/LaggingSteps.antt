@@ -25,6 +25,7 @@ use Rattle.soundness.specs.Execute.{JavaState, is_calling, submission_at, submis
 use Rattle.soundness.specs.Exchange.{exchanged_job, after_exchange, is_claimed, are_alike, both_alike, can_exchange}
 use Rattle.soundness.specs.Skipping.{Choice, choice_step, skip_submit, event_of_actor}
 use Rattle.soundness.specs.Skipping.Choice.{Acts, Skips, Exchanges}
+use Rattle.soundness.proofs.AnyOrder.{acts_alone}
 use Rattle.soundness.proofs.CertLaws.{CertLaws}
 use Rattle.soundness.proofs.Skipping.{choice_keeps}
 use Rattle.soundness.proofs.ExchangedJobs.{exchanges_swap_two_gets, point-exchanged}
@@ -51,7 +52,7 @@ acts_step : (plan : Plan) (a : Parent) (body : List Action) (m : ℕ) (s : JavaS
 acts_step plan a body m s there after o stands is_there no_submit stepped =
     let none : submission plan s.machine (event_of_actor a) ≡ None = submission_of_actor plan s.machine a ∙ ap (submission_of a) stands ∙ ap (submission_at a m) is_there ∙ no_submit in
     let goes : step plan s.machine (event_of_actor a) ≡ Some (after, o) = step_of_actor plan s.machine a ∙ ap (step_at_point plan s.machine a) stands ∙ ap (step_action plan s.machine a m) is_there ∙ stepped in
-    ap (java_stepped plan s (event_of_actor a)) none ∙ ap (as_atomic s) goes
+    ap (java_stepped plan s (event_of_actor a)) none ∙ acts_alone plan s a ∙ ap (as_atomic s) goes
 
 -- At a submit that has not begun, the actor can skip it.
 skip_step : (plan : Plan) (a : Parent) (body : List Action) (m k : ℕ) (s : JavaState) → Stands plan s.machine a body m → slice_get body m ≡ Some (action.Submit k) → IsQuiet a s

@@ -8,6 +8,7 @@ pub mod WalkStates
 pub mod WalkSteps
 pub mod BlockingGet
 pub mod PassedGets
+pub mod PlannedSizes
 pub mod StoppedWalks
 pub mod MissingJobs
 pub mod WalkProgress

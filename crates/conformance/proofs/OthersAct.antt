@@ -1,5 +1,5 @@
 -- Choices of other actors and of pools leave an actor undisturbed.
-use Rattle.std.proofs.Common.{◌≡◌, ◌≢◌, ℕ, ◌+◌, ⊎_elim, true, false, List, [], ◌∷◌, ◌++◌, get_or, Some, refl, sym, ap, subst, ◌∙◌, arith}
+use Rattle.std.proofs.Common.{◌≡◌, ◌≢◌, ℕ, ◌+◌, ⊎_elim, Bool, true, false, List, [], ◌∷◌, ◌++◌, get_or, Some, refl, sym, ap, subst, ◌∙◌, arith}
 use Rattle.std.proofs.lemmas.Bool.{false≢true}
 use Rattle.std.proofs.lemmas.List.{length-map}
 use Rattle.job_bodies.specs.declared.action.Action.{Action}
@@ -18,11 +18,13 @@ use Rattle.written_machine.proofs.Actors.{point_same}
 use Rattle.written_machine.proofs.Queues.{head_of_queue}
 use Rattle.written_machine.proofs.Children.{same_actor_refl, maker_of, child_is, not_by_other}
 use Rattle.cert_text.specs.Cert.{Cert}
-use Rattle.soundness.specs.Execute.{Call, JavaState, is_calling, without_calls_of}
+use Rattle.soundness.specs.Execute.{Call, JavaState, JavaEvent, is_calling, without_calls_of}
 use Rattle.soundness.specs.Exchange.{exchanged_job, after_exchange}
 use Rattle.soundness.specs.Skipping.{Choice, choice_step}
-use Rattle.soundness.specs.Skipping.Choice.{Acts, Skips, Misses, Exchanges}
-use Rattle.soundness.proofs.JavaEvents.{JavaHappens, is_atomic, ends, finds_core, finds_full, finds_all, call_of_others, one_more, java_happens}
+use Rattle.soundness.specs.Headline.{bound_of}
+use Rattle.soundness.specs.Skipping.Choice.{Acts, Skips, Misses, Exchanges, Leaves, Spares}
+use Rattle.soundness.proofs.Calls.{calls_found}
+use Rattle.soundness.proofs.JavaEvents.{JavaHappens, is_atomic, ends, finds_core, finds_full, finds_all, is_enough, starts_spare, with_spare_thread, call_of_others, one_more, java_happens}
 use Rattle.soundness.proofs.JavaTheorem.{JavaSound}
 use Rattle.soundness.proofs.Choices.{IsSkipped, leaves, is_skipped, is_missed}
 use Rattle.soundness.proofs.ExchangedJobs.{exchanges_swap_two_gets, point-exchanged, is_exchange}
@@ -50,6 +52,11 @@ other_actor a b other = sym (own_event a b) ∙ other
 
 pub different : (a b : Parent) → same_parent a b ≡ false → a ≢ b
 different a b other same = false≢true (sym other ∙ ap (same_parent a) (sym same) ∙ same_actor_refl a)
+
+-- The event in Java's steps is one of the actor. A look at a pool is of no actor.
+abbrev pub is_java_event_of : Parent → JavaEvent → Bool
+is_java_event_of a (JavaEvent.Acts e) = is_event_of a e
+is_java_event_of a _ = false
 
 -- ---- the machine's events
 -- Another actor moves, and a job of it is created.
@@ -84,7 +91,7 @@ happens_other plan a body i m s s' o kept other stands (works b bd k u at) = rec
   jobs = keeps_moved plan a m s b bd k (k + 1) at.stands;
 }
 happens_other plan a body i m s s' o kept other stands (starts b bd k c at room) = other_submits plan a b body bd i m k c (Stage.At 0) s (other_actor a b other) stands at.stands
-happens_other plan a body i m s s' o kept other stands (queues b bd k c at core room) =
+happens_other plan a body i m s s' o kept other stands (queues b bd k c at room) =
     let submits = other_submits plan a b body bd i m k c Stage.Queued s (other_actor a b other) stands at.stands in
     record { stands = point_same plan (with_job (new_job c b k Stage.Queued) (with_position b (k + 1) s)) (queued_state plan s b k c) a refl refl ∙ submits.stands; jobs = submits.jobs }
 happens_other plan a body i m s s' o kept other stands (is_refused b bd k c at must full all) = record {
@@ -109,7 +116,7 @@ happens_other plan a body i m s s' o kept other stands (takes p j queue idle is_
           ∙ stands_staged plan s a j (Stage.At 0) body i (not_that_job plan s a j body i (λ n at. queued_not_at n queued at) stands) stands;
       jobs = keeps_staged a m s.jobs j (Stage.At 0) (λ own. (at_not_claimed 0, λ done. absurd (queued_not_done queued done)));
     }
-happens_other plan a body i m s s' o kept other stands (retires p idle is_idle above not_handed) = record {
+happens_other plan a body i m s s' o kept other stands (retires p idle is_idle not_handed) = record {
   stands = point_same plan s s' a refl refl ∙ stands;
   jobs = keeps_same a m s.jobs;
 }
@@ -130,9 +137,9 @@ pub record StaysQuiet (plan : Plan) (a : Parent) (body : List Action) (i m : ℕ
 pub same_machine : (plan : Plan) (a : Parent) (body : List Action) (i m : ℕ) (s : State) → Stands plan s a body i → IsUndisturbed plan a body i m s s
 same_machine plan a body i m s stands = record { stands = stands; jobs = keeps_same a m s.jobs }
 
-java_other : (plan : Plan) (a : Parent) (body : List Action) (i m : ℕ) (s s' : JavaState) {e : Event} → StateInvariant plan s.machine → is_event_of a e ≡ false → Stands plan s.machine a body i → JavaHappens plan s e s' → StaysQuiet plan a body i m s s'
-java_other plan a body i m s s' kept other stands (is_atomic e after o none happened) = record { undisturbed = happens_other plan a body i m s.machine after o kept other stands happened; quiet = λ quiet. quiet }
-java_other plan a body i m s s' kept other stands (ends b bd k c after o at happened) = record {
+java_other : (plan : Plan) (a : Parent) (body : List Action) (i m : ℕ) (s s' : JavaState) {e : JavaEvent} → StateInvariant plan s.machine → is_java_event_of a e ≡ false → Stands plan s.machine a body i → JavaHappens plan s e s' → StaysQuiet plan a body i m s s'
+java_other plan a body i m s s' kept other stands (is_atomic e after o looking none happened looks) = record { undisturbed = happens_other plan a body i m s.machine after o kept other stands happened; quiet = λ quiet. quiet }
+java_other plan a body i m s s' kept other stands (ends b bd k c after o looking at happened looks) = record {
   undisturbed = happens_other plan a body i m s.machine after o kept other stands happened;
   quiet = λ quiet p. (still_none a b s.offering (λ q. (quiet q).0) p, still_none a b s.requesting (λ q. (quiet q).1) p);
 }
@@ -147,6 +154,11 @@ java_other plan a body i m s s' kept other stands (finds_full b bd k c at no_req
 java_other plan a body i m s s' kept other stands (finds_all b bd k c at must request all) = record {
   undisturbed = record { stands = point_same plan s.machine (record s.machine { refusals = s.machine.refusals + 1 }) a refl refl ∙ stands; jobs = keeps_same a m s.machine.jobs };
   quiet = λ quiet p. (still_none a b s.offering (λ q. (quiet q).0) p, still_none a b s.requesting (λ q. (quiet q).1) p);
+}
+java_other plan a body i m s s' kept other stands (is_enough p there enough) = record { undisturbed = same_machine plan a body i m s.machine stands; quiet = λ quiet. quiet }
+java_other plan a body i m s s' kept other stands (starts_spare p there below) = record {
+  undisturbed = record { stands = point_same plan s.machine (with_spare_thread p s.machine) a refl refl ∙ stands; jobs = keeps_same a m s.machine.jobs };
+  quiet = λ quiet. quiet;
 }
 
 skip_other : (plan : Plan) (a : Parent) (body : List Action) (i m : ℕ) (s s' : JavaState) {e : Event} → is_event_of a e ≡ false → Stands plan s.machine a body i → IsSkipped plan s e s' → StaysQuiet plan a body i m s s'
@@ -176,8 +188,12 @@ exchange_other plan a b body i m t u s other stands =
 -- A choice of another actor or of a pool leaves the actor undisturbed.
 pub choice_other : (plan : Plan) (cert : Cert) (a : Parent) (body : List Action) (i m : ℕ) (s : JavaState) (x : Choice) (s' : JavaState) → HasValidBodies plan → JavaSound plan cert s → is_choice_of a x ≡ false → Stands plan s.machine a body i → choice_step plan s x ≡ Some s'
     → StaysQuiet plan a body i m s s'
-choice_other plan cert a body i m s (Acts e) s' ordered sound other stands is_step = java_other plan a body i m s s' sound.sound.bounded.kept other stands (java_happens plan s e s' ordered sound.calls.offering is_step)
+choice_other plan cert a body i m s (Acts e) s' ordered sound other stands is_step = java_other plan a body i m s s' sound.sound.bounded.kept other stands (java_happens plan s (JavaEvent.Acts e) s' ordered (calls_found plan (bound_of cert) s sound.calls) is_step)
 choice_other plan cert a body i m s (Skips e) s' ordered sound other stands is_step = skip_other plan a body i m s s' other stands (is_skipped plan s e s' is_step)
 choice_other plan cert a body i m s (Misses e) s' ordered sound other stands is_step = java_other plan a body i m s s' sound.sound.bounded.kept other stands (is_missed plan s e s' is_step)
 choice_other plan cert a body i m s (Exchanges b t u) s' ordered sound other stands is_step =
     subst (StaysQuiet plan a body i m s) (is_exchange plan s b t u s' is_step).after (exchange_other plan a b body i m t u s other stands)
+choice_other plan cert a body i m s (Leaves p) s' ordered sound other stands is_step =
+    java_other plan a body i m s s' sound.sound.bounded.kept refl stands (java_happens plan s (JavaEvent.Leaves p) s' ordered (calls_found plan (bound_of cert) s sound.calls) is_step)
+choice_other plan cert a body i m s (Spares p) s' ordered sound other stands is_step =
+    java_other plan a body i m s s' sound.sound.bounded.kept refl stands (java_happens plan s (JavaEvent.Spares p) s' ordered (calls_found plan (bound_of cert) s sound.calls) is_step)

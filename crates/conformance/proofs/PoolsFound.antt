@@ -3,22 +3,22 @@ use Rattle.std.proofs.Common.{◌≡◌, ℕ, zero, suc, ◌+◌, ◌<◌, ◌==
 use Rattle.std.specs.Prelude.{is_some}
 use Rattle.std.specs.List.{filter_map, cons_option, enumerate_from, position_or_len}
 use Rattle.std.specs.Str.{bytes_eq}
-use Rattle.std.proofs.lemmas.Bool.{ltb-true, eqb-true, not-true}
+use Rattle.std.proofs.lemmas.Bool.{ltb-true, eqb-true}
 use Rattle.std.proofs.lemmas.List.Sums.{passes_at_first}
 use Rattle.std.proofs.lemmas.Option.{cond_some}
 use Rattle.std.proofs.lemmas.Slice.Eq.{bytes_eq-Decides}
 use Rattle.job_bodies.specs.Plan as plans
-use Rattle.job_bodies.specs.Plan.{Plan, pool_at, no_pool, first_workers}
+use Rattle.job_bodies.specs.Plan.{Plan, pool_at, no_pool}
 use Rattle.recordings.specs.declared.pool_sizes.PoolSizes.{PoolSizes}
 use Rattle.recordings.specs.RecordingLine.{RecordedLine, Pool}
 use Rattle.recordings.specs.LineParts.{declares}
 use Rattle.recordings.specs.Before.{has_pool, is_closed}
 use Rattle.conformance.specs.declared.difference.Difference.{Difference}
-use Rattle.conformance.specs.declared.difference.Difference.TheVariants.{Core, Max, KindOfQueue, CoreTimeout, Prestarted}
-use Rattle.conformance.specs.Sizes.{differences, unless, is_planned_kind, planned_capacity, capacity_difference, IsAsPlanned}
+use Rattle.conformance.specs.Sizes.{differences}
 use Rattle.conformance.specs.PoolDeviations.{Deviation, NotPlanned, Differs, NotRecorded, pool_named, is_pool, is_among, has_difference, was_reported, unreported, deviations_of_pool, deviations_by_line, deviations_by_lines, unrecorded_at, unrecorded_by, unrecorded}
 use Rattle.conformance.specs.ComparisonLaws.{DeviationsAddUp, PoolsAreAsPlanned, PoolsAreRecorded, IsPlannedPool}
 use Rattle.conformance.proofs.LineByLine.{by_last, any_more, all_more, any_line_more, nothing_first, nothing_last}
+use Rattle.conformance.proofs.PlannedSizes.{as_planned}
 
 pub deviations_add_up : DeviationsAddUp
 unfolding deviations_by_lines
@@ -150,39 +150,6 @@ named_read plan name pool read =
     let place = cond_some (nat_lt (position_or_len test plan.pools) (length plan.pools)) _ _ read in
     let same : (pool_at plan (position_or_len test plan.pools)).name ≡ name = (bytes_eq-Decides _ name).0 (passes_at_first test plan.pools no_pool (ltb-true _ _ place.0)) in
     (subst (λ (q : ℕ). q < length plan.pools) place.1 (ltb-true _ _ place.0), subst (λ (q : ℕ). (pool_at plan q).name ≡ name) place.1 same)
-
-agrees : (agree : Bool) (difference : Difference) → unless agree difference ≡ [] → agree ≡ true
-agrees true difference h = refl
-agrees false difference h = cc
-
--- In a first line the numbers of prestarted threads must be equal.
-counts_first : (is_first agree : Bool) → (not is_first || agree) ≡ true → is_first ≡ true → agree ≡ true
-counts_first true agree h first = h
-counts_first false agree h first = cc
-
--- If the queue is bounded, the maxima must be equal.
-counts_bounded : (unbounded agree : Bool) → (unbounded || agree) ≡ true → unbounded ≡ false → agree ≡ true
-counts_bounded true agree h bounded = cc
-counts_bounded false agree h bounded = h
-
-as_planned : (is_first : Bool) (sizes : PoolSizes) (pool : plans.Pool) → differences is_first sizes pool ≡ [] → IsAsPlanned is_first sizes pool
-as_planned is_first sizes pool none =
-    let started = unless (not is_first || sizes.prestarted == first_workers pool) (Prestarted sizes.prestarted (first_workers pool)) in
-    let five = nothing_first _ started none in
-    let four = nothing_first _ (unless (not sizes.timeout) CoreTimeout) five in
-    let three = nothing_first _ (unless (sizes.capacity == planned_capacity pool) (capacity_difference sizes.capacity pool)) four in
-    let two = nothing_first _ (unless (is_planned_kind pool sizes.queue) (KindOfQueue sizes.queue)) three in
-    let one = nothing_first _ (unless (pool.unbounded || sizes.max == pool.max) (Max sizes.max pool.max)) two in
-    record {
-      core = eqb-true _ _ (agrees (sizes.core == pool.core) _ one);
-      max =
-          λ bounded.
-          eqb-true _ _ (counts_bounded pool.unbounded (sizes.max == pool.max) (agrees (pool.unbounded || sizes.max == pool.max) _ (nothing_last (unless (sizes.core == pool.core) (Core sizes.core pool.core)) _ two)) bounded);
-      kind_of_queue = agrees (is_planned_kind pool sizes.queue) _ (nothing_last _ (unless (is_planned_kind pool sizes.queue) (KindOfQueue sizes.queue)) three);
-      capacity = eqb-true _ _ (agrees (sizes.capacity == planned_capacity pool) _ (nothing_last _ (unless (sizes.capacity == planned_capacity pool) (capacity_difference sizes.capacity pool)) four));
-      core_stays = not-true _ (agrees (not sizes.timeout) _ (nothing_last _ (unless (not sizes.timeout) CoreTimeout) five));
-      prestarted = λ first. eqb-true _ _ (counts_first is_first (sizes.prestarted == first_workers pool) (agrees (not is_first || sizes.prestarted == first_workers pool) _ (nothing_last _ started none)) first);
-    }
 
 planned_pool : (plan : Plan) (is_first : Bool) (name : List ℕ) (sizes : PoolSizes) → IsSame plan is_first sizes (pool_named plan name) → IsPlannedPool plan is_first name sizes
 planned_pool plan is_first name sizes same =

@@ -7,7 +7,7 @@ use Rattle.std.proofs.lemmas.List.{length-map}
 use Rattle.std.proofs.lemmas.List.FromFn.{length-enumerate_from}
 use Rattle.job_bodies.specs.declared.limits.TheConstants.{MAX_SIZE}
 use Rattle.job_bodies.specs.Plan.{Pool, Class, Plan}
-use Rattle.job_bodies.specs.WellFormed.{is_within, is_valid_name, least_queue, has_valid_sizes, is_valid_pool, is_valid_body, are_distinct, IsWellFormed}
+use Rattle.job_bodies.specs.WellFormed.{is_within, is_valid_name, least_queue, has_no_max, has_valid_sizes, is_valid_pool, is_valid_body, are_distinct, IsWellFormed}
 use Rattle.job_bodies.proofs.Bodies.{within_bounds}
 use Rattle.recordings.specs.RecordingLine.{RecordedLine}
 use Rattle.conformance.specs.declared.rejections.Rejections.{Rejections}
@@ -26,9 +26,9 @@ valid_queue key may queue valid =
 valid_key : (key : Bool) (pool : Pool) → is_valid_pool pool ≡ true → is_valid_pool (with_key key pool) ≡ true
 valid_key key pool valid =
     let parts = and_parts (is_valid_name pool.name) (has_valid_sizes pool) valid in
-    let sizes = and_parts (is_within 1 MAX_SIZE pool.core && is_within pool.core MAX_SIZE pool.max) (is_within (least_queue pool) MAX_SIZE pool.queue) parts.1 in
+    let sizes = and_parts (is_within 1 MAX_SIZE pool.core && (is_within pool.core MAX_SIZE pool.max || has_no_max pool)) (is_within (least_queue pool) MAX_SIZE pool.queue) parts.1 in
     both (is_valid_name pool.name) (has_valid_sizes (with_key key pool)) parts.0
-    (both (is_within 1 MAX_SIZE pool.core && is_within pool.core MAX_SIZE pool.max) (is_within (least_queue (with_key key pool)) MAX_SIZE pool.queue) sizes.0 (valid_queue key pool.may_reject pool.queue sizes.1))
+    (both (is_within 1 MAX_SIZE pool.core && (is_within pool.core MAX_SIZE pool.max || has_no_max pool)) (is_within (least_queue (with_key key pool)) MAX_SIZE pool.queue) sizes.0 (valid_queue key pool.may_reject pool.queue sizes.1))
 
 -- ---- a plan with other pools of the same names
 abbrev names : List Pool → List (List ℕ)

@@ -4,7 +4,7 @@ use Rattle.recordings.specs.declared.pool_sizes.QueueKind.{QueueKind}
 use Rattle.recordings.specs.declared.pool_sizes.QueueKind.TheVariants as queue
 use Rattle.recordings.specs.contracts.pool_sizes.QueueKindPartialEq.TheImpl as kind_eq
 use Rattle.conformance.specs.declared.difference.Difference.{Difference}
-use Rattle.conformance.specs.declared.difference.Difference.TheVariants.{Core, Max, KindOfQueue, Capacity, BoundedQueue, CoreTimeout, Prestarted}
+use Rattle.conformance.specs.declared.difference.Difference.TheVariants.{Core, Max, BoundedMax, KindOfQueue, Capacity, BoundedQueue, CoreTimeout, NoCoreTimeout, Prestarted}
 use Rattle.conformance.specs.contracts.difference.DifferencePartialEq.TheImpl as difference_eq
 use Rattle.conformance.specs.Difference.{is_same_kind, is_same_difference}
 use Rattle.conformance.specs.PoolComparison.{is_same_element}
@@ -54,10 +54,12 @@ same_kind queue.Other other = same_other other
 same_difference : (difference other : Difference) → (difference_eq.ghosts).eq difference other ≡ is_same_difference difference other
 same_difference (Core recorded planned) (Core other beside) = refl
 same_difference (Max recorded planned) (Max other beside) = refl
+same_difference (BoundedMax recorded) (BoundedMax other) = refl
 same_difference (KindOfQueue kind) (KindOfQueue other) = same_kind kind other
 same_difference (Capacity recorded planned) (Capacity other beside) = refl
 same_difference (BoundedQueue recorded) (BoundedQueue other) = refl
 same_difference CoreTimeout CoreTimeout = refl
+same_difference NoCoreTimeout NoCoreTimeout = refl
 same_difference (Prestarted recorded planned) (Prestarted other beside) = refl
 same_difference difference other = refl
 

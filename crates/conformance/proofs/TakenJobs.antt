@@ -17,19 +17,20 @@ use Rattle.written_machine.specs.Step.{moved_jobs, new_job, skipped}
 use Rattle.written_machine.proofs.Stages.{length-moved}
 use Rattle.written_machine.proofs.Children.{same_actor_true, same_actor_refl}
 use Rattle.cert_text.specs.Cert.{Cert}
-use Rattle.soundness.specs.Execute.{Call, JavaState, is_calling, without_calls_of, submission_at, submission_of, answers, checks_core, offers_job, requests_thread, java_stepped}
+use Rattle.soundness.specs.Execute.{Call, JavaState, JavaEvent, is_calling, without_calls_of, submission_at, submission_of, answers, checks_core, offers_job, requests_thread, java_stepped}
 use Rattle.soundness.specs.Skipping.{Choice, choice_step, event_of_actor}
-use Rattle.soundness.specs.Skipping.Choice.{Acts, Skips, Misses, Exchanges}
+use Rattle.soundness.specs.Headline.{bound_of}
+use Rattle.soundness.specs.Skipping.Choice.{Acts, Skips, Misses, Exchanges, Leaves, Spares}
+use Rattle.soundness.proofs.Calls.{calls_found}
 use Rattle.soundness.proofs.CertLaws.{CertLaws}
-use Rattle.soundness.proofs.Theorem.{sound_safe}
-use Rattle.soundness.proofs.JavaEvents.{ends_with, JavaHappens, is_atomic, ends, finds_core, finds_full, finds_all, java_happens}
+use Rattle.soundness.proofs.JavaEvents.{ends_with, JavaHappens, is_atomic, ends, finds_core, finds_full, finds_all, is_enough, starts_spare, java_happens}
 use Rattle.soundness.proofs.JavaTheorem.{JavaSound}
 use Rattle.soundness.proofs.Choices.{IsSkipped, leaves, is_skipped, is_missed}
 use Rattle.soundness.proofs.ExchangedJobs.{is_exchange}
 use Rattle.soundness.proofs.Skipping.{choice_keeps}
-use Rattle.conformance.specs.LaggingRun.{is_event_of, is_choice_of, OthersAct, stays, acts, NextOfSubmit, IsTakenWithin}
+use Rattle.conformance.specs.LaggingRun.{is_choice_of, OthersAct, stays, acts, NextOfSubmit, IsTakenWithin}
 use Rattle.conformance.proofs.Undisturbed.{Stands}
-use Rattle.conformance.proofs.OthersAct.{IsQuiet, other_actor, choice_other}
+use Rattle.conformance.proofs.OthersAct.{IsQuiet, other_actor, is_java_event_of, choice_other}
 use Rattle.conformance.proofs.LaggingSteps.{submission_of_actor}
 
 -- ---- the calls of an actor
@@ -50,21 +51,25 @@ without_others : (a b : Parent) (calls : List Call) (p : ℕ) → same_parent a 
 without_others a b [] p other = refl
 without_others a b (call ∷ calls) p other = without_if a b call calls p (same_parent b call.actor) refl other (without_others a b calls p other)
 
-java_calls : (plan : Plan) (a : Parent) (s s' : JavaState) {e : Event} → is_event_of a e ≡ false → JavaHappens plan s e s' → HasSameCalls a s s'
-java_calls plan a s s' other (is_atomic e after o none happened) = λ p. (refl, refl)
-java_calls plan a s s' other (ends b bd k c after o at happened) = λ p. (without_others a b s.offering p (other_actor a b other), without_others a b s.requesting p (other_actor a b other))
+java_calls : (plan : Plan) (a : Parent) (s s' : JavaState) {e : JavaEvent} → is_java_event_of a e ≡ false → JavaHappens plan s e s' → HasSameCalls a s s'
+java_calls plan a s s' other (is_atomic e after o looking none happened looks) = λ p. (refl, refl)
+java_calls plan a s s' other (ends b bd k c after o looking at happened looks) = λ p. (without_others a b s.offering p (other_actor a b other), without_others a b s.requesting p (other_actor a b other))
 java_calls plan a s s' other (finds_core b bd k c at no_request no_offer core) = λ p. (beside a (record { actor = b; pool = pool_of plan c }) s.offering p (other_actor a b other), refl)
 java_calls plan a s s' other (finds_full b bd k c at no_request full) = λ p. (without_others a b s.offering p (other_actor a b other), beside a (record { actor = b; pool = pool_of plan c }) s.requesting p (other_actor a b other))
 java_calls plan a s s' other (finds_all b bd k c at must request all) = λ p. (without_others a b s.offering p (other_actor a b other), without_others a b s.requesting p (other_actor a b other))
+java_calls plan a s s' other (is_enough q there enough) = λ p. (refl, refl)
+java_calls plan a s s' other (starts_spare q there below) = λ p. (refl, refl)
 
 skip_calls : (plan : Plan) (a : Parent) (s s' : JavaState) {e : Event} → IsSkipped plan s e s' → HasSameCalls a s s'
 skip_calls plan a s s' (leaves b bd k c at no_offer no_request) = λ p. (refl, refl)
 
 choice_calls : (plan : Plan) (cert : Cert) (a : Parent) (s : JavaState) (x : Choice) (s' : JavaState) → HasValidBodies plan → JavaSound plan cert s → is_choice_of a x ≡ false → choice_step plan s x ≡ Some s' → HasSameCalls a s s'
-choice_calls plan cert a s (Acts e) s' ordered sound other is_step = java_calls plan a s s' other (java_happens plan s e s' ordered sound.calls.offering is_step)
+choice_calls plan cert a s (Acts e) s' ordered sound other is_step = java_calls plan a s s' other (java_happens plan s (JavaEvent.Acts e) s' ordered (calls_found plan (bound_of cert) s sound.calls) is_step)
 choice_calls plan cert a s (Skips e) s' ordered sound other is_step = skip_calls plan a s s' (is_skipped plan s e s' is_step)
 choice_calls plan cert a s (Misses e) s' ordered sound other is_step = java_calls plan a s s' other (is_missed plan s e s' is_step)
 choice_calls plan cert a s (Exchanges b t u) s' ordered sound other is_step = subst (HasSameCalls a s) (is_exchange plan s b t u s' is_step).after (λ p. (refl, refl))
+choice_calls plan cert a s (Leaves p) s' ordered sound other is_step = java_calls plan a s s' refl (java_happens plan s (JavaEvent.Leaves p) s' ordered (calls_found plan (bound_of cert) s sound.calls) is_step)
+choice_calls plan cert a s (Spares p) s' ordered sound other is_step = java_calls plan a s s' refl (java_happens plan s (JavaEvent.Spares p) s' ordered (calls_found plan (bound_of cert) s sound.calls) is_step)
 
 first_call : (a : Parent) (p : ℕ) (calls : List Call) → is_calling (record { actor = a; pool = p } ∷ calls) a p ≡ true
 first_call a p calls = ap (λ (b : Bool). b || is_calling calls a p) (and_from (same_parent a a) (eqb p p) (same_actor_refl a) (eq-eqb p p refl))
@@ -104,7 +109,7 @@ module _ (plan : Plan) (cert : Cert) (a : Parent) (body : List Action) (q k : �
 
   -- The state after a third step that finds max threads.
   abbrev declined : JavaState → Bool → JavaState
-  declined s may = let x : State × Outcome = cond may (skipped s.machine a q k, outcome.Rejected (pool_of plan k) (length s.machine.jobs)) (record s.machine { refusals = s.machine.refusals + 1 }, outcome.Refused (pool_of plan k)) in ends_with s a x.0
+  declined s may = let x : State × Outcome = cond may (skipped s.machine a q k, outcome.Rejected (pool_of plan k) (length s.machine.jobs)) (record s.machine { refusals = s.machine.refusals + 1 }, outcome.Refused (pool_of plan k)) in ends_with s a x.0 s.looking
 
   -- The third step finds max threads. The pool then may reject the job: otherwise the step refuses it, and the state after a refusal is not
   -- safe.
@@ -112,7 +117,7 @@ module _ (plan : Plan) (cert : Cert) (a : Parent) (body : List Action) (q k : �
   decline later s at true stepped = record { next = declined s true; is_next = stepped; onward = inl (one_more_job s Stage.Done) }
   decline later s at false stepped =
       let sound = choice_keeps plan cert is_ordered laws s (Acts (event_of_actor a)) (declined s false) at.sound stepped in
-      let none : s.machine.refusals + 1 ≡ 0 = (sound_safe plan cert (declined s false).machine is_ordered laws sound.sound).none_refused in
+      let none : s.machine.refusals + 1 ≡ 0 = sound.sound.bounded.none_refused in
       absurd (omega (arith, none))
 
   -- The third step.

@@ -49,7 +49,7 @@ of_its_own = refl
 
 -- ---- classes and client kinds
 abbrev pool : List ℕ → Pool
-pool name = record { name = name; core = 1; max = 1; queue = 1; prestart = false; may_reject = false; unbounded = false }
+pool name = record { name = name; core = 1; max = 1; queue = 1; prestart = false; may_reject = false; unbounded = false; core_timeout = false }
 
 abbrev class : List ℕ → ℕ → Class
 class name place = record { name = name; pool = place; body = [] }

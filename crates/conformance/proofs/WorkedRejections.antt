@@ -15,7 +15,7 @@ use Rattle.conformance.specs.RejectionRule.{is_got, has_handler, is_shut, has_ac
 -- One pool q, one class b of that pool, and one client c with this body.
 abbrev plan_of : Bool → List Action → Plan
 plan_of may_reject body = record {
-  pools = record { name = 113 ∷ []; core = 1; max = 1; queue = 1; prestart = false; may_reject = may_reject; unbounded = false } ∷ [];
+  pools = record { name = 113 ∷ []; core = 1; max = 1; queue = 1; prestart = false; may_reject = may_reject; unbounded = false; core_timeout = false } ∷ [];
   classes = record { name = 98 ∷ []; pool = 0; body = [] } ∷ [];
   clients = record { name = 99 ∷ []; count = 1; repeat = true; body = body } ∷ [];
 }

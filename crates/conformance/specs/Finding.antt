@@ -60,10 +60,12 @@ rank_of (finding.Invalidation invalidation name) = 7
 abbrev pub difference_number : Difference → ℕ
 difference_number (difference.Core recorded planned) = 0
 difference_number (difference.Max recorded planned) = 1
+difference_number (difference.BoundedMax recorded) = 1
 difference_number (difference.KindOfQueue kind) = 2
 difference_number (difference.Capacity recorded planned) = 3
 difference_number (difference.BoundedQueue recorded) = 3
 difference_number difference.CoreTimeout = 4
+difference_number difference.NoCoreTimeout = 4
 difference_number (difference.Prestarted recorded planned) = 5
 
 abbrev pub pool_number : PoolDeviation → ℕ

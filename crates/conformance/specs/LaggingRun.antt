@@ -16,7 +16,7 @@ use Rattle.cert_text.specs.Cert.{Cert}
 use Rattle.soundness.specs.Accepted.{accepted}
 use Rattle.soundness.specs.Execute.{JavaState, is_calling}
 use Rattle.soundness.specs.Skipping.{Choice, choice_step, ChoicesReach, event_of_actor}
-use Rattle.soundness.specs.Skipping.Choice.{Acts, Skips, Misses, Exchanges}
+use Rattle.soundness.specs.Skipping.Choice.{Acts, Skips, Misses, Exchanges, Leaves, Spares}
 use Rattle.conformance.specs.declared.step.ActorKind.{ActorKind}
 use Rattle.conformance.specs.declared.step.PathStep.{PathStep}
 use Rattle.conformance.specs.declared.step.PathStep.TheVariants as step
@@ -32,12 +32,14 @@ is_event_of (parent.Client c) (event.Client other) = c == other
 is_event_of (parent.Job j) (event.Job other) = j == other
 is_event_of _ _ = false
 
--- The choice is one of the actor.
+-- The choice is one of the actor. A look of Java at a pool is a choice of no actor.
 abbrev pub is_choice_of : Parent → Choice → Bool
 is_choice_of actor (Acts e) = is_event_of actor e
 is_choice_of actor (Skips e) = is_event_of actor e
 is_choice_of actor (Misses e) = is_event_of actor e
 is_choice_of actor (Exchanges other t u) = same_parent actor other
+is_choice_of actor (Leaves p) = false
+is_choice_of actor (Spares p) = false
 
 -- Choices of other actors and of pools lead from the first state to the second.
 pub data OthersAct (plan : Plan) (actor : Parent) : JavaState → JavaState → Type 0 where

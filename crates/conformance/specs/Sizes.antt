@@ -1,13 +1,15 @@
 -- The differences between one `pool` line and a pool of the plan.
-use Rattle.std.specs.Prelude.{◌≡◌, ℕ, Bool, true, false, ◌==◌, ◌||◌, not, if◌then◌else◌, List, [], ◌∷◌, ◌++◌, IsTrue}
+use Rattle.std.specs.Prelude.{◌≡◌, ◌<◌, ℕ, Bool, true, false, ◌==◌, ◌||◌, not, nat_lt, if◌then◌else◌, List, [], ◌∷◌, ◌++◌, IsTrue, IsFalse}
+use Rattle.job_bodies.specs.declared.limits.TheConstants.{MAX_SIZE}
 use Rattle.job_bodies.specs.Plan.{Pool, first_workers}
+use Rattle.job_bodies.specs.WellFormed.{has_no_max}
 use Rattle.recordings.specs.declared.pool_sizes.TheConstants.{UNBOUNDED_CAPACITY}
 use Rattle.recordings.specs.declared.pool_sizes.PoolSizes.{PoolSizes}
 use Rattle.recordings.specs.declared.pool_sizes.QueueKind.{QueueKind}
 use Rattle.recordings.specs.declared.pool_sizes.QueueKind.TheVariants as queue
 use Rattle.recordings.specs.PoolSizes.{is_linked}
 use Rattle.conformance.specs.declared.difference.Difference.{Difference}
-use Rattle.conformance.specs.declared.difference.Difference.TheVariants.{Core, Max, KindOfQueue, Capacity, BoundedQueue, CoreTimeout, Prestarted}
+use Rattle.conformance.specs.declared.difference.Difference.TheVariants.{Core, Max, BoundedMax, KindOfQueue, Capacity, BoundedQueue, CoreTimeout, NoCoreTimeout, Prestarted}
 
 -- The queue is a `SynchronousQueue`.
 abbrev pub is_synchronous : QueueKind → Bool
@@ -29,6 +31,22 @@ is_array_or_linked queue.Other = false
 abbrev pub is_kind_of : ℕ → QueueKind → Bool
 is_kind_of capacity kind = if capacity == 0 then is_synchronous kind else is_array_or_linked kind
 
+-- The maximum of the plan's pool has an effect: its queue is bounded, or its core threads may time out.
+abbrev pub uses_max : Pool → Bool
+uses_max pool = not pool.unbounded || pool.core_timeout
+
+-- The maximum in a `pool` line is that of the plan's pool: the same number or, if the plan gives none, one above each size of a plan.
+abbrev pub is_planned_max : Pool → ℕ → Bool
+is_planned_max pool recorded = if has_no_max pool then nat_lt MAX_SIZE recorded else recorded == pool.max
+
+-- The maximum in a `pool` line is that of the plan's pool, or has no effect in the plan.
+abbrev pub fits_max : Pool → ℕ → Bool
+fits_max pool recorded = not (uses_max pool) || is_planned_max pool recorded
+
+-- The difference if the pool has this maximum, which is not that of the plan.
+abbrev pub max_difference : ℕ → Pool → Difference
+max_difference recorded pool = if has_no_max pool then BoundedMax recorded else Max recorded pool.max
+
 -- The kind of the queue is that of the plan's pool: a `LinkedBlockingQueue` if the queue of the plan is unbounded.
 abbrev pub is_planned_kind : Pool → QueueKind → Bool
 is_planned_kind pool kind = if pool.unbounded then is_linked kind else is_kind_of pool.queue kind
@@ -41,27 +59,36 @@ planned_capacity pool = if pool.unbounded then UNBOUNDED_CAPACITY else pool.queu
 abbrev pub capacity_difference : ℕ → Pool → Difference
 capacity_difference recorded pool = if pool.unbounded then BoundedQueue recorded else Capacity recorded pool.queue
 
+-- Core threads may time out in the `pool` line exactly if they may in the plan.
+abbrev pub is_planned_timeout : Pool → Bool → Bool
+is_planned_timeout pool recorded = if pool.core_timeout then recorded else not recorded
+
+-- The difference if core threads may time out in only one of the two. They may in the `pool` line if the plan's never do.
+abbrev pub timeout_difference : Pool → Difference
+timeout_difference pool = if pool.core_timeout then NoCoreTimeout else CoreTimeout
+
 -- A list with the difference, or an empty one if the two sides agree.
 abbrev pub unless : Bool → Difference → List Difference
 unless agree difference = if agree then [] else difference ∷ []
 
--- Another core size, maximum size, kind of queue or capacity than in the plan, or core threads that may time out. If the plan's
--- queue is unbounded, the maximum size is not compared, because it has no effect. In the first line of a pool, also another
--- number of prestarted threads: the core size with `prestart`, and 0 without it.
+-- Another core size, maximum size, kind of queue or capacity than in the plan, or core threads that may time out in only one of
+-- the two. The maximum size is compared only if it has an effect in the plan. In the first line of a pool, also another number of
+-- prestarted threads: the core size with `prestart`, and 0 without it.
 abbrev pub differences : Bool → PoolSizes → Pool → List Difference
 differences is_first sizes pool =
     unless (sizes.core == pool.core) (Core sizes.core pool.core)
-    ++ unless (pool.unbounded || sizes.max == pool.max) (Max sizes.max pool.max)
+    ++ unless (fits_max pool sizes.max) (max_difference sizes.max pool)
     ++ unless (is_planned_kind pool sizes.queue) (KindOfQueue sizes.queue)
     ++ unless (sizes.capacity == planned_capacity pool) (capacity_difference sizes.capacity pool)
-    ++ unless (not sizes.timeout) CoreTimeout
+    ++ unless (is_planned_timeout pool sizes.timeout) (timeout_difference pool)
     ++ unless (not is_first || sizes.prestarted == first_workers pool) (Prestarted sizes.prestarted (first_workers pool))
 
 -- The sizes are those of the plan, as far as they are compared in this line.
 pub record IsAsPlanned (is_first : Bool) (sizes : PoolSizes) (pool : Pool) : Type 0 where
   pub core : sizes.core ≡ pool.core
-  pub max : pool.unbounded ≡ false → sizes.max ≡ pool.max
+  pub max : IsTrue (uses_max pool) → IsFalse (has_no_max pool) → sizes.max ≡ pool.max
+  pub no_max : IsTrue (has_no_max pool) → MAX_SIZE < sizes.max
   pub kind_of_queue : IsTrue (is_planned_kind pool sizes.queue)
   pub capacity : sizes.capacity ≡ planned_capacity pool
-  pub core_stays : sizes.timeout ≡ false
+  pub timeout : sizes.timeout ≡ pool.core_timeout
   pub prestarted : is_first ≡ true → sizes.prestarted ≡ first_workers pool

@@ -16,6 +16,8 @@ pub enum Difference {
     Core { recorded: u64, planned: u64 },
     /// The maximum pool size, in threads.
     Max { recorded: u64, planned: u64 },
+    /// The recorded pool has this maximum size, in threads, but the plan gives no maximum.
+    BoundedMax { recorded: u64 },
     /// The kind of the recorded queue, if it is not the kind of the plan's queue. In a plan, an
     /// unbounded queue is linked, and a queue with capacity 0 is synchronous. Any other queue is an
     /// array queue or a linked queue.
@@ -24,8 +26,10 @@ pub enum Difference {
     Capacity { recorded: u64, planned: u64 },
     /// The recorded queue has this capacity, in jobs, but the plan's queue is unbounded.
     BoundedQueue { recorded: u64 },
-    /// The recorded core threads may time out. In a plan, core threads never time out.
+    /// The recorded core threads may time out, but those of the plan's pool never do.
     CoreTimeout,
+    /// The recorded core threads never time out, but those of the plan's pool may.
+    NoCoreTimeout,
     /// The number of threads when the recording began. In a plan, a pool with `prestart` then has
     /// all core threads, and any other pool has no threads.
     Prestarted { recorded: u64, planned: u64 },
@@ -40,6 +44,7 @@ impl fmt::Display for Difference {
                 write!(f, "core {recorded}, plan {planned}")
             }
             Difference::Max { recorded, planned } => { write!(f, "max {recorded}, plan {planned}") }
+            Difference::BoundedMax { recorded } => write!(f, "max {recorded}, plan unbounded"),
             Difference::KindOfQueue(kind) => {
                 let word = kind_word(kind);
                 write!(f, "queue of another kind ({word})")
@@ -49,6 +54,9 @@ impl fmt::Display for Difference {
             }
             Difference::BoundedQueue { recorded } => write!(f, "queue {recorded}, plan unbounded"),
             Difference::CoreTimeout => write!(f, "core threads may time out"),
+            Difference::NoCoreTimeout => {
+                write!(f, "core threads never time out, plan core_timeout = true")
+            }
             Difference::Prestarted { recorded, planned } => {
                 write!(f, "{recorded} threads prestarted, plan {planned}")
             }

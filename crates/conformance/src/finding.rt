@@ -126,8 +126,8 @@ impl Finding {
 
     /// Returns the number that orders findings of the same line and type:
     ///
-    /// - for a difference, the position of its variant in [`Difference`], where the two variants
-    ///   about a capacity have the same position;
+    /// - for a difference, the position of its variant in [`Difference`], where the variants
+    ///   about the same setting have the same position;
     /// - for a pool that is not recorded, the number of the pool;
     /// - for an undecided actor, the number of the actor;
     /// - for an excess of rounds, the number of the client kind;
@@ -159,10 +159,10 @@ fn difference_number(difference: Difference) -> usize
 {
     match difference {
         Difference::Core { .. } => 0,
-        Difference::Max { .. } => 1,
+        Difference::Max { .. } | Difference::BoundedMax { .. } => 1,
         Difference::KindOfQueue(_) => 2,
         Difference::Capacity { .. } | Difference::BoundedQueue { .. } => 3,
-        Difference::CoreTimeout => 4,
+        Difference::CoreTimeout | Difference::NoCoreTimeout => 4,
         Difference::Prestarted { .. } => 5,
     }
 }

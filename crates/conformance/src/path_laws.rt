@@ -6,8 +6,9 @@ ghost use Rattle.conformance.specs.FollowedActors.{PlannedActorsAreFollowed};
 ghost use Rattle.conformance.specs.LaggingRun.{PathsAreFollowed, RunsStayReachable};
 
 /// States that the machine of an accepted plan can follow each path that matches the body of an
-/// actor, whatever other actors do in between. Let the machine be in a reachable state in which the
-/// actor is at the start of this body. Then these facts hold:
+/// actor, whatever other actors and pools do in between. In a pool whose core threads may time out,
+/// each idle thread may end, and Java may start a thread that has no job yet. Let the machine be in
+/// a reachable state in which the actor is at the start of this body. Then these facts hold:
 ///
 /// - The actor can make the submits of the path in their order. A pool takes the job of each submit
 ///   or, if the pool may reject jobs, rejects it. A rejected job is done at once.

@@ -4,7 +4,7 @@ ghost use Rattle.std.specs.Prelude.{◌≡◌, ◌++◌, ◌↔◌, [], OnOk, If
 ghost use Rattle.conformance.specs.Sizes as spec;
 
 use crate::Difference;
-use job_bodies::Pool;
+use job_bodies::{MAX_SIZE, Pool};
 use recordings::{PoolSizes, QueueKind, UNBOUNDED_CAPACITY};
 use std::alloc::{AllocError, Global};
 
@@ -13,7 +13,8 @@ use std::alloc::{AllocError, Global};
 /// always compared:
 ///
 /// - The number of prestarted threads is compared only in the first line of the pool (`is_first`).
-/// - The maximum is not compared if the plan's queue is unbounded, because it then has no effect.
+/// - The maximum is not compared if it has no effect in the plan, which is so if the plan's queue is
+///   unbounded and its core threads never time out.
 /// - The handler is never compared, because a plan has no handlers.
 ///
 /// # Errors
@@ -37,11 +38,11 @@ pub fn differences(
         recorded == planned,
         Difference::Core { recorded, planned },
     )?;
-    let (recorded, planned) = (sizes.max as u64, pool.max);
+    let recorded = sizes.max as u64;
     push_unless(
         &mut found,
-        pool.unbounded || recorded == planned,
-        Difference::Max { recorded, planned },
+        fits_max(pool, recorded),
+        max_difference(recorded, pool),
     )?;
     push_unless(
         &mut found,
@@ -54,7 +55,11 @@ pub fn differences(
         recorded == planned,
         capacity_difference(recorded, pool),
     )?;
-    push_unless(&mut found, !sizes.timeout, Difference::CoreTimeout)?;
+    push_unless(
+        &mut found,
+        is_planned_timeout(pool, sizes.timeout),
+        timeout_difference(pool),
+    )?;
     let (recorded, planned) = (sizes.prestarted as u64, pool.first_workers());
     push_unless(
         &mut found,
@@ -62,6 +67,45 @@ pub fn differences(
         Difference::Prestarted { recorded, planned },
     )?;
     Ok(found)
+}
+
+/// Returns true if the recorded maximum is that of the plan's pool, or has no effect in the plan.
+fn fits_max(pool: &Pool, recorded: u64) -> bool
+    ensures { result ≡ spec.fits_max pool.now recorded }
+{
+    !uses_max(pool) || is_planned_max(pool, recorded)
+}
+
+/// Returns true if the maximum of the plan's pool has an effect: its queue is bounded, or its core
+/// threads may time out.
+fn uses_max(pool: &Pool) -> bool
+    ensures { result ≡ spec.uses_max pool.now }
+{
+    !pool.unbounded || pool.core_timeout
+}
+
+/// Returns true if the recorded maximum is that of the plan's pool. If the plan gives no maximum,
+/// each recorded maximum above the largest size of a plan fits.
+fn is_planned_max(pool: &Pool, recorded: u64) -> bool
+    ensures { result ≡ spec.is_planned_max pool.now recorded }
+{
+    if pool.has_no_max() {
+        recorded > MAX_SIZE
+    } else {
+        recorded == pool.max
+    }
+}
+
+/// Returns the difference for a recorded maximum that is not that of the plan's pool.
+fn max_difference(recorded: u64, pool: &Pool) -> Difference
+    ensures { result ≡ spec.max_difference recorded pool.now }
+{
+    if pool.has_no_max() {
+        Difference::BoundedMax { recorded }
+    } else {
+        let planned = pool.max;
+        Difference::Max { recorded, planned }
+    }
 }
 
 /// Returns true if the kind of the recorded queue fits the plan's queue. If the plan's queue is
@@ -97,6 +141,30 @@ fn capacity_difference(recorded: u64, pool: &Pool) -> Difference
     } else {
         let planned = pool.queue;
         Difference::Capacity { recorded, planned }
+    }
+}
+
+/// Returns true if the core threads of the recorded pool may time out exactly if those of the plan's
+/// pool may.
+fn is_planned_timeout(pool: &Pool, recorded: bool) -> bool
+    ensures { result ≡ spec.is_planned_timeout pool.now recorded }
+{
+    if pool.core_timeout {
+        recorded
+    } else {
+        !recorded
+    }
+}
+
+/// Returns the difference if core threads may time out in only one of the recorded pool and the
+/// plan's pool.
+fn timeout_difference(pool: &Pool) -> Difference
+    ensures { result ≡ spec.timeout_difference pool.now }
+{
+    if pool.core_timeout {
+        Difference::NoCoreTimeout
+    } else {
+        Difference::CoreTimeout
     }
 }
 

@@ -28,7 +28,7 @@ no_refusal plan events p safe ends =
 -- a safe plan has no witness
 no_witness : (plan : Plan) (events : List Event) (ending : Ending) → Safe plan → IsWitness plan events ending → ⊥
 no_witness plan events (Refused p) safe ends = no_refusal plan events p safe ends
-no_witness plan events (StuckForever members PoolsAreFull) safe led = (safe events led.1.0 led.1.1).none_waits members.items led.1.2.waits
+no_witness plan events (StuckForever members PoolsAreFull) safe led = (safe events led.1.0 led.1.1).none_waits members.items led.1.2.0.waits
 no_witness plan events (StuckForever members PoolsStayAtCore) safe led = (safe events led.1.0 led.1.1).none_waits members.items led.1.2.waits
 no_witness plan events (StuckNow members) safe led = (safe events led.1.0 led.1.1).none_waits members.items led.1.2.waits
 

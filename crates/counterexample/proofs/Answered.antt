@@ -1,9 +1,9 @@
 -- The result of the confirmation is a witness and meets its contract.
-use Rattle.std.proofs.Common.{◌≡◌, ℕ, inl, inr, ⊎_elim, ◌↔◌, Bool, IsTrue, List, take, drop, Option, Some, None, sym, subst}
+use Rattle.std.proofs.Common.{◌≡◌, ◌≤◌, ℕ, inl, inr, ⊎_elim, ◌↔◌, Bool, IsTrue, List, take, drop, Option, Some, None, sym, subst}
 use Rattle.std.proofs.lemmas.List.{take-append-drop}
-use Rattle.job_bodies.specs.Plan.{Plan}
+use Rattle.job_bodies.specs.Plan.{Plan, pool_at}
 use Rattle.written_machine.specs.declared.event.Event.{Event}
-use Rattle.written_machine.specs.State.{State}
+use Rattle.written_machine.specs.State.{State, threads}
 use Rattle.written_machine.specs.Reach.{IsReached}
 use Rattle.written_machine.specs.Waiting.{IsWaitingSet}
 use Rattle.written_machine.specs.FullWaitingSets.{IsFull, IsFullWaitingSet}
@@ -21,13 +21,16 @@ use Rattle.counterexample.specs.Confirmed.{GivenStanding, IsReason, IsStuck, Beg
 -- ---- the result is a witness
 
 stays_for : (plan : Plan) (s : State) (members : List ℕ) (standing : List Vector) (reason : Reason) → IsWaitingSet plan s members → IsReason plan members standing s (Some reason) → StaysFor plan members reason s
-stays_for plan s members standing PoolsAreFull waits shown = record { waits = waits; full = shown }
+stays_for plan s members standing PoolsAreFull waits shown = (record { waits = waits; full = λ p j member queued. inl (shown p j member queued) }, shown)
 stays_for plan s members standing PoolsStayAtCore waits shown = record {
   waits = waits;
-  starts_no_thread = λ p j member queued. ⊎_elim (λ (full : IsFull plan s p). inl full) (λ (given : GivenStanding plan standing p). inr (record { vector = given.vector; hold = given.hold; light = given.light })) (shown.1 p j member queued);
+  starts_no_thread = λ p j member queued.
+      ⊎_elim (λ (full : IsFull plan s p). inl full)
+      (λ (given : GivenStanding plan standing p × ((pool_at plan p).core ≤ threads plan s p)). inr (record { vector = given.0.vector; hold = given.0.hold; light = given.0.light }, given.1))
+      (shown.1 p j member queued);
 }
 
--- if no reason for a permanent wait is proved, some pool with a queued member has fewer threads than its maximum
+-- if no reason for a permanent wait is proved, some pool with a queued member is not full
 waits_for_now : (plan : Plan) (s : State) (members : List ℕ) (standing : List Vector) → IsWaitingSet plan s members → IsReason plan members standing s None → WaitsForNow plan members s
 waits_for_now plan s members standing waits shown = record {
   waits = waits;

@@ -6,7 +6,7 @@ use Rattle.std.proofs.lemmas.Grind.{common_steps}
 use Rattle.job_bodies.specs.declared.action.Action.{Action}
 use Rattle.job_bodies.specs.declared.action.Action.TheVariants as action
 use Rattle.job_bodies.specs.Plan.{Pool, Plan, no_pool, pool_at, class_at, client_at}
-use Rattle.job_bodies.specs.WellFormed.{least_queue}
+use Rattle.job_bodies.specs.WellFormed.{least_queue, largest_max}
 use Rattle.job_bodies.specs.ValidBody.{IsValidBody}
 use Rattle.job_bodies.proofs.Bodies.{HasValidBodies}
 use Rattle.pool_machine.specs.declared.offer.Offer.{Offer}
@@ -61,6 +61,11 @@ unbounded_from most n [] p = refl
 unbounded_from most n (x ∷ xs) zero = refl
 unbounded_from most n (x ∷ xs) (suc p) = unbounded_from most (n + 1) xs p
 
+core_timeout_from : (most : ℕ → ℕ) (n : ℕ) (pools : List Pool) (p : ℕ) → (get_or (map (with_most most) (enumerate_from n pools)) p no_pool).core_timeout ≡ (get_or pools p no_pool).core_timeout
+core_timeout_from most n [] p = refl
+core_timeout_from most n (x ∷ xs) zero = refl
+core_timeout_from most n (x ∷ xs) (suc p) = core_timeout_from most (n + 1) xs p
+
 max_from : (most : ℕ → ℕ) (n : ℕ) (pools : List Pool) (p : ℕ) → p < length pools → (get_or (map (with_most most) (enumerate_from n pools)) p no_pool).max ≡ most (n + p)
 max_from most n [] p inside = absurd (omega arith)
 max_from most n (x ∷ xs) zero inside = ap most (let same : n ≡ n + 0 = omega arith in same)
@@ -84,6 +89,13 @@ may_reject-lowered plan most p = may_reject_from most 0 plan.pools p
 
 unbounded-lowered : (plan : Plan) (most : ℕ → ℕ) (p : ℕ) → (pool_at (lowered plan most) p).unbounded ≡ (pool_at plan p).unbounded
 unbounded-lowered plan most p = unbounded_from most 0 plan.pools p
+
+-- the bound of each maximum is the same in the lowered plan
+largest-lowered : (plan : Plan) (most : ℕ → ℕ) (p : ℕ)
+    → largest_max (pool_at (lowered plan most) p).core_timeout (pool_at (lowered plan most) p).unbounded ≡ largest_max (pool_at plan p).core_timeout (pool_at plan p).unbounded
+largest-lowered plan most p =
+    ap (λ (timeout : Bool). largest_max timeout (pool_at (lowered plan most) p).unbounded) (core_timeout_from most 0 plan.pools p)
+    ∙ ap (λ (unbounded : Bool). largest_max (pool_at plan p).core_timeout unbounded) (unbounded-lowered plan most p)
 
 -- the queue of each pool has room in the lowered plan exactly as in the plan
 room-lowered : (plan : Plan) (most : ℕ → ℕ) (p idle queued : ℕ)
@@ -112,7 +124,7 @@ ordered-lowered plan most ordered between = record {
   most_max = λ p inside.
       let low = (between p (there p inside)).1 in
       let few = ordered.most_max p (there p inside) in
-      omega (arith, max-lowered plan most p (there p inside));
+      omega (arith, max-lowered plan most p (there p inside), largest-lowered plan most p);
   queue = λ p inside.
       let some = ordered.queue p (there p inside) in
       let least : least_queue (pool_at (lowered plan most) p) ≡ least_queue (pool_at plan p) = ap (λ (may : Bool). cond may 0 1) (may_reject-lowered plan most p) in
@@ -138,7 +150,6 @@ kept-lowered plan most s kept within = record {
         queue = pool.queue;
         within_max = omega (arith, within p inside, max-lowered plan most p inside);
         within_queue = subst (λ (limit : ℕ). length (pool_part s p).queue ≤ limit) (sym (room-lowered plan most p (pool_part s p).idle (length (pool_part s p).queue))) pool.within_queue;
-        core = λ some. let enough = pool.core some in omega (arith, core-lowered plan most p);
       };
   actors = λ a body i stands. kept.actors a body i stands;
 }
@@ -170,10 +181,13 @@ started_answer : (plan : Plan) (s s' : State) (a : Parent) (body : List Action) 
 started_answer plan s s' a body i k n at is_step =
     started_given plan s s' a i k n (answer (pool_seen plan s (pool_of plan k))) (same_Some (submitted plan s a i k) (s', outcome.Started n) (sym (step_of plan s a body i k at) ∙ is_step))
 
--- if a submit makes a pool start a thread, the pool has fewer threads than its lowered maximum, or fewer than core
+-- pool q has fewer threads than its lowered maximum and a bounded queue, or fewer than core threads
+abbrev pub IsBelow : Plan → (ℕ → ℕ) → State → ℕ → Type 0
+IsBelow plan most s q = ((threads plan s q < most q) × ((pool_at plan q).unbounded ≡ false)) ⊎ (threads plan s q < (pool_at plan q).core)
+
+-- if a submit makes a pool start a thread, `IsBelow` holds for the pool
 abbrev pub StartsBelow : Plan → (ℕ → ℕ) → State → Type 0
-StartsBelow plan most s = (a : Parent) (body : List Action) (i k : ℕ) → IsAtAction plan s a body i (Some (action.Submit k)) → answer (pool_seen plan s (pool_of plan k)) ≡ offer.Started
-    → (threads plan s (pool_of plan k) < most (pool_of plan k)) ⊎ (threads plan s (pool_of plan k) < (pool_at plan (pool_of plan k)).core)
+StartsBelow plan most s = (a : Parent) (body : List Action) (i k : ℕ) → IsAtAction plan s a body i (Some (action.Submit k)) → answer (pool_seen plan s (pool_of plan k)) ≡ offer.Started → IsBelow plan most s (pool_of plan k)
 
 stands-lowered : (plan : Plan) (most : ℕ → ℕ) (s : State) (a : Parent) (body : List Action) (i : ℕ) (there : Option Action) → IsAtAction plan s a body i there → IsAtAction (lowered plan most) s a body i there
 stands-lowered plan most s a body i there at = record { stands = at.stands; is_there = at.is_there }
@@ -186,10 +200,14 @@ happens-lowered plan most s s' e o ordered between below (starts a body i k at r
     let max = max-lowered plan most q inside in
     let core = core-lowered plan most q in
     starts a body i k (stands-lowered plan most s a body i (Some (action.Submit k)) at)
-    (⊎_elim (λ (few : threads plan s q < most q). inl (omega arith)) (λ (few : threads plan s q < (pool_at plan q).core). inr (omega arith)) (below a body i k at (started_answer plan s s' a body i k (length s.jobs) at is_step)))
-happens-lowered plan most s s' e o ordered between below (queues a body i k at at_core room) is_step =
+    (⊎_elim
+    (λ (few : (threads plan s q < most q) × ((pool_at plan q).unbounded ≡ false)).
+    let fewer : threads plan s q < most q = few.0 in
+    inl (omega arith, unbounded-lowered plan most q ∙ few.1))
+    (λ (few : threads plan s q < (pool_at plan q).core). inr (omega arith)) (below a body i k at (started_answer plan s s' a body i k (length s.jobs) at is_step)))
+happens-lowered plan most s s' e o ordered between below (queues a body i k at room) is_step =
     let q = pool_of plan k in
-    queues a body i k (stands-lowered plan most s a body i (Some (action.Submit k)) at) (omega (arith, core-lowered plan most q))
+    queues a body i k (stands-lowered plan most s a body i (Some (action.Submit k)) at)
     (subst (λ (limit : ℕ). length (pool_part s q).queue < limit) (sym (room-lowered plan most q (pool_part s q).idle (length (pool_part s q).queue))) room)
 happens-lowered plan most s s' e o ordered between below (is_refused a body i k at must no_room all_started) is_step =
     let q = pool_of plan k in
@@ -204,5 +222,5 @@ happens-lowered plan most s s' e o ordered between below (gets a body i t j at i
 happens-lowered plan most s s' e o ordered between below (finishes j body i at) is_step = finishes j body i (stands-lowered plan most s (parent.Job j) body i None at)
 happens-lowered plan most s s' e o ordered between below (loops c client body i at is_client repeats) is_step = loops c client body i (stands-lowered plan most s (parent.Client c) body i None at) is_client repeats
 happens-lowered plan most s s' e o ordered between below (takes p j queue idle is_queue is_idle) is_step = takes p j queue idle is_queue is_idle
-happens-lowered plan most s s' e o ordered between below (retires p idle is_idle above_core not_handed) is_step =
-    retires p idle is_idle (omega (arith, core-lowered plan most p)) (λ bounded none. not_handed (sym (unbounded-lowered plan most p) ∙ bounded) (sym (queue-lowered plan most p) ∙ none))
+happens-lowered plan most s s' e o ordered between below (retires p idle is_idle not_handed) is_step =
+    retires p idle is_idle (λ bounded none. not_handed (sym (unbounded-lowered plan most p) ∙ bounded) (sym (queue-lowered plan most p) ∙ none))

@@ -1,5 +1,5 @@
 -- A well-formed plan stays well-formed if one of its pools is replaced by its `refusing_pool`.
-use Rattle.std.proofs.Common.{◌≡◌, ℕ, ◌<◌, ◌≤◌, max, Bool, true, false, ◌&&◌, List, length, map, set, sym, ap, ◌∙◌, arith, refl}
+use Rattle.std.proofs.Common.{◌≡◌, ℕ, ◌<◌, ◌≤◌, max, Bool, true, ◌&&◌, ◌||◌, List, length, map, sym, ap, ◌∙◌, arith, refl}
 use Rattle.std.specs.Prelude.{nat_lt}
 use Rattle.std.specs.List.{list_all}
 use Rattle.std.proofs.Math.Seq.{map-set_same}
@@ -10,7 +10,7 @@ use Rattle.support.proofs.Members.{list_all_at_In, In-get_or}
 use Rattle.job_bodies.specs.declared.limits.TheConstants.{MAX_SIZE}
 use Rattle.job_bodies.proofs.Bodies.{ordered}
 use Rattle.job_bodies.specs.Plan.{Pool, Class, Plan, no_pool, pool_at}
-use Rattle.job_bodies.specs.WellFormed.{is_valid_name, is_within, least_queue, has_valid_sizes, is_valid_pool, is_valid_body, are_distinct, IsWellFormed}
+use Rattle.job_bodies.specs.WellFormed.{is_valid_name, is_within, least_queue, has_no_max, has_valid_sizes, is_valid_pool, is_valid_body, are_distinct, IsWellFormed}
 use Rattle.counterexample.specs.Rejection.{refusing_pool, refusing}
 
 -- the `refusing_pool` of a pool of the plan is valid exactly if the pool is
@@ -20,8 +20,8 @@ refusing_is_valid plan p well inside =
     let bodies = ordered plan well in
     let valid : is_valid_pool pool ≡ true = list_all_at_In is_valid_pool well.pools (In-get_or plan.pools p no_pool inside) in
     let name = and_parts (is_valid_name pool.name) (has_valid_sizes pool) valid in
-    let sizes = and_parts (is_within 1 MAX_SIZE pool.core && is_within pool.core MAX_SIZE pool.max) (is_within (least_queue pool) MAX_SIZE pool.queue) name.1 in
-    let most : max pool.queue 1 ≤ MAX_SIZE = omega (arith, bodies.most_queue p inside, bodies.core p inside, bodies.max p inside, bodies.most_max p inside) in
+    let sizes = and_parts (is_within 1 MAX_SIZE pool.core && (is_within pool.core MAX_SIZE pool.max || has_no_max pool)) (is_within (least_queue pool) MAX_SIZE pool.queue) name.1 in
+    let most : max pool.queue 1 ≤ MAX_SIZE = omega (arith, bodies.most_queue p inside) in
     let queue : is_within 1 MAX_SIZE (max pool.queue 1) ≡ true = and_from _ _ (le-leb 1 (max pool.queue 1) (omega arith)) (le-leb (max pool.queue 1) MAX_SIZE most) in
     and_from (is_valid_name pool.name) _ name.0 (and_from _ _ sizes.0 queue) ∙ sym valid
 

@@ -69,7 +69,7 @@ between_cond false low high h = (h, omega arith)
 between_core : (plan : Plan) (p : ℕ) → HasValidBodies plan → IsBetween plan (core_for_max plan p)
 between_core plan p ordered q inside = between_cond (eqb q p) (pool_at plan q).core (pool_at plan q).max (ordered.max q inside)
 
-below_cond : (b : Bool) (n low high : ℕ) → (b ≡ true → n < low) → (n < low) ⊎ (n < high) → (n < cond b low high) ⊎ (n < low)
+below_cond : (b : Bool) (n low high : ℕ) {Bounded : Type 0} → (b ≡ true → n < low) → (n < low) ⊎ ((n < high) × Bounded) → ((n < cond b low high) × Bounded) ⊎ (n < low)
 below_cond true n low high few given = inr (few refl)
 below_cond false n low high few given = ⊎_elim (λ below. inr below) (λ below. inl below) given
 

@@ -1,10 +1,10 @@
 -- The result of the call `confirmed`, which checks a witness.
-use Rattle.std.specs.Prelude.{◌≡◌, ◌⊎◌, ℕ, IsTrue, List, ◌++◌, Option, Some, None, slice_get}
-use Rattle.job_bodies.specs.Plan.{Plan}
+use Rattle.std.specs.Prelude.{◌≡◌, ◌≤◌, ◌⊎◌, ℕ, IsTrue, List, ◌++◌, Option, Some, None, slice_get}
+use Rattle.job_bodies.specs.Plan.{Plan, pool_at}
 use Rattle.written_machine.specs.declared.event.Event.{Event}
-use Rattle.written_machine.specs.State.{State}
+use Rattle.written_machine.specs.State.{State, threads}
 use Rattle.written_machine.specs.Waiting.{IsWaitingSet}
-use Rattle.written_machine.specs.FullWaitingSets.{WhereMembersQueue, IsFull}
+use Rattle.written_machine.specs.FullWaitingSets.{WhereMembersQueue, HasMaxThreads, IsFull}
 use Rattle.weights.specs.Row.{AllHold}
 use Rattle.weights.specs.Vector.{Vector, vector_fits}
 use Rattle.weights.specs.Standing.{standing_rows}
@@ -28,19 +28,21 @@ pub record GivenStanding (plan : Plan) (standing : List Vector) (p : ℕ) : Type
   pub hold : AllHold (standing_rows plan p vector)
   pub light : RejectedAreLight plan vector
 
--- each pool with a queued member has all its threads
-abbrev pub AreFull : Plan → State → List ℕ → Type 0
-AreFull plan s members = WhereMembersQueue plan s members (IsFull plan s)
+-- why pool p starts no thread: it has all its threads; or it may have fewer, but has at least core threads, and its queue is unbounded or
+-- `standing` has a valid standing vector for it
+abbrev pub StartsNoneFor : Plan → List Vector → State → Reason → ℕ → Type 0
+StartsNoneFor plan standing s PoolsAreFull p = HasMaxThreads plan s p
+StartsNoneFor plan standing s PoolsStayAtCore p = IsFull plan s p ⊎ (GivenStanding plan standing p × ((pool_at plan p).core ≤ threads plan s p))
 
--- each pool with a queued member has all its threads, or `standing` has a valid standing vector for it
-abbrev pub AreFullOrStanding : Plan → State → List ℕ → List Vector → Type 0
-AreFullOrStanding plan s members standing = WhereMembersQueue plan s members (λ p. IsFull plan s p ⊎ GivenStanding plan standing p)
+-- each pool with a queued member starts no thread, for this reason
+abbrev pub AllStartNoneFor : Plan → List ℕ → List Vector → State → Reason → Type 0
+AllStartNoneFor plan members standing s reason = WhereMembersQueue plan s members (StartsNoneFor plan standing s reason)
 
 -- the first of the two reasons that holds; None if neither holds
 abbrev pub IsReason : Plan → List ℕ → List Vector → State → Option Reason → Type 0
-IsReason plan members standing s (Some PoolsAreFull) = AreFull plan s members
-IsReason plan members standing s (Some PoolsStayAtCore) = (¬ AreFull plan s members) × AreFullOrStanding plan s members standing
-IsReason plan members standing s None = ¬ AreFullOrStanding plan s members standing
+IsReason plan members standing s (Some PoolsAreFull) = AllStartNoneFor plan members standing s PoolsAreFull
+IsReason plan members standing s (Some PoolsStayAtCore) = (¬ AllStartNoneFor plan members standing s PoolsAreFull) × AllStartNoneFor plan members standing s PoolsStayAtCore
+IsReason plan members standing s None = ¬ AllStartNoneFor plan members standing s PoolsStayAtCore
 
 -- ---- the result
 

@@ -10,10 +10,16 @@ use Rattle.interleaving.specs.ViewStep.{live_job, pool_in}
 use Rattle.weights.specs.Row.{first_failing}
 use Rattle.weights.specs.Vector.{Vector, vector_fits, queued_weight, done_weight}
 use Rattle.weights.specs.Standing.{standing_rows}
+use Rattle.counterexample.specs.declared.ending.Reason.{Reason}
+use Rattle.counterexample.specs.declared.ending.Reason.TheVariants.{PoolsAreFull, PoolsStayAtCore}
 
 -- the pool has all its threads
-abbrev pub is_full : View → ℕ → Bool
-is_full view p = (pool_in view p).threads == (pool_in view p).max
+abbrev pub has_max_threads : View → ℕ → Bool
+has_max_threads view p = (pool_in view p).threads == (pool_in view p).max
+
+-- the pool has at least core threads
+abbrev pub has_core_threads : View → ℕ → Bool
+has_core_threads view p = nat_le (pool_in view p).core (pool_in view p).threads
 
 -- the pool of the class with this number must not reject jobs, or a done job of the class weighs at most as much as a queued job
 abbrev pub is_light : Plan → Vector → ℕ × Class → Bool
@@ -29,22 +35,31 @@ abbrev pub has_standing : Plan → ℕ → Option Vector → Bool
 has_standing plan p None = false
 has_standing plan p (Some v) = vector_fits plan v && not (is_some (first_failing (standing_rows plan p v))) && rejected_are_light plan v
 
-abbrev pub pool_starts_no_thread : Plan → View → List Vector → ℕ → Bool
-pool_starts_no_thread plan view standing p = nat_lt p (length plan.pools) && (is_full view p || has_standing plan p (slice_get standing p))
+-- the pool has at least core threads, and starts none above core, because its queue is unbounded or there is a valid standing vector
+abbrev pub stays_at_core : Plan → View → List Vector → ℕ → Bool
+stays_at_core plan view standing p = has_core_threads view p && ((pool_in view p).unbounded || has_standing plan p (slice_get standing p))
 
-abbrev pub class_starts_no_thread : Plan → View → List Vector → Option Class → Bool
-class_starts_no_thread plan view standing None = false
-class_starts_no_thread plan view standing (Some class) = pool_starts_no_thread plan view standing class.pool
+-- the pool starts no thread, for this reason
+abbrev pub starts_none_for : Plan → View → List Vector → Reason → ℕ → Bool
+starts_none_for plan view standing PoolsAreFull p = has_max_threads view p
+starts_none_for plan view standing PoolsStayAtCore p = has_max_threads view p || stays_at_core plan view standing p
 
-abbrev pub phase_starts_no_thread : Plan → View → List Vector → ℕ → Phase → Bool
-phase_starts_no_thread plan view standing k phase.Queued = class_starts_no_thread plan view standing (slice_get plan.classes k)
-phase_starts_no_thread plan view standing k _ = true
+abbrev pub pool_starts_no_thread : Plan → View → List Vector → Reason → ℕ → Bool
+pool_starts_no_thread plan view standing reason p = nat_lt p (length plan.pools) && starts_none_for plan view standing reason p
 
--- the job is not queued, or its pool starts no further thread
-abbrev pub job_starts_no_thread : Plan → View → List Vector → Option JobView → Bool
-job_starts_no_thread plan view standing None = true
-job_starts_no_thread plan view standing (Some job) = phase_starts_no_thread plan view standing job.class job.phase
+abbrev pub class_starts_no_thread : Plan → View → List Vector → Reason → Option Class → Bool
+class_starts_no_thread plan view standing reason None = false
+class_starts_no_thread plan view standing reason (Some class) = pool_starts_no_thread plan view standing reason class.pool
 
--- no member is queued in a pool that may start another thread
-abbrev pub all_start_no_thread : Plan → View → List Vector → List ℕ → Bool
-all_start_no_thread plan view standing members = list_all (λ j. job_starts_no_thread plan view standing (live_job view.jobs j)) members
+abbrev pub phase_starts_no_thread : Plan → View → List Vector → Reason → ℕ → Phase → Bool
+phase_starts_no_thread plan view standing reason k phase.Queued = class_starts_no_thread plan view standing reason (slice_get plan.classes k)
+phase_starts_no_thread plan view standing reason k _ = true
+
+-- the job is not queued, or its pool starts no thread for this reason
+abbrev pub job_starts_no_thread : Plan → View → List Vector → Reason → Option JobView → Bool
+job_starts_no_thread plan view standing reason None = true
+job_starts_no_thread plan view standing reason (Some job) = phase_starts_no_thread plan view standing reason job.class job.phase
+
+-- each pool with a queued member starts no thread, for this reason
+abbrev pub all_start_no_thread : Plan → View → List Vector → Reason → List ℕ → Bool
+all_start_no_thread plan view standing reason members = list_all (λ j. job_starts_no_thread plan view standing reason (live_job view.jobs j)) members

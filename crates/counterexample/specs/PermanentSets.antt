@@ -1,4 +1,4 @@
--- Permanent waiting sets: each pool with a queued member has all its threads, or never has more than core threads.
+-- Permanent waiting sets: each pool with a queued member has all its threads, or has at least core threads and never more.
 use Rattle.std.specs.Prelude.{◌≡◌, ◌≤◌, ◌<◌, ◌⊎◌, ℕ, List, length, Some}
 use Rattle.job_bodies.specs.Plan.{Plan, pool_at}
 use Rattle.job_bodies.specs.WellFormed.{IsWellFormed}
@@ -19,16 +19,16 @@ pub record HasStanding (plan : Plan) (p : ℕ) : Type 0 where
   pub hold : AllHold (standing_rows plan p vector)
   pub light : RejectedAreLight plan vector
 
--- a pool with a standing vector never has more than core threads, whatever the other pools do
+-- a pool with a standing vector never has more than core threads, whatever the other pools do and even if its core threads may time out
 abbrev pub StandingPoolsStayAtCore : Type 0
 StandingPoolsStayAtCore = (plan : Plan) (p : ℕ) (s : State) → IsWellFormed plan → p < length plan.pools → HasStanding plan p → IsReached plan s → threads plan s p ≤ (pool_at plan p).core
 
--- the pool starts no thread while a job is queued: it has all its threads, or it never has more than core threads (and has that
--- many if a job is queued)
+-- pool p starts no thread: it is full, or it has at least core threads and never has more. A pool with a queued job has at least core
+-- threads, unless its core threads may time out: it may then have fewer, and the next submit starts a thread, which can take the job
 abbrev pub StartsNoThread : Plan → State → ℕ → Type 0
-StartsNoThread plan s p = IsFull plan s p ⊎ HasStanding plan p
+StartsNoThread plan s p = IsFull plan s p ⊎ (HasStanding plan p × ((pool_at plan p).core ≤ threads plan s p))
 
--- a waiting set whose queued members all wait in pools that start no thread while a job is queued
+-- a waiting set whose queued members all wait in pools that start no thread
 pub record IsPermanentWaitingSet (plan : Plan) (s : State) (members : List ℕ) : Type 0 where
   pub waits : IsWaitingSet plan s members
   pub starts_no_thread : WhereMembersQueue plan s members (StartsNoThread plan s)

@@ -10,7 +10,7 @@ use Rattle.written_machine.specs.Step.{step}
 use Rattle.written_machine.specs.Reach.{start, outcomes, Reaches}
 use Rattle.written_machine.specs.Safe.{Safe}
 use Rattle.written_machine.specs.Waiting.{IsWaitingSet}
-use Rattle.written_machine.specs.FullWaitingSets.{IsFullWaitingSet}
+use Rattle.written_machine.specs.FullWaitingSets.{WhereMembersQueue, HasMaxThreads, IsFullWaitingSet}
 use Rattle.cert_text.specs.Cert.{Cert}
 use Rattle.soundness.specs.Accepted.{accepted}
 use Rattle.counterexample.specs.declared.ending.Ending.{Ending}
@@ -41,10 +41,10 @@ pub record EndsRefused (plan : Plan) (events : List Event) (p : ℕ) : Type 0 wh
 
 -- the members are a waiting set, which is permanent for this reason
 abbrev pub StaysFor : Plan → List ℕ → Reason → State → Type 0
-StaysFor plan members PoolsAreFull s = IsFullWaitingSet plan s members
+StaysFor plan members PoolsAreFull s = IsFullWaitingSet plan s members × WhereMembersQueue plan s members (HasMaxThreads plan s)
 StaysFor plan members PoolsStayAtCore s = IsPermanentWaitingSet plan s members
 
--- the members are a waiting set, and one of them waits in the queue of a pool that has fewer threads than its maximum
+-- the members are a waiting set, and one of them waits in the queue of a pool that is not full
 pub record WaitsForNow (plan : Plan) (members : List ℕ) (s : State) : Type 0 where
   pub waits : IsWaitingSet plan s members
   pub not_full : ¬ IsFullWaitingSet plan s members

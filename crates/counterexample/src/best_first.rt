@@ -238,7 +238,7 @@ impl<'a> BestFirst<'a> {
         }
         let next = self.add_node(number, branch)?;
         self.add_open(replayed, &walk, branch, next)?;
-        if walk.has_blocked && walk.has_closed() {
+        if (walk.has_blocked || self.choices.has_core_timeout) && walk.has_closed() {
             return walk.stuck(self.alloc, self.stuck_now.is_none());
         }
         Ok(None)

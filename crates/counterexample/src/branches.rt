@@ -17,8 +17,8 @@ const MAX_ACTORS: usize = 8;
 ///
 /// - `place` is the index of the choice.
 /// - `newer` selects an actor that is ready for the choice: it is the number of actors that became
-///   ready later than the selected one. `newer` has no effect if a new client starts or a thread
-///   takes a job.
+///   ready later than the selected one. `newer` has no effect if a new client starts, or if a
+///   thread takes a job or ends.
 #[derive(Clone, Copy, PartialEq, Eq)]
 pub(crate) struct Branch {
     pub(crate) place: usize,
@@ -59,6 +59,7 @@ impl<'a> Walk<'a> {
             let ways = match *choice {
                 Choice::Begin(kind) => usize::from(self.has_more(kind) && !self.has_old(kind)),
                 Choice::Take(class) => usize::from(self.would_take(class)),
+                Choice::Retire(pool) => usize::from(self.machine.can_retire(pool)),
                 Choice::First(_) => ready.len().min(1),
                 Choice::Later(_) | Choice::Inner(_) => ready.len().min(MAX_ACTORS),
             };
@@ -122,7 +123,8 @@ impl<'a> Walk<'a> {
         least
     }
 
-    /// Returns `true` if some pool has a queued job but no idle thread.
+    /// Returns `true` if some pool has a queued job but no idle thread, or if its idle threads can
+    /// all end.
     pub(crate) fn has_closed(&self) -> bool {
         self.machine
             .pools

@@ -23,12 +23,17 @@ pub(crate) enum Choice {
     Inner(usize),
     /// A thread takes a job of the class from its pool's queue.
     Take(usize),
+    /// An idle thread of the pool ends. Core threads of the pool may time out.
+    Retire(usize),
 }
 
 /// All choices of a plan, and the index of the choice for each submit of each body.
 #[derive(Drop)]
 pub(crate) struct Choices {
     pub(crate) all: Vec<Choice>,
+    /// Whether core threads of some pool may time out. Jobs can then wait only for each other in a
+    /// state that does not last, because an idle thread either ends or takes a job.
+    pub(crate) has_core_timeout: bool,
     /// For each choice, the limit for its submit, or `None` if the choice submits no job or submits
     /// it to a bounded queue.
     limits: Vec<Option<QueueLimit>>,
@@ -41,6 +46,7 @@ impl Choices {
     pub(crate) fn of(alloc: Global, plan: &Plan) -> Result<Choices, AllocError> {
         let mut choices = Choices {
             all: Vec::new(alloc),
+            has_core_timeout: plan.pools().iter().any(|pool| pool.core_timeout),
             limits: Vec::new(alloc),
             of_kinds: Vec::new(alloc),
             of_classes: Vec::new(alloc),
@@ -71,6 +77,11 @@ impl Choices {
                 places.push(place)?;
             }
             choices.of_classes.push(places)?;
+        }
+        for (number, pool) in plan.pools().iter().enumerate() {
+            if pool.core_timeout {
+                choices.add(Choice::Retire(number), None)?;
+            }
         }
         Ok(choices)
     }

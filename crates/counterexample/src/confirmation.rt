@@ -35,8 +35,10 @@ use weights::Vector;
 /// - Otherwise, if the members are in ascending order and wait only for each other after the
 ///   events, returns a witness with all events. If they are not, returns `None`.
 ///
-/// A vector is used as a proof only if it satisfies two conditions:
+/// A vector is used as a proof only if these conditions hold:
 ///
+/// - Its pool has at least `core` threads after the events. If core threads may time out, the pool
+///   may have fewer, and then the next submit starts a thread.
 /// - It satisfies all conditions of a standing vector of its pool.
 /// - In each class of a pool that may reject jobs, a done job weighs at most as much as a queued
 ///   job. A rejected job then does not increase the weight of a state.
@@ -118,9 +120,9 @@ fn reason(plan: &Plan, world: &World, members: &[usize], standing: &[Vector]) ->
 {
     // The contract of this call states that the plan is well-formed. The proof needs this.
     let _pools = plan.pools();
-    if all_start_no_thread(plan, world, members, &[]) {
+    if all_start_no_thread(plan, world, members, standing, Reason::PoolsAreFull) {
         Some(Reason::PoolsAreFull)
-    } else if all_start_no_thread(plan, world, members, standing) {
+    } else if all_start_no_thread(plan, world, members, standing, Reason::PoolsStayAtCore) {
         Some(Reason::PoolsStayAtCore)
     } else {
         None

@@ -20,6 +20,7 @@ pub enum Reason {
     /// Each pool that has one of the jobs in its queue has `max` threads.
     PoolsAreFull,
     /// For each pool that has one of the jobs in its queue, one of these holds: the pool has `max`
-    /// threads, or a standing vector proves that it never has more than `core` threads.
+    /// threads, or it has at least `core` threads and starts none above `core`. The latter is so if
+    /// its queue is unbounded, or if a standing vector proves that the queue is never full.
     PoolsStayAtCore,
 }

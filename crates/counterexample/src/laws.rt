@@ -14,21 +14,25 @@ pub fn witnessed_plans_are_not_safe()
     ensures { WitnessedPlansAreNotSafe }
 {}
 
-/// States that a pool never has more than `core` threads if some vector satisfies two conditions:
+/// States that a pool never has more than `core` threads, even if its core threads may time out, if
+/// some vector satisfies two conditions:
 ///
 /// - The vector is a standing vector of the pool.
 /// - In each class of a pool that may reject jobs, a done job weighs at most as much as a queued
 ///   job.
 ///
-/// The other pools can have any sizes, and may even refuse submits.
+/// The other pools can have any sizes, and may even refuse submits. The law holds if each submit is
+/// one event. In the steps of Java's `execute`, a pool whose core threads may time out can have more
+/// threads, because Java replaces a thread that ends while jobs are queued.
 pub fn standing_pools_stay_at_core()
     ensures { StandingPoolsStayAtCore }
 {}
 
 /// States that a permanent waiting set lasts. A waiting set is a set of jobs that wait only for
-/// each other. It is permanent if each pool that has a member in its queue has `max` threads, or
-/// has a vector as in [`standing_pools_stay_at_core`]. After every list of events, a permanent
-/// waiting set is still a waiting set, and none of its jobs has moved.
+/// each other. It is permanent if each pool that has a member in its queue has `max` threads, or has
+/// at least `core` threads and either an unbounded queue or a vector as in
+/// [`standing_pools_stay_at_core`]. After every list of events, a permanent waiting set is still a
+/// waiting set, and none of its jobs has moved.
 pub fn permanent_waiting_sets_stay()
     ensures { PermanentWaitingSetsStay }
 {}

@@ -59,12 +59,13 @@ impl<'a> Losses<'a> {
     }
 
     /// Returns the loss of the choice, made by `actor`. The loss is at most [`MAX_LOST`]. The
-    /// choice must be possible. If a new client starts or a thread takes a job, `actor` has no
-    /// effect.
+    /// choice must be possible. If a new client starts, or a thread takes a job or ends, `actor` has
+    /// no effect.
     pub(crate) fn of(&self, choice: Choice, actor: Option<Parent>) -> u64 {
         let lost = match choice {
             Choice::Begin(kind) => self.of_begin(kind),
             Choice::Take(class) => self.of_take(class),
+            Choice::Retire(pool) => self.potential.workers.get(pool).copied(),
             Choice::First(_) | Choice::Later(_) | Choice::Inner(_) => match actor {
                 Some(actor) => self.of_actor(actor),
                 None => None,

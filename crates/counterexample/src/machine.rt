@@ -239,6 +239,19 @@ impl<'a> Machine<'a> {
         Some(job)
     }
 
+    /// Returns `true` if an idle thread of the pool can end, as [`SearchPool::can_retire`] does.
+    pub(crate) fn can_retire(&self, pool: usize) -> bool {
+        self.pools.get(pool).is_some_and(|pool| pool.can_retire())
+    }
+
+    /// Makes an idle thread of the pool end, and returns `true`, as [`SearchPool::retire`] does.
+    pub(crate) fn retire(&mut self, pool: usize) -> bool {
+        match self.pools.get_mut(pool) {
+            Some(pool) => pool.retire(),
+            None => false,
+        }
+    }
+
     fn submit(
         &mut self,
         actor: Parent,

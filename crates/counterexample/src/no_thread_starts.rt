@@ -8,68 +8,119 @@ ghost use Rattle.interleaving.specs.OfPlan.{IsReachableView};
 ghost use Rattle.weights.specs.Vector.{vector_fits};
 ghost use Rattle.counterexample.specs.NoThreadStarts as spec;
 
+use crate::Reason;
 use interleaving::{Phase, World};
 use job_bodies::{Class, Plan};
 use weights::Vector;
 
-/// Returns `true` if no pool with a job of `members` in its queue can start a thread. A pool cannot
-/// start a thread if
-///
-/// - it has `max` threads, or
-/// - its vector in `standing` proves that it never has more than `core` threads.
+/// Returns `true` if no pool with a job of `members` in its queue can start a thread, for this
+/// [`Reason`]. If the reason is [`PoolsStayAtCore`](Reason::PoolsStayAtCore), the vectors in
+/// `standing` can prove that their pools never have more than `core` threads.
 pub(crate) fn all_start_no_thread(
     plan: &Plan,
     world: &World,
     members: &[usize],
     standing: &[Vector],
+    reason: Reason,
 ) -> bool
     requires { IsReachableView plan.now world.now.view }
-    ensures { result ≡ spec.all_start_no_thread plan.now world.now.view standing.now members.now }
+    ensures { result
+        ≡ spec.all_start_no_thread plan.now world.now.view standing.now reason members.now }
 {
-    members.iter().all(|&member| job_starts_no_thread(plan, world, member, standing))
+    members.iter().all(|&member| job_starts_no_thread(plan, world, member, standing, reason))
 }
 
-fn job_starts_no_thread(plan: &Plan, world: &World, member: usize, standing: &[Vector]) -> bool
+fn job_starts_no_thread(
+    plan: &Plan,
+    world: &World,
+    member: usize,
+    standing: &[Vector],
+    reason: Reason,
+) -> bool
     requires { IsReachableView plan.now world.now.view }
     ensures { result
-        ≡ spec.job_starts_no_thread plan.now world.now.view standing.now
+        ≡ spec.job_starts_no_thread plan.now world.now.view standing.now reason
         (live_job world.now.view.jobs member) }
 {
     let Some(job) = world.job(member) else {
         return true;
     };
     match job.phase {
-        Phase::Queued => class_starts_no_thread(plan, world, job.class, standing),
+        Phase::Queued => class_starts_no_thread(plan, world, job.class, standing, reason),
         _ => true,
     }
 }
 
-fn class_starts_no_thread(plan: &Plan, world: &World, class: usize, standing: &[Vector]) -> bool
+fn class_starts_no_thread(
+    plan: &Plan,
+    world: &World,
+    class: usize,
+    standing: &[Vector],
+    reason: Reason,
+) -> bool
     requires { IsReachableView plan.now world.now.view }
     ensures { result
-        ≡ spec.class_starts_no_thread plan.now world.now.view standing.now
+        ≡ spec.class_starts_no_thread plan.now world.now.view standing.now reason
         (slice_get plan.now.classes class) }
 {
     match plan.classes().get(class) {
-        Some(class) => pool_starts_no_thread(plan, world, class.pool, standing),
+        Some(class) => pool_starts_no_thread(plan, world, class.pool, standing, reason),
         None => false,
     }
 }
 
-fn pool_starts_no_thread(plan: &Plan, world: &World, pool: usize, standing: &[Vector]) -> bool
+fn pool_starts_no_thread(
+    plan: &Plan,
+    world: &World,
+    pool: usize,
+    standing: &[Vector],
+    reason: Reason,
+) -> bool
     requires { IsReachableView plan.now world.now.view }
-    ensures { result ≡ spec.pool_starts_no_thread plan.now world.now.view standing.now pool }
+    ensures { result
+        ≡ spec.pool_starts_no_thread plan.now world.now.view standing.now reason pool }
 {
-    pool < plan.pools().len() && (is_full(world, pool) || has_standing(plan, pool, standing))
+    pool < plan.pools().len() && starts_none_for(plan, world, pool, standing, reason)
+}
+
+/// Returns `true` if the pool starts no thread, for this reason.
+fn starts_none_for(
+    plan: &Plan,
+    world: &World,
+    pool: usize,
+    standing: &[Vector],
+    reason: Reason,
+) -> bool
+    requires inside { pool < length plan.now.pools }
+    requires in_view { pool < length world.now.view.pools }
+    ensures { result ≡ spec.starts_none_for plan.now world.now.view standing.now reason pool }
+{
+    match reason {
+        Reason::PoolsAreFull => has_max_threads(world, pool),
+        Reason::PoolsStayAtCore => {
+            has_max_threads(world, pool) || stays_at_core(plan, world, pool, standing)
+        }
+    }
 }
 
 /// Returns `true` if the pool has `max` threads.
-fn is_full(world: &World, pool: usize) -> bool
+fn has_max_threads(world: &World, pool: usize) -> bool
     requires { pool < length world.now.view.pools }
-    ensures { result ≡ spec.is_full world.now.view pool }
+    ensures { result ≡ spec.has_max_threads world.now.view pool }
 {
     let state = world.pool(pool);
     state.threads() == state.max()
+}
+
+/// Returns `true` if the pool has at least `core` threads and starts none above `core`, because its
+/// queue is unbounded or its vector in `standing` proves it.
+fn stays_at_core(plan: &Plan, world: &World, pool: usize, standing: &[Vector]) -> bool
+    requires inside { pool < length plan.now.pools }
+    requires in_view { pool < length world.now.view.pools }
+    ensures { result ≡ spec.stays_at_core plan.now world.now.view standing.now pool }
+{
+    let state = world.pool(pool);
+    state.threads() >= state.core() && (state.is_unbounded() || has_standing(plan, pool, standing))
 }
 
 /// Returns `true` if `standing` has a vector for the pool that satisfies all conditions of a

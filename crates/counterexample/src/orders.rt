@@ -60,7 +60,8 @@ pub(crate) fn shuffle(keys: &mut [u64], rng: &mut Rng) {
 
 /// The parameters of a fixed order of the choices. They determine
 ///
-/// - the order of three groups: first submits of clients, other submits, and takes of queued jobs,
+/// - the order of three groups: first submits of clients, other submits, and takes of queued jobs
+///   with ends of threads,
 /// - whether clients that have moved come before new ones,
 /// - whether later choices come before earlier ones, and
 /// - whether later client kinds come before earlier ones.
@@ -77,7 +78,7 @@ impl OrderParams {
         let (group, down) = match choice {
             Choice::Begin(_) | Choice::First(_) => (0, self.kinds_down),
             Choice::Later(_) | Choice::Inner(_) => (1, self.places_down),
-            Choice::Take(_) => (2, self.places_down),
+            Choice::Take(_) | Choice::Retire(_) => (2, self.places_down),
         };
         let late = match choice {
             Choice::Begin(_) => self.old_first,

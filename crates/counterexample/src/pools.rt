@@ -15,7 +15,9 @@ pub(crate) enum Admission {
 }
 
 /// Returns the greatest number of threads that the pool can have. This is its core size if its
-/// queue is unbounded, and otherwise its maximum.
+/// queue is unbounded, and otherwise its maximum. If core threads may time out, Java can start
+/// threads above core over an unbounded queue too, but only between the steps of a submit. In a
+/// witness, each submit is one event.
 pub(crate) fn most_threads(pool: &Pool) -> u64 {
     if pool.unbounded { pool.core } else { pool.max }
 }
@@ -28,6 +30,7 @@ pub(crate) struct SearchPool {
     max: u64,
     capacity: u64,
     unbounded: bool,
+    core_timeout: bool,
     may_reject: bool,
     threads: u64,
     idle: u64,
@@ -43,6 +46,7 @@ impl SearchPool {
             max: most_threads(pool),
             capacity: pool.queue,
             unbounded: pool.unbounded,
+            core_timeout: pool.core_timeout,
             may_reject: pool.may_reject,
             threads: first,
             idle: first,
@@ -57,6 +61,7 @@ impl SearchPool {
             max: self.max,
             capacity: self.capacity,
             unbounded: self.unbounded,
+            core_timeout: self.core_timeout,
             may_reject: self.may_reject,
             threads: self.threads,
             idle: self.idle,
@@ -162,9 +167,43 @@ impl SearchPool {
         &self.queue
     }
 
-    /// Returns `true` if no thread is idle, so that each queued job waits for a running job to end.
-    /// If `permanent` is `true`, the pool must also have `max` threads.
+    /// Returns `true` if no thread is idle, or if all idle threads can end, so that each queued job
+    /// then waits for a running job to end. If `permanent` is `true`, the pool must also have `max`
+    /// threads, all of them busy.
     pub(crate) fn is_closed(&self, permanent: bool) -> bool {
-        self.idle == 0 && (!permanent || self.threads == self.max)
+        if permanent {
+            self.idle == 0 && self.threads == self.max
+        } else {
+            self.idle == 0 || self.can_lose_idle_threads()
+        }
+    }
+
+    /// Returns `true` if all idle threads can end although jobs are queued: core threads may time
+    /// out, and another thread is busy. If the queue has the capacity 0, each queued job was handed
+    /// to an idle thread, which does not end.
+    fn can_lose_idle_threads(&self) -> bool {
+        self.core_timeout && self.idle < self.threads && (self.unbounded || self.capacity > 0)
+    }
+
+    /// Returns `true` if core threads may time out and an idle thread can end: the pool has another
+    /// thread or no queued job, and the thread was not handed a job.
+    pub(crate) fn can_retire(&self) -> bool {
+        let queued = self.queue.len() as u64;
+        self.core_timeout
+            && self.idle > 0
+            && (self.threads > 1 || queued == 0)
+            && (self.unbounded || self.capacity > 0 || queued < self.idle)
+    }
+
+    /// Ends an idle thread, and returns `true`. Returns `false` if [`can_retire`] does.
+    ///
+    /// [`can_retire`]: SearchPool::can_retire
+    pub(crate) fn retire(&mut self) -> bool {
+        let ends = self.can_retire();
+        if ends {
+            self.threads = self.threads.saturating_sub(1);
+            self.idle = self.idle.saturating_sub(1);
+        }
+        ends
     }
 }

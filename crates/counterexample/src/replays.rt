@@ -1,6 +1,6 @@
 //! Replays of selected events of a script. A replay skips events that are no longer possible.
 
-use crate::machine::{Machine, StepOutcome};
+use crate::machine::{Machine, Phase, StepOutcome};
 use crate::scripts::Script;
 use crate::waiting_sets::JobSet;
 use crate::walks::Violation;
@@ -68,6 +68,30 @@ impl<'a> Replay<'a> {
         Ok(!members.is_empty())
     }
 
+    /// Ends the idle threads of each pool that has one of the members in its queue. The members
+    /// must wait only for each other as soon as these threads have ended.
+    pub(crate) fn end_idle_threads(&mut self, members: &[usize]) -> Result<(), AllocError> {
+        for member in members {
+            let Some(job) = self.machine.jobs.get(*member).copied() else {
+                continue;
+            };
+            if job.phase == Phase::Queued {
+                self.retire_all(job.pool)?;
+            }
+        }
+        Ok(())
+    }
+
+    fn retire_all(&mut self, pool: usize) -> Result<(), AllocError> {
+        for _ in 0..u64::MAX {
+            if !self.machine.retire(pool) {
+                break;
+            }
+            self.script.add_retire(pool)?;
+        }
+        Ok(())
+    }
+
     fn add(
         &mut self,
         script: &Script,
@@ -83,7 +107,12 @@ impl<'a> Replay<'a> {
                 }
                 None
             }
-            Event::Retire(_) => None,
+            Event::Retire(pool) => {
+                if self.machine.retire(pool) {
+                    self.script.add_retire(pool)?;
+                }
+                None
+            }
         };
         match actor {
             Some(actor) => self.act(actor, made),

@@ -49,6 +49,13 @@ impl Script {
         Ok(())
     }
 
+    /// Appends the event in which an idle thread of the pool ends.
+    pub(crate) fn add_retire(&mut self, pool: usize) -> Result<(), AllocError> {
+        let event = Event::Retire(pool);
+        self.steps.push(ScriptStep { event, made: None })?;
+        Ok(())
+    }
+
     /// Returns the events with the client numbers of the plan. Of the clients of a client kind, the
     /// one that moves first gets the lowest number of the kind, and so on.
     pub(crate) fn events(&self, alloc: Global, plan: &Plan) -> Result<Vec<Event>, AllocError> {

@@ -319,6 +319,7 @@ fn longest_walk(plan: &Plan) -> usize {
 
 /// Shortens the script, which is a list of events that ends in `violation`, and returns the result
 /// as a probable witness. The shorter script ends in the same violation or in a refused submit.
+/// Core threads that must time out before the jobs wait only for each other end after it.
 fn answer_of(
     alloc: Global,
     plan: &Plan,
@@ -327,7 +328,7 @@ fn answer_of(
 ) -> Result<CandidateWitness, AllocError> {
     let script = shorten_script(alloc, plan, script, violation)?;
     let kept = vec![in alloc; true; script.steps.len()]?;
-    let replay = Replay::of(alloc, plan, &script, &kept)?;
+    let mut replay = Replay::of(alloc, plan, &script, &kept)?;
     let members = if replay.is_refused {
         Vec::new(alloc)
     } else {
@@ -336,6 +337,7 @@ fn answer_of(
             .made_least(alloc, &replay.machine, permanent)?
             .numbers(alloc)?
     };
+    replay.end_idle_threads(&members)?;
     Ok(CandidateWitness {
         events: replay.script.events(alloc, plan)?,
         members,

@@ -59,9 +59,17 @@ pub(crate) fn shorten_script(
 }
 
 impl Shortener<'_> {
-    /// Tries to remove all events of jobs. Then tries to remove all events in which a thread takes
-    /// a job from a queue.
+    /// Tries to remove all events in which a thread ends, if there are any, then all events of jobs,
+    /// and then all events in which a thread takes a job from a queue.
     fn without_kinds(&mut self) -> Result<(), AllocError> {
+        if self
+            .script
+            .steps
+            .iter()
+            .any(|act| matches!(act.event, Event::Retire(_)))
+        {
+            self.try_without(|_, event| matches!(event, Event::Retire(_)))?;
+        }
         self.try_without(|_, event| matches!(event, Event::Job(_)))?;
         self.try_without(|_, event| matches!(event, Event::Take(_)))
     }
@@ -106,7 +114,7 @@ impl Shortener<'_> {
     }
 
     /// Tries, for each event, to remove this event and all equal later events. These are the later
-    /// steps of the same actor, or the later takes from the same queue.
+    /// steps of the same actor, or the later takes or ends of threads of the same pool.
     fn with_actors_still(&mut self) -> Result<(), AllocError> {
         for from in (0..self.script.steps.len()).rev() {
             if let Some(act) = self.script.steps.get(from).copied() {

@@ -87,8 +87,9 @@ impl MissedVectors {
     }
 
     /// Gives this rank to each pool without a rank that has a blocked vector for this rank with a
-    /// total below its core. Returns whether any pool got the rank. If none did, records the
-    /// blocked vectors that were found, which are too heavy.
+    /// total below the number of threads that the pool has while a job is queued. Returns whether
+    /// any pool got the rank. If none did, records the blocked vectors that were found, which are
+    /// too heavy.
     fn rank_pools(
         &mut self,
         growing: &ResizedPlan,
@@ -114,7 +115,8 @@ impl MissedVectors {
                 rank,
                 lending: true,
             };
-            if self.holds(growing, number, kind, pool.core.saturating_sub(1))? {
+            let limit = pool.least_threads().saturating_sub(1);
+            if self.holds(growing, number, kind, limit)? {
                 *place = Some(rank);
                 moved = true;
             }

@@ -1,4 +1,6 @@
-//! Sets of jobs that wait only for each other.
+//! Sets of jobs that wait only for each other. If core threads of a pool may time out, its idle
+//! threads do not count: they can all end while another thread is busy, and the queued jobs then
+//! wait for the running jobs.
 
 use crate::machine::{Job, Machine, Phase};
 use job_bodies::MAX_POOLS;
@@ -113,9 +115,9 @@ impl JobSet {
         Ok(())
     }
 
-    /// Returns, for each pool, whether it is closed. In a closed pool, no thread is idle and each
-    /// running job is a member, so a queued job waits only for members. If `permanent` is `true`, a
-    /// closed pool must also have `max` threads.
+    /// Returns, for each pool, whether it is closed. In a closed pool, no thread is idle or all idle
+    /// threads can end, and each running job is a member, so a queued job then waits only for
+    /// members. If `permanent` is `true`, a closed pool must also have `max` threads, all busy.
     fn closed_pools(
         &self,
         alloc: Global,

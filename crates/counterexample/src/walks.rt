@@ -25,7 +25,7 @@ pub(crate) enum Violation {
     /// Some jobs wait only for each other, and each pool that has one of these jobs in its queue
     /// has `max` threads.
     StuckForever,
-    /// Some jobs wait only for each other now. A later event, such as a new thread, may change that.
+    /// Some jobs wait only for each other now, or once idle threads end. A later event may end it.
     StuckNow,
 }
 
@@ -66,8 +66,7 @@ pub(crate) enum WalkStep {
     Nothing,
 }
 
-/// The state of a walk: the machine, the events so far, and the actors that are ready for each
-/// choice.
+/// The state of a walk: the machine, the events so far, and the actors ready for each choice.
 #[derive(Drop)]
 pub(crate) struct Walk<'a> {
     pub(crate) machine: Machine<'a>,
@@ -99,6 +98,7 @@ pub(crate) fn perform_walk<'a>(
     let mut rules = rules;
     let mut stuck_now = None;
     let mut due = 8;
+    let mut due_in_passing = 0;
     let mut states = 1usize;
     for step in 1..rules.max_states {
         if rules.changing && rng.next_number() % 16 == 0 {
@@ -109,10 +109,12 @@ pub(crate) fn perform_walk<'a>(
             WalkStep::Refused => return Ok(walk.into_result(Some(Violation::Refused), states)),
             WalkStep::Nothing => break,
         }
-        if walk.has_blocked && step >= due {
+        let due_now = choices.has_core_timeout && stuck_now.is_none() && step >= due_in_passing;
+        if (walk.has_blocked && step >= due) || (due_now && walk.has_closed()) {
             walk.has_blocked = false;
             let jobs = walk.machine.jobs.len();
             due = step.saturating_add(8).saturating_add(jobs / 4);
+            due_in_passing = step.saturating_add(jobs / 16);
             match walk.stuck(alloc, stuck_now.is_none())? {
                 Some(Violation::StuckNow) => stuck_now = Some(walk.script.steps.len()),
                 None => {}
@@ -193,8 +195,8 @@ impl<'a> Walk<'a> {
 
     /// Makes the choice with this index. If the choice needs an actor that is ready for it, `newer`
     /// selects the actor: 0 for the one that became ready last, 1 for the one before, and so on.
-    /// Changes nothing and returns [`WalkStep::Nothing`] if the choice is not possible. The start of
-    /// a new client is not checked, and must be possible.
+    /// Changes nothing and returns [`WalkStep::Nothing`] if the choice is not possible. The start
+    /// of a new client must be possible.
     pub(crate) fn choose(&mut self, place: usize, newer: usize) -> Result<WalkStep, AllocError> {
         match self.choices.all.get(place).copied() {
             Some(Choice::Begin(kind)) => {
@@ -206,6 +208,7 @@ impl<'a> Walk<'a> {
                 self.submit_of(client)
             }
             Some(Choice::Take(class)) => self.take(class),
+            Some(Choice::Retire(pool)) => self.retire(pool),
             Some(_) => match self.take_ready(place, newer) {
                 Some(actor) => self.submit(actor),
                 None => Ok(WalkStep::Nothing),
@@ -228,10 +231,9 @@ impl<'a> Walk<'a> {
     }
 
     /// Returns the index of the choice that the walk makes next, or `None` if no choice is
-    /// possible. This is the possible choice with the smallest loss of weight under `potential`. Of
-    /// several such choices, it is the one with the least key.
+    /// possible. This is the possible choice with the smallest loss of weight under `potential`, or
+    /// any possible choice without a vector. Of several, it is the one with the least key.
     ///
-    /// - Without a vector, every loss counts as 0.
     /// - A choice in `rejected` is returned only if no other choice is possible.
     /// - A submit to an unbounded queue that is at its limit is never returned.
     fn first_possible(&self, rules: &Rules, potential: Option<&Potential>) -> Option<usize> {
@@ -273,6 +275,7 @@ impl<'a> Walk<'a> {
                 self.machine.active_clients() < rules.max_active_clients && self.has_more(kind)
             }
             Choice::Take(class) => self.would_take(class),
+            Choice::Retire(pool) => self.machine.can_retire(pool),
             _ => !ready.is_empty(),
         }
     }
@@ -288,40 +291,6 @@ impl<'a> Walk<'a> {
                 .body
                 .iter()
                 .any(|action| matches!(action, Action::Submit(_)))
-    }
-
-    /// Returns `true` if a thread of the class's pool is idle and the first job in the pool's queue
-    /// is of this class.
-    pub(crate) fn would_take(&self, class: usize) -> bool {
-        let Some(pool) = self.pool_of(class) else {
-            return false;
-        };
-        let Some(pool) = self.machine.pools.get(pool) else {
-            return false;
-        };
-        let Some(job) = pool.next_to_take() else {
-            return false;
-        };
-        self.machine
-            .jobs
-            .get(job)
-            .is_some_and(|job| job.class == class)
-    }
-
-    fn pool_of(&self, class: usize) -> Option<usize> {
-        Some(self.machine.plan.class_at(class)?.pool)
-    }
-
-    fn take(&mut self, class: usize) -> Result<WalkStep, AllocError> {
-        let Some(pool) = self.pool_of(class) else {
-            return Ok(WalkStep::Nothing);
-        };
-        let Some(job) = self.machine.take(pool) else {
-            return Ok(WalkStep::Nothing);
-        };
-        self.script.add_take(pool)?;
-        self.settle(Parent::Job(job))?;
-        Ok(WalkStep::Advanced)
     }
 
     /// Performs the first submit of a new client, the last actor that became ready for it.
@@ -356,10 +325,9 @@ impl<'a> Walk<'a> {
         }
     }
 
-    /// Performs all steps of the actor up to its next submit, to a get that must wait, or to its
-    /// end. An actor that reaches a submit becomes ready for it. If a job ends for which its parent
-    /// waited, continues with the parent.
-    fn settle(&mut self, actor: Parent) -> Result<(), AllocError> {
+    /// Performs all steps of the actor up to its next submit, a get that must wait, or its end. An
+    /// actor at a submit becomes ready for it. If the parent waited for the job, continues with it.
+    pub(crate) fn settle(&mut self, actor: Parent) -> Result<(), AllocError> {
         let mut actor = actor;
         for _ in 0..u64::MAX {
             let Some((position, action)) = self.machine.point(actor) else {

@@ -42,7 +42,7 @@ word_hint key =
     if bytes_eq key (codes "name") || bytes_eq key (codes "pool") then Some (codes "write quotes around the value, as in pool = \"web\"")
     else (if bytes_eq key (codes "core") || bytes_eq key (codes "count") then Some (codes "write a number")
     else (if bytes_eq key (codes "max") || bytes_eq key (codes "queue") then Some (codes "write a number, or \"unbounded\" with its quotes")
-    else (if bytes_eq key (codes "repeat") || (bytes_eq key (codes "prestart") || bytes_eq key (codes "may_reject")) then Some (codes "write true or false")
+    else (if bytes_eq key (codes "repeat") || (bytes_eq key (codes "prestart") || (bytes_eq key (codes "core_timeout") || bytes_eq key (codes "may_reject"))) then Some (codes "write true or false")
     else None)))
 
 abbrev pub ends_with_semicolon : List ℕ → Bool

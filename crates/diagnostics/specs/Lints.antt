@@ -8,10 +8,10 @@ use Rattle.job_bodies.specs.declared.fault.Part.TheVariants as part
 use Rattle.job_bodies.specs.Plan.{Pool, Class, Client, Plan, pool_at, class_at, needs_no_bound, has_get_of}
 use Rattle.size_search.specs.ByClients.{MarksSubmitted, MarksRepeated}
 use Rattle.size_search.specs.declared.cause.Cause.{Cause}
-use Rattle.size_search.specs.declared.cause.Cause.TheVariants.{Circle, ClientNeverGets, ClassNeverGets}
-use Rattle.size_search.specs.Causes.{IsCause}
-use Rattle.size_search.specs.Submitted.{IsWithoutCause}
+use Rattle.size_search.specs.declared.cause.Cause.TheVariants.{Circle, ClientNeverGets, ClassNeverGets, PoolWaitsForItself}
+use Rattle.size_search.specs.Causes.{IsCause, IsWithoutCause}
 use Rattle.diagnostics.specs.declared.lint.Lint.{Lint}
+use Rattle.diagnostics.specs.declared.lint.Lint.TheVariants as lint
 use Rattle.diagnostics.specs.declared.lint.Lint.TheVariants.{SafeAtCore, SubmitsItself, NeverGot, NothingToAsk, NoClients, NothingSubmitted, PoolWithoutJobs, UselessMax, UselessMayReject, NeverRejects, QueueFarAbove, ClassWithoutJobs, RunInCaller, GoesOnce, Crowd, WorkLikeASize, OpenFuture, QueueMayGrow}
 use Rattle.diagnostics.specs.declared.warnings.Warning.{Warning}
 use Rattle.diagnostics.specs.OpenFutures.{has_open_future}
@@ -23,9 +23,13 @@ only_if false lint = []
 
 -- ---- lengths of work that look like sizes
 
--- the number is the core size of the pool or, if its queue is bounded, its maximum or its queue capacity
+-- the number is the maximum of the pool, and this maximum has an effect: the queue is bounded, or core threads may time out
+abbrev pub has_used_max : ℕ → Pool → Bool
+has_used_max n pool = pool.max == n && (not pool.unbounded || pool.core_timeout)
+
+-- the number is the core size of the pool, its maximum if this has an effect, or its queue capacity if the queue is bounded
 abbrev pub has_size : ℕ → Pool → Bool
-has_size n pool = pool.core == n || not pool.unbounded && (pool.max == n || pool.queue == n)
+has_size n pool = pool.core == n || has_used_max n pool || not pool.unbounded && pool.queue == n
 
 abbrev pub has_count : ℕ → Client → Bool
 has_count n client = client.count == n
@@ -74,17 +78,18 @@ brings_jobs marks p k class = slice_index_or marks k false && class.pool == p
 abbrev pub gets_a_job : Plan → List Bool → ℕ → Bool
 gets_a_job plan marks p = list_any (λ (entry : ℕ × Class). brings_jobs marks p entry.0 entry.1) (enumerate_from 0 plan.classes)
 
--- the pool's queue is bounded, and its maximum is above its core size
-abbrev pub may_grow : Pool → Bool
-may_grow pool = not pool.unbounded && nat_lt pool.core pool.max
+-- the pool starts threads above its core size if a submit finds its queue full, and in no other case: its queue is bounded, its core
+-- threads never time out, and its maximum is above its core size
+abbrev pub grows_if_full : Pool → Bool
+grows_if_full pool = not pool.unbounded && not pool.core_timeout && nat_lt pool.core pool.max
 
 -- a tenth of the queue's capacity is more than `most` jobs, and more than 1
 abbrev pub is_far_above : Pool → ℕ → Bool
 is_far_above pool most = nat_lt (max most 1) (pool.queue / 10)
 
--- the pool's maximum is above its core size, and its queue holds the `most` jobs that can be in it at once
+-- the pool starts threads above its core size only if its queue is full, and its queue holds the `most` jobs that can be in it at once
 abbrev pub has_useless_max : Pool → ℕ → Bool
-has_useless_max pool most = may_grow pool && nat_le most pool.queue
+has_useless_max pool most = grows_if_full pool && nat_le most pool.queue
 
 -- the plan says that the pool may reject jobs, but its queue holds the `most` jobs that can be in it at once
 abbrev pub never_rejects : Pool → ℕ → Bool
@@ -179,6 +184,7 @@ abbrev pub lint_of_cause : Cause → Lint
 lint_of_cause (Circle k) = SubmitsItself k
 lint_of_cause (ClientNeverGets c i) = NeverGot part.Client c i
 lint_of_cause (ClassNeverGets k i) = NeverGot part.Class k i
+lint_of_cause (PoolWaitsForItself p) = lint.PoolWaitsForItself p
 
 abbrev pub lints_of_cause : Option Cause → List Lint
 lints_of_cause None = []
@@ -216,7 +222,7 @@ growing_lints plan repeated = growing_of_classes plan repeated ++ growing_of_cli
 
 -- ---- all
 
--- all lints, in this order: that the plan is safe with each maximum lowered to its core, if `safe_at_core` is true; the cause, if there is
+-- all lints, in this order: that the plan with lowered maximums is safe, if `safe_at_core` is true; the cause, if there is
 -- one; the unbounded queues that may grow without limit; the other lints
 abbrev pub all_lints : Plan → List (Option ℕ) → Bool → Option Cause → List Bool → List Bool → List Lint
 all_lints plan needed safe_at_core cause marks repeated =

@@ -20,13 +20,14 @@ pub struct PlanPlaces {
     pub clients: Vec<BodyPlaces>,
 }
 
-/// The places of a pool's name and sizes.
+/// The places of a pool's name, of its sizes and of its key `core_timeout`.
 #[derive(Clone, Copy)]
 pub struct PoolPlaces {
     pub name: Option<TextPlace>,
     pub core: Option<TextPlace>,
     pub max: Option<TextPlace>,
     pub queue: Option<TextPlace>,
+    pub core_timeout: Option<TextPlace>,
 }
 
 /// The places of a class or client kind in the plan's text: those of its name and of each action of
@@ -73,6 +74,7 @@ fn pool_places(
             core: places.value(list, index, "core"),
             max: places.value(list, index, "max"),
             queue: places.value(list, index, "queue"),
+            core_timeout: places.value(list, index, "core_timeout"),
         })?;
     }
     Ok(found)

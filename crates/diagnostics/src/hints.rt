@@ -82,7 +82,7 @@ pub(crate) fn word_hint(key: &str) -> Option<&'static str>
         "name" | "pool" => Some("write quotes around the value, as in pool = \"web\""),
         "core" | "count" => Some("write a number"),
         "max" | "queue" => Some("write a number, or \"unbounded\" with its quotes"),
-        "repeat" | "prestart" | "may_reject" => Some("write true or false"),
+        "repeat" | "prestart" | "core_timeout" | "may_reject" => Some("write true or false"),
         _ => None,
     }
 }

@@ -10,8 +10,9 @@ use job_bodies::Part;
 /// client kinds and actions by their numbers, which begin at 0.
 #[derive(Clone, Copy)]
 pub enum Lint {
-    /// A certificate accepts the plan even if each maximum is lowered to the core size of its pool.
-    /// The caller that searched for this certificate provides the fact.
+    /// A certificate accepts the plan even if each maximum is lowered to the core size of its pool,
+    /// as [`at_core`](crate::at_core) lowers it. The caller that searched for this certificate
+    /// provides the fact.
     SafeAtCore,
     /// This class submits itself, directly or through other classes.
     SubmitsItself(usize),
@@ -19,6 +20,9 @@ pub enum Lint {
     /// such submits without limit. The fields are the kind of entry (class or client kind), the
     /// number of the entry, and the number of the action.
     NeverGot(Part, usize, usize),
+    /// The core threads of this pool may time out, and the last thread of the pool can wait at a get
+    /// until another job of the pool ends.
+    PoolWaitsForItself(usize),
     /// The plan has no pools and no clients.
     NothingToAsk,
     /// The plan has pools, but no clients.
@@ -28,7 +32,8 @@ pub enum Lint {
     /// No job is ever submitted to this pool.
     PoolWithoutJobs(usize),
     /// The maximum of this pool is above its core size, but has no effect. The reason is that its
-    /// queue is large enough for all jobs that are in the queue at once.
+    /// queue is large enough for all jobs that are in the queue at once, and that its core threads
+    /// never time out.
     UselessMax(usize),
     /// The plan says that this pool may reject jobs, but the pool never does. The reason is that
     /// its queue is large enough for all jobs that are in the queue at once. The second field is

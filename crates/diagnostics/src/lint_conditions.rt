@@ -61,12 +61,14 @@ fn brings_jobs(marks: &[bool], number: usize, class: &Class, pool: usize) -> boo
     is_submitted(marks, number) && class.pool == pool
 }
 
-/// Returns whether the pool can have more threads than its core size: its maximum is above its core
-/// size, and its queue is bounded. With an unbounded queue, the maximum has no effect.
-pub(crate) fn may_grow(pool: &Pool) -> bool
-    ensures { result ≡ spec.may_grow pool.now }
+/// Returns whether the pool starts threads above its core size if a submit finds its queue full, and
+/// in no other case: its maximum is above its core size, its queue is bounded, and its core threads
+/// never time out. If core threads may time out, the pool can start such a thread to replace one
+/// that ended, even if its queue is never full.
+pub(crate) fn grows_if_full(pool: &Pool) -> bool
+    ensures { result ≡ spec.grows_if_full pool.now }
 {
-    !pool.unbounded && pool.core < pool.max
+    !pool.unbounded && !pool.core_timeout && pool.core < pool.max
 }
 
 /// Returns whether the pool's maximum is above its core size, but has no effect because the queue
@@ -74,7 +76,7 @@ pub(crate) fn may_grow(pool: &Pool) -> bool
 pub(crate) fn has_useless_max(pool: &Pool, most: u64) -> bool
     ensures { result ≡ spec.has_useless_max pool.now most }
 {
-    may_grow(pool) && most <= pool.queue
+    grows_if_full(pool) && most <= pool.queue
 }
 
 /// Returns whether the plan says that the pool may reject jobs, although its queue can hold `most`
@@ -262,12 +264,19 @@ fn is_size_of_any(pools: &[Pool], number: u64) -> bool
     pools.iter().any(|pool| has_size(pool, number))
 }
 
-/// Returns whether the number is a size of the pool. If the queue of the pool is unbounded, only
-/// the core size counts.
+/// Returns whether the number is a size of the pool that has an effect. If the queue of the pool is
+/// unbounded, its capacity does not count, and its maximum counts only if core threads may time out.
 fn has_size(pool: &Pool, number: u64) -> bool
     ensures { result ≡ spec.has_size number pool.now }
 {
-    pool.core == number || !pool.unbounded && (pool.max == number || pool.queue == number)
+    pool.core == number || has_used_max(pool, number) || !pool.unbounded && pool.queue == number
+}
+
+/// Returns whether the number is the maximum of the pool, and this maximum has an effect.
+fn has_used_max(pool: &Pool, number: u64) -> bool
+    ensures { result ≡ spec.has_used_max number pool.now }
+{
+    pool.max == number && (!pool.unbounded || pool.core_timeout)
 }
 
 fn is_count_of_any(clients: &[Client], number: u64) -> bool

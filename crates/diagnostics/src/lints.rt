@@ -17,8 +17,8 @@ use std::alloc::{AllocError, Global};
 ///
 /// - `needed` has, for each pool, the maximum number of jobs in its queue at once, or `None` if it
 ///   is not known.
-/// - `is_safe_at_core` says that a certificate accepts the plan with each maximum lowered to the
-///   core size of its pool.
+/// - `is_safe_at_core` says that a certificate accepts the plan with lowered maximums, as
+///   [`at_core`](crate::at_core) returns it.
 pub(crate) fn lints_of(
     alloc: Global,
     plan: &Plan,
@@ -108,6 +108,7 @@ fn lint_of_cause(cause: Cause) -> Lint
         Cause::Circle(class) => Lint::SubmitsItself(class),
         Cause::ClientNeverGets(client, action) => Lint::NeverGot(Part::Client, client, action),
         Cause::ClassNeverGets(class, action) => Lint::NeverGot(Part::Class, class, action),
+        Cause::PoolWaitsForItself(pool) => Lint::PoolWaitsForItself(pool),
     }
 }
 

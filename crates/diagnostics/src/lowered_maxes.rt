@@ -1,47 +1,50 @@
-//! Plans whose pools start no threads above their cores.
+//! Plans whose pools start no threads above their cores because of a full queue.
 
 ghost use Rattle.std.specs.Prelude.{◌≡◌, IfOk, map};
 ghost use Rattle.job_bodies.specs.WellFormed.{IsWellFormed};
 ghost use Rattle.std.specs.List.{list_any};
 ghost use Rattle.diagnostics.specs.AtCore as spec;
-ghost use Rattle.diagnostics.specs.Lints.{may_grow};
+ghost use Rattle.diagnostics.specs.Lints.{grows_if_full};
 
-use crate::lint_conditions::may_grow;
+use crate::lint_conditions::grows_if_full;
 use job_bodies::{Plan, Pool};
 use std::alloc::{AllocError, Global};
 
-/// Returns whether some pool has a bounded queue and a maximum above its core size, and no pool of
-/// this kind may reject jobs.
+/// Returns whether some pool starts threads above its core size only if its queue is full, and no
+/// pool of this kind may reject jobs. Such a pool has a bounded queue, a maximum above its core
+/// size, and core threads that never time out.
 ///
 /// With a lower maximum, a pool that may reject jobs can reject more jobs, for which clients then
 /// do not wait. So the plan with lowered maximums would say nothing about the plan itself.
 pub fn can_be_lowered(plan: &Plan) -> bool
     ensures { result ≡ spec.can_be_lowered plan.now }
 {
-    some_may_grow(plan) && !some_may_grow_and_reject(plan)
+    some_grows_if_full(plan) && !some_grows_and_rejects(plan)
 }
 
-fn some_may_grow(plan: &Plan) -> bool
-    ensures { result ≡ list_any may_grow plan.now.pools }
+fn some_grows_if_full(plan: &Plan) -> bool
+    ensures { result ≡ list_any grows_if_full plan.now.pools }
 {
-    plan.pools().iter().any(|pool| may_grow(pool))
+    plan.pools().iter().any(|pool| grows_if_full(pool))
 }
 
-fn some_may_grow_and_reject(plan: &Plan) -> bool
-    ensures { result ≡ list_any spec.may_grow_and_reject plan.now.pools }
+fn some_grows_and_rejects(plan: &Plan) -> bool
+    ensures { result ≡ list_any spec.grows_and_rejects plan.now.pools }
 {
-    plan.pools().iter().any(|pool| may_grow_and_reject(pool))
+    plan.pools().iter().any(|pool| grows_and_rejects(pool))
 }
 
-/// Returns whether the pool has a bounded queue and a maximum above its core size, and may reject
-/// jobs.
-fn may_grow_and_reject(pool: &Pool) -> bool
-    ensures { result ≡ spec.may_grow_and_reject pool.now }
+/// Returns whether the pool starts threads above its core size only if its queue is full, and may
+/// reject jobs.
+fn grows_and_rejects(pool: &Pool) -> bool
+    ensures { result ≡ spec.grows_and_rejects pool.now }
 {
-    may_grow(pool) && pool.may_reject
+    grows_if_full(pool) && pool.may_reject
 }
 
-/// Returns a copy of the plan in which each maximum is lowered to the core size of its pool.
+/// Returns a copy of the plan in which each maximum is lowered to the core size of its pool. The
+/// maximum of a pool whose core threads may time out stays unchanged: such a pool may start threads
+/// above its core size even if its queue is never full.
 ///
 /// # Errors
 ///
@@ -68,6 +71,8 @@ fn pool_at_core(alloc: Global, pool: &Pool) -> Result<Pool, AllocError>
     ensures { IfOk result (λ lowered. lowered ≡ spec.with_max_at_core pool.now) }
 {
     let mut lowered = pool.try_clone(alloc)?;
-    lowered.max = lowered.core;
+    if !lowered.core_timeout {
+        lowered.max = lowered.core;
+    }
     Ok(lowered)
 }

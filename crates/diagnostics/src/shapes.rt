@@ -29,7 +29,15 @@ struct KeyRule {
     hint: &'static str,
 }
 
-const POOL_KEYS: [&str; 6] = ["name", "core", "max", "queue", "prestart", "may_reject"];
+const POOL_KEYS: [&str; 7] = [
+    "name",
+    "core",
+    "max",
+    "queue",
+    "prestart",
+    "core_timeout",
+    "may_reject",
+];
 
 const CLASS_KEYS: [&str; 3] = ["name", "pool", "body"];
 
@@ -69,7 +77,7 @@ fn key_rule(key: &'static str) -> Option<KeyRule> {
             ValueKind::Number,
             "write count = N, the number of these clients",
         ),
-        "prestart" | "may_reject" | "repeat" => (ValueKind::Flag, ""),
+        "prestart" | "core_timeout" | "may_reject" | "repeat" => (ValueKind::Flag, ""),
         "body" => (
             ValueKind::Body,
             "write body = [\"..\"], its actions, or body = []",
@@ -89,6 +97,10 @@ fn plan_key_for(key: &str) -> Option<&'static str> {
             "queue",
         ),
         "prestartAllCoreThreads" => Some("prestart"),
+        "allowCoreThreadTimeOut"
+        | "allowCoreThreadTimeout"
+        | "allow-core-thread-timeout"
+        | "allow_core_thread_timeout" => Some("core_timeout"),
         "instances" | "number" | "n" => Some("count"),
         "loop" | "forever" | "repeats" => Some("repeat"),
         "actions" | "steps" | "run" => Some("body"),

@@ -2,7 +2,7 @@
 
 use crate::entry::{BEGINNING, list_of};
 use crate::lint::Lint;
-use crate::lint_conditions::may_grow;
+use crate::lint_conditions::grows_if_full;
 use job_bodies::{Part, Plan};
 use plan_text::{Places, TextPlace};
 
@@ -17,6 +17,7 @@ pub(crate) fn place_of(places: &Places<'_>, plan: &Plan, lint: Lint) -> TextPlac
         Lint::NeverGot(part, number, action) | Lint::QueueMayGrow(part, number, action) => {
             action_place(places, part, number, action)
         }
+        Lint::PoolWaitsForItself(pool) => value_place(places, Part::Pool, pool, "core_timeout"),
         Lint::PoolWithoutJobs(pool) => entry_place(places, Part::Pool, pool),
         Lint::UselessMax(pool) => value_place(places, Part::Pool, pool, "max"),
         Lint::UselessMayReject(pool, _) | Lint::NeverRejects(pool) => {
@@ -33,10 +34,10 @@ pub(crate) fn place_of(places: &Places<'_>, plan: &Plan, lint: Lint) -> TextPlac
     }
 }
 
-/// Returns the place of the first maximum that is above the core size of its pool, in a pool with a
-/// bounded queue. Returns the beginning of the text if there is none.
+/// Returns the place of the first maximum that [`at_core`](crate::at_core) lowers. Returns the
+/// beginning of the text if there is none.
 fn first_max_place(places: &Places<'_>, plan: &Plan) -> TextPlace {
-    match plan.pools().iter().position(|pool| may_grow(pool)) {
+    match plan.pools().iter().position(|pool| grows_if_full(pool)) {
         Some(pool) => value_place(places, Part::Pool, pool, "max"),
         None => BEGINNING,
     }

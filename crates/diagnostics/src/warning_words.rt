@@ -5,7 +5,7 @@ ghost use Rattle.diagnostics.specs.WarningWords as spec;
 
 use crate::circle_words::words_of_circle;
 use crate::lint::Lint;
-use crate::lint_conditions::may_grow;
+use crate::lint_conditions::grows_if_full;
 use crate::open_futures::is_get_around;
 use crate::strings::string_at;
 use job_bodies::{Action, Part, Plan, Pool};
@@ -41,6 +41,7 @@ pub(crate) fn words_of(
         Lint::NothingSubmitted => {
             String::from_str(alloc, "no client submits anything, so any sizes are safe")
         }
+        Lint::PoolWaitsForItself(pool) => words_of_last_thread(alloc, plan, pool),
         Lint::PoolWithoutJobs(pool) => words_of_idle_pool(alloc, plan, pool),
         Lint::UselessMax(pool) => words_of_max(alloc, plan, pool),
         Lint::UselessMayReject(pool, most) => words_of_key(alloc, plan, pool, most),
@@ -64,7 +65,11 @@ pub(crate) fn words_of(
 }
 
 fn words_of_core(alloc: Global, plan: &Plan) -> Result<String, AllocError> {
-    let count = plan.pools().iter().filter(|pool| may_grow(pool)).count();
+    let count = plan
+        .pools()
+        .iter()
+        .filter(|pool| grows_if_full(pool))
+        .count();
     let noun = if count == 1 { "pool" } else { "pools" };
     let mut words = format!(in alloc; "with max = core in {noun} ")?;
     push_maxes(&mut words, plan, count)?;
@@ -72,12 +77,12 @@ fn words_of_core(alloc: Global, plan: &Plan) -> Result<String, AllocError> {
     Ok(words)
 }
 
-/// Appends the name and the maximum of each pool that has a bounded queue and a maximum above its
-/// core size. `count` is the number of these pools.
+/// Appends the name and the maximum of each pool whose maximum [`at_core`](crate::at_core) lowers.
+/// `count` is the number of these pools.
 fn push_maxes(words: &mut String, plan: &Plan, count: usize) -> Result<(), AllocError> {
     let mut number = 0usize;
     for pool in plan.pools() {
-        if may_grow(pool) {
+        if grows_if_full(pool) {
             number = number.saturating_add(1);
             push_max(words, number, count, pool)?;
         }
@@ -225,6 +230,16 @@ fn pool_of_class(plan: &Plan, class: usize) -> &str {
         Some(class) => plan.pool_name(class.pool),
         None => "",
     }
+}
+
+fn words_of_last_thread(alloc: Global, plan: &Plan, number: usize) -> Result<String, AllocError> {
+    let Some(pool) = plan.pool_at(number) else {
+        return Ok(String::new(alloc));
+    };
+    let name = pool.name.as_str();
+    format!(in alloc;
+        "pool {name}: its last thread may wait for a job of this pool, since core threads may time out: do not allow it, or give the inner jobs a pool of their own"
+    )
 }
 
 fn words_of_idle_pool(alloc: Global, plan: &Plan, number: usize) -> Result<String, AllocError> {

@@ -226,7 +226,7 @@ settled_step plan s s' o ordered kept settled (works a body i u at) =
     settled_moved plan s a body i (i + 1) at.stands (λ g t e below above. (omega arith, passes_get body i g t (Work u) at.is_there (λ f. absurd cc) e above)) settled
 settled_step plan s s' o ordered kept settled (starts a body i k at below) =
     settled_submits plan s a body i k (At 0) (valid_point plan s a body i ordered at.stands) kept at.stands at.is_there (λ f. absurd cc) settled
-settled_step plan s s' o ordered kept settled (queues a body i k at core room) =
+settled_step plan s s' o ordered kept settled (queues a body i k at room) =
     let after = settled_submits plan s a body i k Queued (valid_point plan s a body i ordered at.stands) kept at.stands at.is_there (λ f. absurd cc) settled in
     settled_put plan (with_job (new_job k a i Queued) (with_position a (i + 1) s)) s'.pools s'.refusals after
 settled_step plan s s' o ordered kept settled (is_refused a body i k at must no_room all_started) = settled_put plan s s.pools (s.refusals + 1) settled
@@ -238,4 +238,4 @@ settled_step plan s s' o ordered kept settled (loops c client body i at is_clien
     settled_moved plan s (parent.Client c) body i 0 at.stands (λ g t e below above. absurd (none_behind body i g t at.is_there e above)) settled
 settled_step plan s s' o ordered kept settled (takes p j queue idle is_queue is_idle) =
     settled_put plan (with_stage j (At 0) s) s'.pools s'.refusals (settled_takes plan s p j queue (head_of_queue plan s p j queue kept is_queue) settled)
-settled_step plan s s' o ordered kept settled (retires p idle is_idle above not_handed) = settled_put plan s s'.pools s'.refusals settled
+settled_step plan s s' o ordered kept settled (retires p idle is_idle not_handed) = settled_put plan s s'.pools s'.refusals settled

@@ -92,7 +92,7 @@ point_in plan view (parent.Job j) = point_of_live_job plan (live_job view.jobs j
 -- ---- changes of a view
 
 abbrev pub no_pool_view : PoolView
-no_pool_view = record { core = 0; max = 0; capacity = 0; unbounded = false; threads = 0; idle = 0; queue = [] }
+no_pool_view = record { core = 0; max = 0; capacity = 0; unbounded = false; core_timeout = false; threads = 0; idle = 0; queue = [] }
 
 abbrev pub pool_in : View → ℕ → PoolView
 pool_in view p = slice_index_or view.pools p no_pool_view

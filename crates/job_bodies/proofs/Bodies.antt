@@ -1,16 +1,16 @@
 -- The properties of the bodies, pools and client kinds of a well-formed plan.
-use Rattle.std.proofs.Common.{◌≡◌, ◌≤◌, ◌<◌, ◌+◌, ℕ, zero, suc, Bool, true, false, List, [], ◌∷◌, length, take, get_or, slice_get, Some, refl, sym, ap, subst, ◌∙◌, arith, inl, inr, zero-add}
+use Rattle.std.proofs.Common.{◌≡◌, ◌≤◌, ◌<◌, ◌+◌, ℕ, zero, suc, Bool, true, false, cond, ◌&&◌, ◌||◌, ◌==◌, List, [], ◌∷◌, length, take, get_or, slice_get, Some, refl, sym, ap, subst, ◌∙◌, arith, inl, inr, zero-add}
 use Rattle.std.specs.List.{list_all, list_any, enumerate_from}
-use Rattle.std.proofs.lemmas.Bool.{and_parts, ltb-true, leb-true, eq-eqb, not-true, both_ways, cases_lt}
+use Rattle.std.proofs.lemmas.Bool.{and_parts, or_cases, eqb-true, ltb-true, leb-true, eq-eqb, not-true, both_ways, cases_lt}
 use Rattle.std.proofs.lemmas.List.{length-take-le, get_or-take, get_or_past}
 use Rattle.std.proofs.lemmas.List.Folds.{list_any_at}
 use Rattle.std.proofs.lemmas.Option.{slice_get_within, slice_get-get_or, get_or_from_slice_get}
 use Rattle.job_bodies.specs.declared.action.Action.{Action}
 use Rattle.job_bodies.specs.declared.action.Action.TheVariants.{Work, Submit, Get}
-use Rattle.job_bodies.specs.declared.limits.TheConstants.{MAX_SIZE, MAX_WORK}
-use Rattle.job_bodies.specs.Plan.{Pool, Plan, no_pool, no_class, no_client, pool_at, class_at, client_at, submits, gets}
+use Rattle.job_bodies.specs.declared.limits.TheConstants.{MAX_SIZE, MAX_THREADS, MAX_WORK}
+use Rattle.job_bodies.specs.Plan.{Pool, Plan, no_pool, no_class, no_client, pool_at, class_at, client_at, least_threads, submits, gets}
 use Rattle.job_bodies.specs.ValidBody.{IsValidBody}
-use Rattle.job_bodies.specs.WellFormed.{is_within, least_queue, is_valid_action, is_valid_body, is_valid_pool, is_valid_class, is_valid_client, IsWellFormed}
+use Rattle.job_bodies.specs.WellFormed.{is_within, least_queue, has_no_max, largest_max, has_valid_sizes, is_valid_action, is_valid_body, is_valid_pool, is_valid_class, is_valid_client, IsWellFormed}
 
 -- every body is valid, every class has an existing pool, and every size and count is in range
 pub record HasValidBodies (plan : Plan) : Type 0 where
@@ -19,7 +19,7 @@ pub record HasValidBodies (plan : Plan) : Type 0 where
   pub pools : (k : ℕ) → k < length plan.classes → (class_at plan k).pool < length plan.pools
   pub core : (p : ℕ) → p < length plan.pools → 1 ≤ (pool_at plan p).core
   pub max : (p : ℕ) → p < length plan.pools → (pool_at plan p).core ≤ (pool_at plan p).max
-  pub most_max : (p : ℕ) → p < length plan.pools → (pool_at plan p).max ≤ MAX_SIZE
+  pub most_max : (p : ℕ) → p < length plan.pools → (pool_at plan p).max ≤ largest_max (pool_at plan p).core_timeout (pool_at plan p).unbounded
   pub queue : (p : ℕ) → p < length plan.pools → least_queue (pool_at plan p) ≤ (pool_at plan p).queue
   pub most_queue : (p : ℕ) → p < length plan.pools → (pool_at plan p).queue ≤ MAX_SIZE
   pub count : (c : ℕ) → c < length plan.clients → 1 ≤ (client_at plan c).count
@@ -106,22 +106,59 @@ client_body plan w c = elim (cases_lt c (length plan.clients)) [
 ]
 
 -- the sizes of a pool are in range
-record AreValidSizes (pool : Pool) : Type 0 where
-  core : 1 ≤ pool.core
-  max : pool.core ≤ pool.max
-  most_max : pool.max ≤ MAX_SIZE
-  queue : least_queue pool ≤ pool.queue
-  most_queue : pool.queue ≤ MAX_SIZE
+pub record AreValidSizes (pool : Pool) : Type 0 where
+  pub core : 1 ≤ pool.core
+  pub max : pool.core ≤ pool.max
+  pub most_max : pool.max ≤ largest_max pool.core_timeout pool.unbounded
+  pub queue : least_queue pool ≤ pool.queue
+  pub most_queue : pool.queue ≤ MAX_SIZE
 
-pool_sizes : (plan : Plan) → IsWellFormed plan → (p : ℕ) → p < length plan.pools → AreValidSizes (pool_at plan p)
-pool_sizes plan w p inside =
-    let sizes = (and_parts _ _ (list_all_get is_valid_pool plan.pools p _ w.pools (slice_get-get_or plan.pools p no_pool inside))).1 in
+-- a maximum is bounded, whether or not it is one of the pool's own
+below_largest : (max : ℕ) (both : Bool) → max ≤ MAX_SIZE → max ≤ cond both MAX_THREADS MAX_SIZE
+below_largest max true within = omega arith
+below_largest max false within = within
+
+-- the greatest maximum of any pool
+pub below_most_threads : (plan : Plan) (p : ℕ) → HasValidBodies plan → p < length plan.pools → (pool_at plan p).max ≤ MAX_THREADS
+below_most_threads plan p bodies inside = omega (arith, bodies.most_max p inside, largest-le ((pool_at plan p).core_timeout && (pool_at plan p).unbounded))
+  where
+    largest-le : (both : Bool) → cond both MAX_THREADS MAX_SIZE ≤ MAX_THREADS
+    largest-le true = omega arith
+    largest-le false = omega arith
+
+-- a pool with a job in its queue has at least one thread
+pub some_threads : (plan : Plan) (p : ℕ) → HasValidBodies plan → p < length plan.pools → 1 ≤ least_threads (pool_at plan p)
+some_threads plan p bodies inside = at_least (pool_at plan p).core_timeout (bodies.core p inside)
+  where
+    at_least : (timeout : Bool) {core : ℕ} → 1 ≤ core → 1 ≤ cond timeout 1 core
+    at_least true some = omega arith
+    at_least false some = some
+
+-- a valid maximum is at least core, and bounded
+valid_max : (pool : Pool) → pool.core ≤ MAX_SIZE → (is_within pool.core MAX_SIZE pool.max || has_no_max pool) ≡ true → (pool.core ≤ pool.max) × (pool.max ≤ largest_max pool.core_timeout pool.unbounded)
+valid_max pool few valid = elim (or_cases (is_within pool.core MAX_SIZE pool.max) (has_no_max pool) valid) [
+  | inl own ↦
+      let bounds = within_bounds pool.core MAX_SIZE pool.max own in
+      (bounds.0, below_largest pool.max (pool.core_timeout && pool.unbounded) bounds.1)
+  | inr none ↦
+      let parts = and_parts (pool.core_timeout && pool.unbounded) (pool.max == MAX_THREADS) none in
+      let is_largest : pool.max ≡ MAX_THREADS = eqb-true pool.max MAX_THREADS parts.1 in
+      let largest : largest_max pool.core_timeout pool.unbounded ≡ MAX_THREADS = ap (λ (b : Bool). cond b MAX_THREADS MAX_SIZE) parts.0 in
+      (omega arith, omega arith)
+]
+
+pub valid_sizes : (pool : Pool) → has_valid_sizes pool ≡ true → AreValidSizes pool
+valid_sizes pool sizes =
     let threads_and_queue = and_parts _ _ sizes in
     let core_and_max = and_parts _ _ threads_and_queue.0 in
     let core = within_bounds 1 MAX_SIZE _ core_and_max.0 in
-    let max = within_bounds (pool_at plan p).core MAX_SIZE _ core_and_max.1 in
-    let queue = within_bounds (least_queue (pool_at plan p)) MAX_SIZE _ threads_and_queue.1 in
+    let max = valid_max pool core.1 core_and_max.1 in
+    let queue = within_bounds (least_queue pool) MAX_SIZE _ threads_and_queue.1 in
     record { core = core.0; max = max.0; most_max = max.1; queue = queue.0; most_queue = queue.1 }
+
+pool_sizes : (plan : Plan) → IsWellFormed plan → (p : ℕ) → p < length plan.pools → AreValidSizes (pool_at plan p)
+pool_sizes plan w p inside =
+    valid_sizes (pool_at plan p) (and_parts _ _ (list_all_get is_valid_pool plan.pools p _ w.pools (slice_get-get_or plan.pools p no_pool inside))).1
 
 class_pool : (plan : Plan) → IsWellFormed plan → (k : ℕ) → k < length plan.classes → (class_at plan k).pool < length plan.pools
 class_pool plan w k inside =

@@ -12,6 +12,7 @@ pub record Pool : Type 0 where
   pub prestart : Bool
   pub may_reject : Bool
   pub unbounded : Bool
+  pub core_timeout : Bool
 
 pub record Class : Type 0 where
   pub name : List ℕ
@@ -32,7 +33,7 @@ pub record Plan : Type 0 where
 
 -- the default for an index past the end of the list of pools
 abbrev pub no_pool : Pool
-no_pool = record { name = []; core = 0; max = 0; queue = 0; prestart = false; may_reject = false; unbounded = false }
+no_pool = record { name = []; core = 0; max = 0; queue = 0; prestart = false; may_reject = false; unbounded = false; core_timeout = false }
 
 abbrev pub no_class : Class
 no_class = record { name = []; pool = 0; body = [] }
@@ -56,6 +57,10 @@ pool_names plan = map (λ pool. pool.name) plan.pools
 -- the number of threads that the pool has at first, all idle: core if the core threads are prestarted, and otherwise 0
 abbrev pub first_workers : Pool → ℕ
 first_workers pool = if pool.prestart then pool.core else 0
+
+-- the number of threads that the pool has at least while a job is in its queue: core, or 1 if its core threads may time out
+abbrev pub least_threads : Pool → ℕ
+least_threads pool = if pool.core_timeout then 1 else pool.core
 
 -- whether a certificate needs no bound of the pool, because the pool may reject jobs or its queue is unbounded
 abbrev pub needs_no_bound : Pool → Bool

@@ -6,7 +6,7 @@ use Rattle.std.specs.List.{list_all, list_any, enumerate_from}
 use Rattle.std.specs.Str.{bytes_eq}
 use Rattle.job_bodies.specs.declared.action.Action.{Action}
 use Rattle.job_bodies.specs.declared.action.Action.TheVariants.{Work, Submit, Get}
-use Rattle.job_bodies.specs.declared.limits.TheConstants.{MAX_POOLS, MAX_CLASSES, MAX_CLIENT_KINDS, MAX_ACTIONS, MAX_SIZE, MAX_WORK, MAX_NAME_BYTES}
+use Rattle.job_bodies.specs.declared.limits.TheConstants.{MAX_POOLS, MAX_CLASSES, MAX_CLIENT_KINDS, MAX_ACTIONS, MAX_SIZE, MAX_THREADS, MAX_WORK, MAX_NAME_BYTES}
 use Rattle.job_bodies.specs.Plan.{Pool, Class, Client, Plan, submits, has_get_of}
 
 abbrev pub is_within : ℕ → ℕ → ℕ → Bool
@@ -32,9 +32,19 @@ are_distinct (x ∷ xs) = not (list_any (bytes_eq x) xs) && are_distinct xs
 abbrev pub least_queue : Pool → ℕ
 least_queue pool = if pool.may_reject then 0 else 1
 
--- whether core is at least 1, max at least core, and the queue at least its least capacity, and none of them is above the limit
+-- whether the maximum is one for which the text of a plan gives no number, which requires that core threads may time out and that the
+-- queue is unbounded
+abbrev pub has_no_max : Pool → Bool
+has_no_max pool = pool.core_timeout && pool.unbounded && pool.max == MAX_THREADS
+
+-- a bound of the maximum of a pool whose core threads may time out or not, and whose queue is unbounded or not
+abbrev pub largest_max : Bool → Bool → ℕ
+largest_max core_timeout unbounded = if core_timeout && unbounded then MAX_THREADS else MAX_SIZE
+
+-- whether core is at least 1, max at least core, and the queue at least its least capacity, and none of them is above the limit; a pool
+-- whose text gives no maximum has a greater one
 abbrev pub has_valid_sizes : Pool → Bool
-has_valid_sizes pool = is_within 1 MAX_SIZE pool.core && is_within pool.core MAX_SIZE pool.max && is_within (least_queue pool) MAX_SIZE pool.queue
+has_valid_sizes pool = is_within 1 MAX_SIZE pool.core && (is_within pool.core MAX_SIZE pool.max || has_no_max pool) && is_within (least_queue pool) MAX_SIZE pool.queue
 
 abbrev pub is_valid_pool : Pool → Bool
 is_valid_pool pool = is_valid_name pool.name && has_valid_sizes pool

@@ -22,6 +22,7 @@ impl Pool {
             prestart: self.prestart,
             may_reject: self.may_reject,
             unbounded: self.unbounded,
+            core_timeout: self.core_timeout,
         })
     }
 }

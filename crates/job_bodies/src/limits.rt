@@ -16,6 +16,10 @@ pub const MAX_ACTIONS: usize = 256;
 /// The maximum of each size of a pool (core, maximum and queue capacity) and of the count of a
 /// client kind. The minimum is 1. For the queue of a pool that may reject jobs, the minimum is 0.
 pub const MAX_SIZE: u64 = 1_000_000;
+/// The maximum of a pool whose core threads may time out and whose queue is unbounded, if the plan
+/// gives no maximum: 2^28 - 1. No system has room for that many threads. Java's `ThreadPoolExecutor`
+/// packs the number of its threads in 29 bits.
+pub const MAX_THREADS: u64 = 268_435_455;
 /// The maximum number of units of a `Work` action. The minimum is 1.
 pub const MAX_WORK: u64 = 1_000_000;
 /// The maximum length of a name, in bytes. The minimum is 1.

@@ -2,11 +2,11 @@
 
 ghost use Rattle.std.specs.Prelude.{◌≡◌, ◌↔◌, ◌<◌, IsOk, IfOk, IsSome, IfSome, IfNone, length, string_bytes};
 ghost use Rattle.job_bodies.specs.Plan as spec;
-ghost use Rattle.job_bodies.specs.WellFormed.{IsWellFormed, least_queue, has_valid_sizes};
+ghost use Rattle.job_bodies.specs.WellFormed.{IsWellFormed, least_queue, has_no_max, has_valid_sizes};
 ghost use Rattle.job_bodies.specs.Build.{plan_of_lists, build};
 
 use crate::build::{check_bodies, check_counts, check_entries, check_lengths};
-use crate::limits::{MAX_SIZE, is_within};
+use crate::limits::{MAX_SIZE, MAX_THREADS, is_within};
 use crate::{Action, PlanFault};
 use std::alloc::Global;
 use std::marker::Model;
@@ -15,21 +15,19 @@ use std::marker::Model;
 /// `ArrayBlockingQueue` or a `LinkedBlockingQueue` and the default handler, `AbortPolicy`.
 /// `PoolState::offer` of `pool_machine` defines what the pool does with a submitted job.
 ///
-/// The ranges of the sizes are those that the Javadoc states for the constructors, with these
-/// differences:
-///
-/// - The core size is at least 1.
-/// - No size is above [`MAX_SIZE`].
-/// - If `may_reject` is true, the capacity of the queue can also be 0, which stands for a
-///   `SynchronousQueue`.
+/// The ranges of the sizes are those of the constructor in the Javadoc (a maximum of at least 1 and
+/// of at least core, a capacity of at least 1), with two restrictions: core is at least 1, and no
+/// size is above [`MAX_SIZE`], except the maximum of a pool that has none ([`MAX_THREADS`]). If `may_reject` is true, the capacity can also be 0, that of a
+/// `SynchronousQueue`.
 #[derive(Debug, Drop)]
 pub struct Pool {
     /// The name of the pool, as plans and answers show it.
     pub name: String,
-    /// The core pool size in threads, from 1 to `max`. While the pool has fewer threads than this,
-    /// each submitted job starts one. The core threads never end.
+    /// The core pool size in threads: from 1 to `max`. While the pool has fewer threads, each
+    /// submitted job starts one. The core threads never end, unless `core_timeout` is true.
     pub core: u64,
-    /// The maximum pool size in threads, from `core` to 1,000,000.
+    /// The maximum pool size in threads: from `core` to 1,000,000, or [`MAX_THREADS`] if the pool
+    /// has no maximum.
     pub max: u64,
     /// The capacity of the queue in jobs, from 1 to 1,000,000. If `may_reject` is true, the
     /// capacity can also be 0, which stands for a `SynchronousQueue`.
@@ -45,46 +43,62 @@ pub struct Pool {
     /// If the pool rejects a job, the actor continues as if its body had neither the submit nor its
     /// get. If `may_reject` is false, no submit to the pool should ever be refused.
     pub may_reject: bool,
-    /// Whether the queue is unbounded, like a `LinkedBlockingQueue` that is created without a
-    /// capacity. The pool then refuses no job and starts no thread above core, so `max` and `queue`
-    /// do not affect what it does.
-    ///
-    /// In a plan that is read from a text, the `max` of such a pool is `core`, because the totals
-    /// of a certificate count `max` threads. The `queue` is 1,000,000.
+    /// Whether the queue is unbounded, as a `LinkedBlockingQueue` without a capacity. The pool then
+    /// refuses no job, so `queue` has no effect on what it does. Unless core threads may time out, it
+    /// also starts no thread above core, and `max` has no effect. In a plan that is read from a text,
+    /// `max` is then `core`, because the totals of a certificate count `max` threads, and `queue` is
+    /// 1,000,000.
     pub unbounded: bool,
+    /// Whether core threads may time out, as after `allowCoreThreadTimeOut(true)`. An idle thread
+    /// can then end unless it is the last one and jobs are queued. So a pool with a queued job may
+    /// have one thread only. Java replaces a thread that ended while jobs are queued, and so may
+    /// start threads above core even over an unbounded queue.
+    pub core_timeout: bool,
 }
 
 impl Model for Pool {
     ghost Value = { spec.Pool };
 
-    ghost view = { λ p. record { name = string_bytes p.name; core = p.core; max = p.max; queue = p.queue; prestart = p.prestart; may_reject = p.may_reject; unbounded = p.unbounded } };
+    ghost view = { λ p. record { name = string_bytes p.name; core = p.core; max = p.max; queue = p.queue; prestart = p.prestart; may_reject = p.may_reject; unbounded = p.unbounded; core_timeout = p.core_timeout } };
 }
 
 impl Pool {
-    /// Returns true if the sizes are in range:
-    ///
-    /// - The core size is at least 1.
-    /// - The maximum is at least the core size.
-    /// - The queue is at least [`least_queue`](Pool::least_queue).
-    /// - No size is above 1,000,000.
+    /// Returns whether the sizes are in range: core is at least 1, the maximum at least core, the
+    /// queue at least [`least_queue`](Pool::least_queue), and none of them above 1,000,000. The
+    /// maximum can also be that of a pool that [has none](Pool::has_no_max).
     pub fn has_valid_sizes(&self) -> bool
         ensures { result ≡ has_valid_sizes self.now }
     {
         is_within(1, MAX_SIZE, self.core)
-            && is_within(self.core, MAX_SIZE, self.max)
+            && (is_within(self.core, MAX_SIZE, self.max) || self.has_no_max())
             && is_within(self.least_queue(), MAX_SIZE, self.queue)
     }
 
-    /// Returns the least capacity that the queue can have, which is 0 if the pool may reject jobs,
-    /// and 1 otherwise.
+    /// Returns whether the pool has no maximum of its own: its core threads may time out, its queue
+    /// is unbounded, and its maximum is [`MAX_THREADS`].
+    pub fn has_no_max(&self) -> bool
+        ensures { result ≡ has_no_max self.now }
+    {
+        self.core_timeout && self.unbounded && self.max == MAX_THREADS
+    }
+
+    /// Returns the least capacity of the queue: 1, or 0 if the pool may reject jobs.
     pub fn least_queue(&self) -> u64
         ensures { result ≡ least_queue self.now }
     {
         if self.may_reject { 0 } else { 1 }
     }
 
-    /// Returns true if the pool may reject jobs or its queue is unbounded. A certificate then needs
-    /// no bound for the queue.
+    /// Returns the number of threads that the pool has at least while a job is in its queue: core,
+    /// or 1 if its core threads may time out.
+    pub fn least_threads(&self) -> u64
+        ensures { result ≡ spec.least_threads self.now }
+    {
+        if self.core_timeout { 1 } else { self.core }
+    }
+
+    /// Returns whether a certificate needs no bound of the pool's queue: the pool may reject jobs,
+    /// or its queue is unbounded.
     pub fn needs_no_bound(&self) -> bool
         ensures { result ≡ spec.needs_no_bound self.now }
     {

@@ -1,8 +1,8 @@
--- A learned pool with an unbounded queue has core as its maximum and the largest size as its queue.
-use Rattle.std.proofs.Common.{◌≡◌, ◌==◌, ◌||◌, ℕ, ◌+◌, Bool, true, false, cond, List, [], ◌∷◌, map, refl, ap, ap₂, sym, subst}
+-- A learned pool with an unbounded queue has the largest size as its queue, and core as its maximum unless core threads may time out.
+use Rattle.std.proofs.Common.{◌≡◌, ◌==◌, ◌||◌, ℕ, ◌+◌, Bool, true, false, cond, not, nat_lt, List, [], ◌∷◌, map, refl, ap, ap₂, sym, subst}
 use Rattle.std.specs.Prelude.{⊤}
 use Rattle.std.specs.List.{cons_option, enumerate_from, filter, filter_map}
-use Rattle.job_bodies.specs.declared.limits.TheConstants.{MAX_SIZE}
+use Rattle.job_bodies.specs.declared.limits.TheConstants.{MAX_SIZE, MAX_THREADS}
 use Rattle.job_bodies.specs.Plan.{Pool}
 use Rattle.recordings.specs.declared.pool_sizes.PoolSizes.{PoolSizes}
 use Rattle.recordings.specs.PoolSizes.{has_unbounded_queue}
@@ -18,18 +18,29 @@ AreNormal [] = ⊤
 AreNormal (pool ∷ pools) = (normal_pool pool ≡ pool) × AreNormal pools
 
 -- ---- the pools of a recording
-abbrev pool_of_sizes : List ℕ → ℕ → ℕ → ℕ → Bool → Bool → Bool → Pool
-pool_of_sizes name core max queue prestart may unbounded =
-    record { name = name; core = core; max = cond unbounded core max; queue = cond unbounded MAX_SIZE queue; prestart = prestart; may_reject = may; unbounded = unbounded }
+abbrev pool_of_sizes : List ℕ → ℕ → ℕ → ℕ → ℕ → Bool → Bool → Bool → Bool → Pool
+pool_of_sizes name core used max queue prestart may unbounded timeout = record {
+  name = name;
+  core = core;
+  max = cond unbounded (cond (not timeout) core used) max;
+  queue = cond unbounded MAX_SIZE queue;
+  prestart = prestart;
+  may_reject = may;
+  unbounded = unbounded;
+  core_timeout = timeout;
+}
 
-sizes_are_normal : (name : List ℕ) (core max queue : ℕ) (prestart may unbounded : Bool) → normal_pool (pool_of_sizes name core max queue prestart may unbounded) ≡ pool_of_sizes name core max queue prestart may unbounded
-sizes_are_normal name core max queue prestart may true = refl
-sizes_are_normal name core max queue prestart may false = refl
+sizes_are_normal : (name : List ℕ) (core used max queue : ℕ) (prestart may unbounded timeout : Bool)
+    → normal_pool (pool_of_sizes name core used max queue prestart may unbounded timeout) ≡ pool_of_sizes name core used max queue prestart may unbounded timeout
+sizes_are_normal name core used max queue prestart may true true = refl
+sizes_are_normal name core used max queue prestart may true false = refl
+sizes_are_normal name core used max queue prestart may false timeout = refl
 
 recorded_is_normal : (name : List ℕ) (sizes : PoolSizes) → normal_pool (recorded_pool name sizes) ≡ recorded_pool name sizes
 recorded_is_normal name sizes =
     let core = into_range 1 sizes.core in
-    sizes_are_normal name core (into_range core sizes.max) (into_range (least_capacity sizes) sizes.capacity) (has_core_threads sizes) (is_synchronous sizes.queue) (has_unbounded_queue sizes)
+    let max = into_range core sizes.max in
+    sizes_are_normal name core (cond (nat_lt MAX_SIZE sizes.max) MAX_THREADS max) max (into_range (least_capacity sizes) sizes.capacity) (has_core_threads sizes) (is_synchronous sizes.queue) (has_unbounded_queue sizes) sizes.timeout
 
 one_more : (one : RecordedLine) (pools : List Pool) → AreNormal pools → AreNormal (cons_option (pool_of_line one) pools)
 one_more (line.Pool name sizes) pools normal = (recorded_is_normal name sizes, normal)
@@ -56,8 +67,8 @@ unfolding recorded_pools
 recorded_are_normal lines = firsts_are_normal (filter_map pool_of_line lines) (lines_are_normal lines)
 
 -- ---- the key `may_reject`
-keyed_if : (key : Bool) (pool : Pool) (unbounded : Bool) → cond unbounded (record pool { max = pool.core; queue = MAX_SIZE }) pool ≡ pool
-    → cond unbounded (record (with_key key pool) { max = pool.core; queue = MAX_SIZE }) (with_key key pool) ≡ with_key key pool
+keyed_if : (key : Bool) (pool : Pool) (unbounded : Bool) → cond unbounded (record pool { max = cond pool.core_timeout pool.max pool.core; queue = MAX_SIZE }) pool ≡ pool
+    → cond unbounded (record (with_key key pool) { max = cond pool.core_timeout pool.max pool.core; queue = MAX_SIZE }) (with_key key pool) ≡ with_key key pool
 keyed_if key pool true normal = ap (λ (one : Pool). record one { may_reject = key || pool.queue == 0 }) normal
 keyed_if key pool false normal = refl
 

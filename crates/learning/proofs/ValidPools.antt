@@ -1,12 +1,12 @@
 -- The pools of a recording are valid pools of a plan, unless there are too many.
-use Rattle.std.proofs.Common.{◌≡◌, ◌≤◌, ℕ, Bool, true, false, cond, ◌&&◌, List, [], ◌∷◌, length, map, Option, Some, None, refl, sym, subst, inl, inr, arith}
+use Rattle.std.proofs.Common.{◌≡◌, ◌≤◌, ℕ, ◌==◌, Bool, true, false, cond, not, nat_lt, ◌&&◌, ◌||◌, List, [], ◌∷◌, length, map, Option, Some, None, refl, sym, subst, inl, inr, arith}
 use Rattle.std.specs.List.{All, cons_option, filter, filter_map, list_all, list_any}
 use Rattle.std.specs.Str.{bytes_eq}
-use Rattle.std.proofs.lemmas.Bool.{and_parts}
-use Rattle.job_bodies.specs.declared.limits.TheConstants.{MAX_POOLS, MAX_SIZE}
+use Rattle.std.proofs.lemmas.Bool.{and_parts, or_left, or_right}
+use Rattle.job_bodies.specs.declared.limits.TheConstants.{MAX_POOLS, MAX_SIZE, MAX_THREADS}
 use Rattle.job_bodies.specs.Build.{plan_of_lists}
 use Rattle.job_bodies.specs.Plan.{Pool, Class, Client}
-use Rattle.job_bodies.specs.WellFormed.{is_within, is_valid_name, has_valid_sizes, is_valid_pool, are_distinct, IsWellFormed}
+use Rattle.job_bodies.specs.WellFormed.{is_within, is_valid_name, has_no_max, has_valid_sizes, is_valid_pool, are_distinct, IsWellFormed}
 use Rattle.recordings.specs.declared.pool_sizes.PoolSizes.{PoolSizes}
 use Rattle.recordings.specs.PoolSizes.{has_unbounded_queue}
 use Rattle.recordings.specs.LineText.{is_valid_line, has_valid_numbers}
@@ -65,6 +65,14 @@ least_within low below = grind (arith, below)
 most_within : (low : ℕ) → low ≤ MAX_SIZE → is_within low MAX_SIZE MAX_SIZE ≡ true
 most_within low below = grind (arith, below)
 
+-- The maximum is in the range, or the pool has none.
+has_max : (core max : ℕ) (timeout unbounded above : Bool) → is_within core MAX_SIZE core ≡ true → is_within core MAX_SIZE max ≡ true
+    → let found = cond unbounded (cond (not timeout) core (cond above MAX_THREADS max)) max in (is_within core MAX_SIZE found || (timeout && unbounded && found == MAX_THREADS)) ≡ true
+has_max core max timeout false above at_core valid = or_left (is_within core MAX_SIZE max) _ valid
+has_max core max false true above at_core valid = or_left (is_within core MAX_SIZE core) _ at_core
+has_max core max true true false at_core valid = or_left (is_within core MAX_SIZE max) _ valid
+has_max core max true true true at_core valid = or_right (is_within core MAX_SIZE MAX_THREADS) true refl
+
 pool_is_lawful : (name : List ℕ) (sizes : PoolSizes) → is_valid_name name ≡ true → is_valid_pool (recorded_pool name sizes) ≡ true
 pool_is_lawful name sizes valid_gets =
     let unbounded = has_unbounded_queue sizes in
@@ -75,8 +83,9 @@ pool_is_lawful name sizes valid_gets =
     let below : core ≤ MAX_SIZE = omega arith in
     let small = low_is_small (is_synchronous sizes.queue) in
     both (is_valid_name name) (has_valid_sizes (recorded_pool name sizes)) valid_gets
-    (both (is_within 1 MAX_SIZE core && is_within core MAX_SIZE max) (is_within least MAX_SIZE queue)
-    (both (is_within 1 MAX_SIZE core) (is_within core MAX_SIZE max) (in_range 1 sizes.core (omega arith)) (either_within unbounded core core (into_range core sizes.max) (least_within core below) (in_range core sizes.max below)))
+    (both (is_within 1 MAX_SIZE core && (is_within core MAX_SIZE max || has_no_max (recorded_pool name sizes))) (is_within least MAX_SIZE queue)
+    (both (is_within 1 MAX_SIZE core) (is_within core MAX_SIZE max || has_no_max (recorded_pool name sizes)) (in_range 1 sizes.core (omega arith))
+    (has_max core (into_range core sizes.max) sizes.timeout unbounded (nat_lt MAX_SIZE sizes.max) (least_within core below) (in_range core sizes.max below)))
     (either_within unbounded least MAX_SIZE (into_range least sizes.capacity) (most_within least small) (in_range least sizes.capacity small)))
 
 -- ---- the pools of lines that were read

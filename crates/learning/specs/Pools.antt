@@ -1,9 +1,9 @@
 -- The pools of a recording, as pools of a plan.
-use Rattle.std.specs.Prelude.{◌≡◌, ℕ, Bool, not, ◌&&◌, ◌==◌, List, [], ◌∷◌, filter, map, Option, Some, None, if◌then◌else◌, ◌++◌, min, max}
+use Rattle.std.specs.Prelude.{◌≡◌, ℕ, Bool, not, ◌&&◌, ◌==◌, nat_lt, List, [], ◌∷◌, filter, map, Option, Some, None, if◌then◌else◌, ◌++◌, min, max}
 use Rattle.std.specs.List.{filter_map, list_any}
 use Rattle.std.specs.Str.{bytes_eq}
 use Rattle.job_bodies.specs.Plan.{Plan, Pool}
-use Rattle.job_bodies.specs.declared.limits.TheConstants.{MAX_SIZE}
+use Rattle.job_bodies.specs.declared.limits.TheConstants.{MAX_SIZE, MAX_THREADS}
 use Rattle.recordings.specs.declared.pool_sizes.PoolSizes.{PoolSizes}
 use Rattle.recordings.specs.PoolSizes.{has_unbounded_queue}
 use Rattle.conformance.specs.RejectingPools.{with_rejecting_pools}
@@ -24,20 +24,25 @@ has_core_threads sizes = not (sizes.prestarted == 0) && (sizes.prestarted == siz
 abbrev pub least_capacity : PoolSizes → ℕ
 least_capacity sizes = if is_synchronous sizes.queue then 0 else 1
 
--- The maximum of a pool with this core. If the queue is unbounded, the maximum has no effect, and it is the core.
+-- The maximum of a pool with this core and an unbounded queue. If core threads never time out, the maximum has no effect, and it is the
+-- core. Otherwise, a pool with a recorded maximum above the largest size of a plan has none.
+abbrev pub max_over_unbounded : ℕ → PoolSizes → ℕ
+max_over_unbounded core sizes = if not sizes.timeout then core else (if nat_lt MAX_SIZE sizes.max then MAX_THREADS else into_range core sizes.max)
+
+-- The maximum of a pool with this core.
 abbrev pub planned_max : ℕ → PoolSizes → ℕ
-planned_max core sizes = if has_unbounded_queue sizes then core else into_range core sizes.max
+planned_max core sizes = if has_unbounded_queue sizes then max_over_unbounded core sizes else into_range core sizes.max
 
 -- The capacity of the queue. If the queue is unbounded, the capacity has no effect, and it is the largest size of a plan.
 abbrev pub planned_queue : PoolSizes → ℕ
 planned_queue sizes = if has_unbounded_queue sizes then MAX_SIZE else into_range (least_capacity sizes) sizes.capacity
 
 -- The pool of a `pool` line, with each size clamped to its range in a plan. If the queue is unbounded, it stays so, and `planned_max` and
--- `planned_queue` give the two sizes that have no effect. A pool with a `SynchronousQueue` may reject jobs, because in a plan only such a
+-- `planned_queue` give the sizes that have no effect. Core threads may time out if they may in the line. A pool with a `SynchronousQueue` may reject jobs, because in a plan only such a
 -- pool can have this queue.
 abbrev pub recorded_pool : List ℕ → PoolSizes → Pool
 recorded_pool name sizes = let core = into_range 1 sizes.core in
-    record { name = name; core = core; max = planned_max core sizes; queue = planned_queue sizes; prestart = has_core_threads sizes; may_reject = is_synchronous sizes.queue; unbounded = has_unbounded_queue sizes }
+    record { name = name; core = core; max = planned_max core sizes; queue = planned_queue sizes; prestart = has_core_threads sizes; may_reject = is_synchronous sizes.queue; unbounded = has_unbounded_queue sizes; core_timeout = sizes.timeout }
 
 -- ---- all pools
 -- The pool of a `pool` line, or `None` for any other line.
@@ -59,10 +64,10 @@ unfoldable pub recorded_pools : List RecordedLine → List Pool
 recorded_pools lines = firsts (filter_map pool_of_line lines)
 
 -- ---- sizes without an effect
--- The pool as the text of a plan gives it: if its queue is unbounded, its maximum is core and its queue the largest size, and otherwise it
--- is unchanged. Over an unbounded queue these two sizes have no effect.
+-- The pool as the text of a plan gives it: if its queue is unbounded, its queue is the largest size, and its maximum is core unless core
+-- threads may time out. Otherwise it is unchanged. The sizes that are replaced have no effect there.
 abbrev pub normal_pool : Pool → Pool
-normal_pool pool = if pool.unbounded then record pool { max = pool.core; queue = MAX_SIZE } else pool
+normal_pool pool = if pool.unbounded then record pool { max = if pool.core_timeout then pool.max else pool.core; queue = MAX_SIZE } else pool
 
 -- If the pools of a plan are those of a recording, each of them is its own `normal_pool`. This still holds after each pool that rejects
 -- jobs in the recording is marked as one that may reject jobs.

@@ -10,14 +10,16 @@ ghost use Rattle.learning.specs.Pools as spec;
 
 use crate::inference_limit::InferenceLimit;
 use crate::learn_error::LearnError;
-use job_bodies::{MAX_POOLS, MAX_SIZE, Pool};
+use job_bodies::{MAX_POOLS, MAX_SIZE, MAX_THREADS, Pool};
 use recordings::{Line, PoolSizes, QueueKind};
 use std::alloc::{AllocError, Global};
 
 /// Returns the pool of a `pool` line, with each size clamped to its range in a plan.
 ///
-/// - An unbounded queue gets the largest capacity of a plan, and its pool gets the core size as its
-///   maximum.
+/// - An unbounded queue gets the largest capacity of a plan. Its pool gets the core size as its
+///   maximum, unless core threads may time out.
+/// - If core threads may time out, the queue is unbounded, and the recorded maximum is above the
+///   largest size of a plan, the pool has no maximum.
 /// - `prestart` is true if all core threads were prestarted and there is at least one.
 /// - `may_reject` is true if the queue is a `SynchronousQueue`, because a plan requires this.
 ///
@@ -36,16 +38,31 @@ pub(crate) fn recorded_pool(alloc: Global, name: &str, sizes: PoolSizes) -> Resu
         prestart: has_core_threads(sizes),
         may_reject: is_synchronous(sizes.queue),
         unbounded: sizes.has_unbounded_queue(),
+        core_timeout: sizes.timeout,
     })
 }
 
-// Returns the maximum of a pool with this core. If the queue is unbounded, the maximum has no
-// effect, and the result is the core, as in the text of a plan.
+// Returns the maximum of a pool with this core.
 fn planned_max(core: u64, sizes: PoolSizes) -> u64
     ensures { result ≡ spec.planned_max core sizes }
 {
     if sizes.has_unbounded_queue() {
+        max_over_unbounded(core, sizes)
+    } else {
+        into_range(core, sizes.max as u64)
+    }
+}
+
+// Returns the maximum of a pool with this core and an unbounded queue. If core threads never time
+// out, the maximum has no effect, and the result is the core, as in the text of a plan. Otherwise,
+// a pool with a recorded maximum above the largest size of a plan has none.
+fn max_over_unbounded(core: u64, sizes: PoolSizes) -> u64
+    ensures { result ≡ spec.max_over_unbounded core sizes }
+{
+    if !sizes.timeout {
         core
+    } else if sizes.max as u64 > MAX_SIZE {
+        MAX_THREADS
     } else {
         into_range(core, sizes.max as u64)
     }

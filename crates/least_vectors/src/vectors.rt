@@ -13,7 +13,7 @@ ghost use Rattle.weights.specs.Bound.{bound_vector};
 use crate::Levels;
 use crate::minimize_total::{least_vector, lightest_vector};
 use crate::target::Target;
-use job_bodies::Plan;
+use job_bodies::{Plan, Pool};
 use std::alloc::{AllocError, Global};
 use weights::{Bound, Vector};
 
@@ -48,16 +48,25 @@ pub fn pool_bound(
     if let Some(vector) = least_vector(alloc, plan, levels, &standing)? {
         return Ok(Some(Bound::Standing(vector)));
     }
-    let places = sizes.queue.saturating_add(sizes.max);
-    let lifetime = Target::lifetime(pool, places.saturating_sub(sizes.first_workers()));
+    let lifetime = Target::lifetime(pool, lifetime_limit(sizes));
     match least_vector(alloc, plan, levels, &lifetime)? {
         Some(vector) => Ok(Some(Bound::Lifetime(vector))),
         None => Ok(None),
     }
 }
 
-/// Returns the standing vector with the smallest total that the search finds for the pool, or
-/// `None` if the search finds no standing vector.
+/// Returns the number of jobs that the pool accepts before it can refuse one. If its core threads
+/// may time out, this is the capacity of its queue, because Java then starts threads without a job.
+fn lifetime_limit(pool: &Pool) -> u64 {
+    if pool.core_timeout {
+        return pool.queue;
+    }
+    let places = pool.queue.saturating_add(pool.max);
+    places.saturating_sub(pool.first_workers())
+}
+
+/// Returns the standing vector of the pool with the smallest total that the search finds, or `None`
+/// if it finds none.
 fn lightest_standing(
     alloc: Global,
     plan: &Plan,
@@ -94,7 +103,7 @@ pub fn blocked_vector(
     let sizes = &plan.pools()[pool];
     let target = Target::blocked(
         pool,
-        sizes.core.saturating_sub(1),
+        sizes.least_threads().saturating_sub(1),
         reach,
         rank,
     ).without_useless_loans();

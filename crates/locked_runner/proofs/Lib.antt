@@ -1,6 +1,7 @@
 pub mod Traces
 mod Worlds
 mod Owners
+mod CarriedPools
 mod Prefixes
 mod Received
 mod Replays

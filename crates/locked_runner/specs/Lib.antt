@@ -2,6 +2,7 @@ pub mod Trace
 pub mod HeldWorld
 pub mod Owner
 pub mod Receipts
+pub mod Carriers
 pub mod CompactReceipt
 pub mod Complete
 pub mod Run

@@ -3,6 +3,7 @@ use Rattle.std.specs.Prelude.{ℕ, Bool, ◌||◌, nat_lt, if◌then◌else◌, 
 use Rattle.std.specs.List.{list_any}
 use Rattle.job_bodies.specs.Plan.{Plan}
 use Rattle.weights.specs.Ranks.{Ranks}
+use Rattle.locked_runner.specs.Carriers.{carriers}
 use Rattle.locked_runner.specs.RunNumbers.{most_events}
 use Rattle.job_bodies.specs.declared.limits.TheConstants.{MAX_RUN_CLIENTS, MAX_RUN_CARRIERS, MAX_RUN_EVENTS}
 use Rattle.locked_runner.specs.declared.limits.RunLimit.{RunLimit}
@@ -16,9 +17,9 @@ may_reject plan = list_any (λ pool. pool.may_reject) plan.pools
 abbrev pub clients : Plan → ℕ
 clients plan = sum_by (λ client. client.count) plan.clients
 
--- the maximum number of threads of all pools together
+-- the number of threads that a run has for all pools together
 abbrev pub workers : Plan → ℕ
-workers plan = sum_by (λ pool. pool.max) plan.pools
+workers plan = sum_by carriers plan.pools
 
 -- a run of the plan exceeds a limit, if `events` is the bound on its number of events
 abbrev pub exceeds_limits : Plan → ℕ → Bool

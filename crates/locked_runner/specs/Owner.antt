@@ -6,6 +6,7 @@ use Rattle.written_machine.specs.declared.event.Event.{Event}
 use Rattle.written_machine.specs.declared.event.Event.TheVariants as event
 use Rattle.written_machine.specs.State.{State, job_at, pool_of}
 use Rattle.written_machine.specs.Reach.{Reaches}
+use Rattle.locked_runner.specs.Carriers.{carriers}
 use Rattle.locked_runner.specs.declared.owner.Owner.{Owner}
 use Rattle.locked_runner.specs.declared.owner.Owner.TheVariants as owner
 
@@ -28,9 +29,9 @@ abbrev pub client_list : ℕ × ℕ → Owner
 client_list entry = owner.Client entry.0
 
 abbrev pub pool_lists : ℕ × Pool → List Owner
-pool_lists entry = replicate entry.1.max (owner.Pool entry.0)
+pool_lists entry = replicate (carriers entry.1) (owner.Pool entry.0)
 
--- the owners of the lists of receipts: first each client once, then each pool `max` times
+-- the owners of the lists of receipts: first each client once, then each pool once for each thread that a run has for it
 abbrev pub lists_of : Plan → List Owner
 lists_of plan = map client_list (enumerate_from 0 (kinds_of plan)) ++ flat_map pool_lists (enumerate_from 0 plan.pools)
 

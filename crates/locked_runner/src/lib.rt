@@ -8,6 +8,7 @@
 //! number of rounds, and any other client performs one.
 #![tactic(auto)]
 
+mod carriers;
 mod certified_world;
 mod compact_receipt;
 mod completeness;

@@ -4,6 +4,7 @@ ghost use Rattle.std.specs.Prelude.{◌≡◌, ◌-◌, ◌^◌, min};
 ghost use Rattle.job_bodies.specs.WellFormed.{IsWellFormed};
 ghost use Rattle.locked_runner.specs.Limits as spec;
 
+use crate::carriers::carriers;
 use job_bodies::{MAX_RUN_CARRIERS, MAX_RUN_CLIENTS, MAX_RUN_EVENTS, Plan};
 
 /// A limit that a run can exceed.
@@ -14,7 +15,7 @@ pub enum RunLimit {
     Rejections,
     /// The number of clients of all kinds together, which must be at most 64.
     Clients,
-    /// The sum of the maximums of all pools, which must be at most 64.
+    /// The number of threads that a run has for all pools together, which must be at most 64.
     Threads,
     /// The upper bound of the number of events, which must be at most 1,000,000.
     Events,
@@ -68,13 +69,14 @@ fn clients_of(plan: &Plan) -> u64
     total
 }
 
-/// Returns the sum of the maximums of all pools, or `u64::MAX` if the sum is larger.
+/// Returns the number of threads that a run has for all pools together, or `u64::MAX` if the number
+/// is larger.
 fn workers_of(plan: &Plan) -> u64
     ensures { result ≡ min (spec.workers plan.now) (2 ^ 64 - 1) }
 {
     let mut total = 0u64;
     for pool in plan.pools() {
-        total = total.saturating_add(pool.max);
+        total = total.saturating_add(carriers(pool));
     }
     total
 }

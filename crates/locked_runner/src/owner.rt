@@ -10,6 +10,7 @@ ghost use Rattle.interleaving.specs.LiveView.{live_view};
 ghost use Rattle.std.specs.List.{enumerate_from};
 ghost use Rattle.locked_runner.specs.Owner as spec;
 
+use crate::carriers::carriers;
 use interleaving::{Event, World};
 use job_bodies::Plan;
 use std::alloc::{AllocError, Global};
@@ -83,8 +84,8 @@ pub fn kinds_of(alloc: Global, plan: &Plan) -> Result<Vec<usize>, AllocError>
 }
 
 /// Returns the owner of each list of receipts of a run. First there is one list for each client.
-/// Then there are, for each pool, `max` lists, one for each of its threads. `kinds` has one entry
-/// for each client (see [`kinds_of`]).
+/// Then there is, for each pool, one list for each thread that a run has for the pool. `kinds` has
+/// one entry for each client (see [`kinds_of`]).
 ///
 /// # Errors
 ///
@@ -95,7 +96,7 @@ pub fn lists_of(alloc: Global, plan: &Plan, kinds: &[usize]) -> Result<Vec<Owner
 {
     let mut owners = clients_of(alloc, kinds)?;
     for (number, pool) in plan.pools().iter().enumerate() {
-        let threads = pool.max as usize;
+        let threads = carriers(pool) as usize;
         owners.resize(owners.len() + threads, Owner::Pool(number))?;
     }
     Ok(owners)

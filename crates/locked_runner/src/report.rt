@@ -20,8 +20,8 @@ pub struct RunReport {
     pub refused: u64,
     /// All events of the run, in the order in which they happened.
     pub history: Vec<Event>,
-    /// A list of receipts for each thread of the run: first for each client, and then for each of
-    /// the `max` threads of each pool. Each list is in ascending order.
+    /// A list of receipts for each thread of the run: first for each client, and then for each
+    /// thread of each pool. Each list is in ascending order.
     pub receipts: Vec<Vec<CompactReceipt>>,
 }
 

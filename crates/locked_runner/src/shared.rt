@@ -1,5 +1,6 @@
 //! The state that the threads of a run share.
 
+use crate::carriers::carriers;
 use crate::progress::Progress;
 use crate::{CertifiedWorld, ThreadFault};
 use held_machines::{Held, Locked, Receipt};
@@ -70,8 +71,9 @@ impl<'a> Shared<'a> {
     ) -> Result<Shared<'a>, AllocError> {
         let mut handoffs = Vec::with_capacity(alloc, plan.pools().len())?;
         for pool in plan.pools() {
+            let threads = carriers(pool) as usize;
             handoffs.push(HandoffQueue {
-                started: Mutex::new(VecDeque::with_capacity(alloc, pool.max as usize)?),
+                started: Mutex::new(VecDeque::with_capacity(alloc, threads)?),
                 job_ready: Condvar::new(),
             })?;
         }
@@ -241,7 +243,7 @@ impl<'a> Shared<'a> {
         let Some(handoff) = self.handoffs.get(pool) else {
             return self.end_without_worker(rt);
         };
-        // A hand-off queue has room for `max` jobs of its pool, so no job is lost.
+        // A hand-off queue has room for a job of each thread of its pool, so no job is lost.
         if handoff.started.lock(rt).push_back(job).is_err() {
             self.progress.lock(rt).note(ThreadFault::Memory);
             return Wakeup::All;

@@ -14,9 +14,9 @@ use std::sync::Wait;
 use std::thread;
 use std::thread::Threads;
 
-/// Starts one thread for each client and `max` threads for each pool. Returns the results of the
-/// threads after all threads have ended. If a thread cannot be started or memory runs out, the run
-/// stops, and the fault in the results is [`ThreadFault::Memory`].
+/// Starts the threads of a run: one for each client, and those of each pool. Returns the results of
+/// the threads after all threads have ended. If a thread cannot be started or memory runs out, the
+/// run stops, and the fault in the results is [`ThreadFault::Memory`].
 ///
 /// # Errors
 ///

@@ -21,12 +21,19 @@ members_with k v [] = refl
 members_with k v (e ∷ es) = chosen (string_cmp k e.0) k v e es (insert_entry string_cmp es k v) (members_with k v es)
 
 -- inserting the keys of a pool in the order of the writer gives the members in ascending order
-pub pool_members : (core max name queue : Data) (prestart may_reject : Bool)
+pub pool_members : (core max name queue : Data) (prestart core_timeout may_reject : Bool)
     → let named = with_member (codes "name") name (with_member (codes "max") max (with_member (codes "core") core no_members)) in
     let started = if prestart then with_member (codes "prestart") (boolean true) named else named in
-    with_member (codes "queue") queue (if may_reject then with_member (codes "may_reject") (boolean true) started else started)
-    ≡ member (codes "core") core (member (codes "max") max (flag_and (codes "may_reject") may_reject (member (codes "name") name (flag_and (codes "prestart") prestart (member (codes "queue") queue no_members)))))
-pool_members core max name queue true true = refl
-pool_members core max name queue true false = refl
-pool_members core max name queue false true = refl
-pool_members core max name queue false false = refl
+    let timed = if core_timeout then with_member (codes "core_timeout") (boolean true) started else started in
+    with_member (codes "queue") queue (if may_reject then with_member (codes "may_reject") (boolean true) timed else timed)
+    ≡ member (codes "core") core
+    (flag_and (codes "core_timeout") core_timeout (member (codes "max") max
+    (flag_and (codes "may_reject") may_reject (member (codes "name") name (flag_and (codes "prestart") prestart (member (codes "queue") queue no_members))))))
+pool_members core max name queue true true true = refl
+pool_members core max name queue true true false = refl
+pool_members core max name queue true false true = refl
+pool_members core max name queue true false false = refl
+pool_members core max name queue false true true = refl
+pool_members core max name queue false true false = refl
+pool_members core max name queue false false true = refl
+pool_members core max name queue false false false = refl

@@ -2,6 +2,7 @@
 use Rattle.std.proofs.Common.{◌≡◌, ℕ, List, [], ◌∷◌, ◌++◌, true, false, Ok, Err, codes, refl}
 use Rattle.job_bodies.specs.declared.action.Action.TheVariants.{Work, Submit, Get}
 use Rattle.job_bodies.specs.declared.fault.Part.TheVariants as part
+use Rattle.job_bodies.specs.declared.limits.TheConstants.{MAX_THREADS}
 use Rattle.job_bodies.specs.Plan.{Plan}
 use Rattle.job_bodies.specs.Checks.{at_text, at_entry, at_action}
 use Rattle.plan_text.specs.PlanOf.{plan_of}
@@ -18,7 +19,7 @@ client = codes "[[client]]\nname = \"c\"\ncount = 2\nrepeat = true\nbody = [\"su
 
 abbrev plan : Plan
 plan = record {
-  pools = record { name = codes "p"; core = 1; max = 1; queue = 2; prestart = false; may_reject = false; unbounded = false } ∷ [];
+  pools = record { name = codes "p"; core = 1; max = 1; queue = 2; prestart = false; may_reject = false; unbounded = false; core_timeout = false } ∷ [];
   classes = record { name = codes "a"; pool = 0; body = Work 1 ∷ [] } ∷ [];
   clients = record { name = codes "c"; count = 2; repeat = true; body = Submit 0 ∷ Get 0 ∷ [] } ∷ [];
 }
@@ -36,7 +37,7 @@ unfolding plan_on_literals
 one_of_each = refl
 
 abbrev prestarted : Plan
-prestarted = record { pools = record { name = codes "p"; core = 1; max = 1; queue = 2; prestart = true; may_reject = false; unbounded = false } ∷ []; classes = []; clients = [] }
+prestarted = record { pools = record { name = codes "p"; core = 1; max = 1; queue = 2; prestart = true; may_reject = false; unbounded = false; core_timeout = false } ∷ []; classes = []; clients = [] }
 
 -- the plan of a text with a pool whose core threads are prestarted
 prestarted_pool : plan_of (pool ++ codes "prestart = true\n") ≡ Ok prestarted
@@ -44,18 +45,26 @@ unfolding plan_on_literals
 prestarted_pool = refl
 
 abbrev rejecting : Plan
-rejecting = record { pools = record { name = codes "p"; core = 1; max = 1; queue = 2; prestart = false; may_reject = true; unbounded = false } ∷ []; classes = []; clients = [] }
+rejecting = record { pools = record { name = codes "p"; core = 1; max = 1; queue = 2; prestart = false; may_reject = true; unbounded = false; core_timeout = false } ∷ []; classes = []; clients = [] }
 
 -- the plan of a text with a pool that may reject jobs
 rejecting_pool : plan_of (pool ++ codes "may_reject = true\n") ≡ Ok rejecting
 unfolding plan_on_literals
 rejecting_pool = refl
 
+abbrev timed : Plan
+timed = record { pools = record { name = codes "p"; core = 1; max = 1; queue = 2; prestart = false; may_reject = false; unbounded = false; core_timeout = true } ∷ []; classes = []; clients = [] }
+
+-- the plan of a text with a pool whose core threads may time out
+timed_pool : plan_of (pool ++ codes "core_timeout = true\n") ≡ Ok timed
+unfolding plan_on_literals
+timed_pool = refl
+
 abbrev pool_of : List ℕ → List ℕ → List ℕ
 pool_of max queue = codes "[[pool]]\nname = \"p\"\ncore = 2\nmax = " ++ max ++ codes "\nqueue = " ++ queue ++ codes "\n"
 
 abbrev unbounded : Plan
-unbounded = record { pools = record { name = codes "p"; core = 2; max = 2; queue = 1000000; prestart = false; may_reject = false; unbounded = true } ∷ []; classes = []; clients = [] }
+unbounded = record { pools = record { name = codes "p"; core = 2; max = 2; queue = 1000000; prestart = false; may_reject = false; unbounded = true; core_timeout = false } ∷ []; classes = []; clients = [] }
 
 -- the plan of a text with a pool that has an unbounded queue and an unbounded maximum
 unbounded_pool : plan_of (pool_of (codes "\"unbounded\"") (codes "\"unbounded\"")) ≡ Ok unbounded
@@ -66,6 +75,29 @@ unbounded_pool = refl
 unused_maximum : plan_of (pool_of (codes "7") (codes "\"unbounded\"")) ≡ Ok unbounded
 unfolding plan_on_literals
 unused_maximum = refl
+
+abbrev timed_up_to : ℕ → Plan
+timed_up_to max = record { pools = record { name = codes "p"; core = 2; max = max; queue = 1000000; prestart = false; may_reject = false; unbounded = true; core_timeout = true } ∷ []; classes = []; clients = [] }
+
+-- the plan of a text with a pool that has an unbounded queue and core threads that may time out: its maximum is the number of the text
+used_maximum : plan_of (pool_of (codes "7") (codes "\"unbounded\"") ++ codes "core_timeout = true\n") ≡ Ok (timed_up_to 7)
+unfolding plan_on_literals
+used_maximum = refl
+
+-- the plan of such a text with an unbounded maximum
+no_maximum : plan_of (pool_of (codes "\"unbounded\"") (codes "\"unbounded\"") ++ codes "core_timeout = true\n") ≡ Ok (timed_up_to MAX_THREADS)
+unfolding plan_on_literals
+no_maximum = refl
+
+-- the fault of such a text with the maximum that an unbounded maximum gives, as a number
+numbered_maximum : plan_of (pool_of (codes "268435455") (codes "\"unbounded\"") ++ codes "core_timeout = true\n") ≡ Err (at_entry part.Pool 0 8)
+unfolding plan_on_literals
+numbered_maximum = refl
+
+-- the fault of such a text with a maximum below core
+small_used_maximum : plan_of (pool_of (codes "1") (codes "\"unbounded\"") ++ codes "core_timeout = true\n") ≡ Err (at_entry part.Pool 0 8)
+unfolding plan_on_literals
+small_used_maximum = refl
 
 -- the fault of a maximum below core over an unbounded queue
 small_unused_maximum : plan_of (pool_of (codes "1") (codes "\"unbounded\"")) ≡ Err (at_entry part.Pool 0 8)
@@ -81,6 +113,11 @@ negative_unused_maximum = refl
 unbounded_maximum : plan_of (pool_of (codes "\"unbounded\"") (codes "3")) ≡ Err (at_entry part.Pool 0 8)
 unfolding plan_on_literals
 unbounded_maximum = refl
+
+-- the fault of such a maximum if core threads may time out
+unbounded_used_maximum : plan_of (pool_of (codes "\"unbounded\"") (codes "3") ++ codes "core_timeout = true\n") ≡ Err (at_entry part.Pool 0 8)
+unfolding plan_on_literals
+unbounded_used_maximum = refl
 
 -- the fault of a queue that is a string other than `unbounded`
 no_size : plan_of (pool_of (codes "2") (codes "\"Unbounded\"")) ≡ Err (at_entry part.Pool 0 5)
@@ -101,6 +138,11 @@ no_truth = refl
 no_truth_of_may_reject : plan_of (pool ++ codes "may_reject = 1\n") ≡ Err (at_entry part.Pool 0 5)
 unfolding plan_on_literals
 no_truth_of_may_reject = refl
+
+-- the fault of a `core_timeout` that is not a boolean
+no_truth_of_core_timeout : plan_of (pool ++ codes "core_timeout = 1\n") ≡ Err (at_entry part.Pool 0 5)
+unfolding plan_on_literals
+no_truth_of_core_timeout = refl
 
 abbrev client_with : List ℕ → List ℕ
 client_with body = codes "[[client]]\nname = \"c\"\ncount = 2\nbody = [" ++ body ++ codes "]\n"

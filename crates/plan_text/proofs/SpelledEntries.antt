@@ -1,24 +1,26 @@
 -- Proofs that the entries of a plan are read from its document.
-use Rattle.std.proofs.Common.{◌≡◌, ℕ, suc, ◌+◌, ◌≤◌, Bool, true, false, nat_le, List, [], ◌∷◌, length, map, codes, Some, Result, Ok, refl, sym, ap, subst, ◌∙◌, arith, zero-add}
+use Rattle.std.proofs.Common.{◌≡◌, ℕ, suc, ◌+◌, ◌≤◌, Bool, true, false, if◌then◌else◌, ◌||◌, ◌==◌, nat_le, List, [], ◌∷◌, length, map, codes, Option, None, Some, Result, Ok, inl, inr, refl, sym, ap, subst, ◌∙◌, arith, zero-add}
+use Rattle.std.proofs.lemmas.Bool.{cases_Bool, eqb-true}
 use Rattle.std.proofs.lemmas.List.{length-map}
 use Rattle.std.proofs.Math.Nat.{max-le}
-use Rattle.toml.specs.Data.{Data, string, table, Members, no_members, get_member, depth, items_depth, members_depth}
+use Rattle.toml.specs.Data.{Data, string, boolean, table, Members, no_members, member, get_member, depth, items_depth, members_depth}
 use Rattle.toml.specs.View.{items_of}
 use Rattle.support.specs.Reading.{read_each}
 use Rattle.job_bodies.specs.declared.fault.Part.{Part}
 use Rattle.job_bodies.specs.declared.fault.Part.TheVariants as part
-use Rattle.job_bodies.specs.declared.limits.TheConstants.{MAX_POOLS, MAX_CLASSES, MAX_CLIENT_KINDS, MAX_ACTIONS, MAX_SIZE}
+use Rattle.job_bodies.specs.declared.limits.TheConstants.{MAX_POOLS, MAX_CLASSES, MAX_CLIENT_KINDS, MAX_ACTIONS, MAX_SIZE, MAX_THREADS}
 use Rattle.job_bodies.specs.Plan.{Pool, Class, Client, Plan, pool_names}
-use Rattle.job_bodies.specs.WellFormed.{is_within}
+use Rattle.job_bodies.specs.WellFormed.{is_within, has_no_max}
 use Rattle.job_bodies.proofs.Passing.{EachPlace}
 use Rattle.plan_text.specs.Document.{has_only, list_at}
 use Rattle.plan_text.specs.Entry.{Entry, entry_of, text_at, number_at, size_at, flag_at, texts_at, action_text}
+use Rattle.plan_text.specs.Sizes.{sizes_of}
 use Rattle.plan_text.specs.Entries.{ClassEntry, ClientEntry, Entries, read_pool, read_class, read_client, entries_of}
 use Rattle.plan_text.specs.Spelling.{name_at, body_texts}
-use Rattle.plan_text.specs.PlanDocument.{list_data, texts_data, pool_data, class_data, client_data, plan_document}
+use Rattle.plan_text.specs.PlanDocument.{list_data, texts_data, flag_and, size_data, pool_data, class_data, client_data, plan_document}
 use Rattle.plan_text.specs.EffectivePlan.{effective_pool, effective_plan}
 use Rattle.plan_text.proofs.Tables.{elements-items_of}
-use Rattle.plan_text.proofs.EffectivePlans.{same_pool_names}
+use Rattle.plan_text.proofs.EffectivePlans.{pool_with, same_pool_names}
 
 -- ---- reading the images of a list's elements
 read_made_from : {X Y Z F : Type 0} (read : ℕ → Y → Result Z F) (make : X → Y) (image : X → Z) (n : ℕ) (xs : List X) → EachPlace xs (λ i x. read (n + i) (make x) ≡ Ok (image x))
@@ -56,27 +58,85 @@ texts_back entry key texts found short =
     let long : length (map string texts) ≡ length texts = length-map texts string in
     rw (found, elements-items_of (map string texts), long, short) (read_again (action_text entry.part entry.index) string texts (λ i text e. refl))
 
-pool_again : (index : ℕ) (name : List ℕ) (core max queue : ℕ) (prestart may_reject unbounded : Bool) → is_within core MAX_SIZE max ≡ true
-    → let pool : Pool = record { name = name; core = core; max = max; queue = queue; prestart = prestart; may_reject = may_reject; unbounded = unbounded } in
-    read_pool index (pool_data pool) ≡ Ok (effective_pool pool)
-unfolding read_pool pool_data entry_of text_at number_at size_at flag_at
-pool_again index name core max queue true true true within = rw within refl
-pool_again index name core max queue true true false within = refl
-pool_again index name core max queue true false true within = rw within refl
-pool_again index name core max queue true false false within = refl
-pool_again index name core max queue false true true within = rw within refl
-pool_again index name core max queue false true false within = refl
-pool_again index name core max queue false false true within = rw within refl
-pool_again index name core max queue false false false within = refl
-
--- the table of a pool is read as the pool's effective pool
-pool_back : (index : ℕ) (pool : Pool) → is_within pool.core MAX_SIZE pool.max ≡ true → read_pool index (pool_data pool) ≡ Ok (effective_pool pool)
-pool_back index pool within = pool_again index pool.name pool.core pool.max pool.queue pool.prestart pool.may_reject pool.unbounded within
-
 -- the entry with this table; an entry with an empty table if the value is not a table
 abbrev entry_at : Part → ℕ → Data → Entry
 entry_at part index (table members) = record { table = members; part = part; index = index }
 entry_at part index _ = record { table = no_members; part = part; index = index }
+
+-- the value at a key is the same with and without a flag of another key
+skip_flag : (key flag_key : List ℕ) (flag : Bool) (rest : Members) → get_member key (member flag_key (boolean true) rest) ≡ get_member key rest
+    → get_member key (flag_and flag_key flag rest) ≡ get_member key rest
+skip_flag key flag_key true rest other = other
+skip_flag key flag_key false rest other = refl
+
+-- the size that is read from the value of a size
+abbrev size_read : Bool → ℕ → Option ℕ
+size_read unbounded number = if unbounded then None else Some number
+
+size_back : (entry : Entry) (key : List ℕ) (unbounded : Bool) (number : ℕ) → get_member key entry.table ≡ Some (size_data unbounded number) → size_at entry key ≡ Ok (size_read unbounded number)
+unfolding size_at
+size_back entry key true number found = rw found refl
+size_back entry key false number found = rw found refl
+
+max_back : (index : ℕ) (pool : Pool) → size_at (entry_at part.Pool index (pool_data pool)) (codes "max") ≡ Ok (size_read (has_no_max pool) pool.max)
+unfolding pool_data
+max_back index pool = size_back (entry_at part.Pool index (pool_data pool)) (codes "max") (has_no_max pool) pool.max (skip_flag (codes "max") (codes "core_timeout") pool.core_timeout _ refl)
+
+queue_back : (index : ℕ) (pool : Pool) → size_at (entry_at part.Pool index (pool_data pool)) (codes "queue") ≡ Ok (size_read pool.unbounded pool.queue)
+unfolding pool_data
+queue_back index pool =
+    size_back (entry_at part.Pool index (pool_data pool)) (codes "queue") pool.unbounded pool.queue
+    (skip_flag (codes "queue") (codes "core_timeout") pool.core_timeout _ refl
+    ∙ skip_flag (codes "queue") (codes "may_reject") pool.may_reject _ refl
+    ∙ skip_flag (codes "queue") (codes "prestart") pool.prestart _ refl)
+
+-- the pool with the sizes that are read from its table
+abbrev pool_read : Pool → Pool
+pool_read pool =
+    let sizes = sizes_of pool.core pool.core_timeout (size_read (has_no_max pool) pool.max) (size_read pool.unbounded pool.queue) in
+    record pool { max = sizes.max; queue = sizes.queue; unbounded = sizes.unbounded }
+
+-- if the two sizes are read from the table of a pool, the table is read as the pool with these sizes
+by_sizes : (index : ℕ) (name : List ℕ) (core max queue : ℕ) (prestart may_reject unbounded core_timeout : Bool)
+    → let pool = pool_with name core max queue prestart may_reject unbounded core_timeout in
+    let entry = entry_at part.Pool index (pool_data pool) in
+    size_at entry (codes "max") ≡ Ok (size_read (has_no_max pool) max) → size_at entry (codes "queue") ≡ Ok (size_read unbounded queue) → read_pool index (pool_data pool) ≡ Ok (pool_read pool)
+unfolding read_pool pool_data entry_of text_at number_at flag_at
+by_sizes index name core max queue true true unbounded true of_max of_queue = rw (of_max, of_queue) refl
+by_sizes index name core max queue true true unbounded false of_max of_queue = rw (of_max, of_queue) refl
+by_sizes index name core max queue true false unbounded true of_max of_queue = rw (of_max, of_queue) refl
+by_sizes index name core max queue true false unbounded false of_max of_queue = rw (of_max, of_queue) refl
+by_sizes index name core max queue false true unbounded true of_max of_queue = rw (of_max, of_queue) refl
+by_sizes index name core max queue false true unbounded false of_max of_queue = rw (of_max, of_queue) refl
+by_sizes index name core max queue false false unbounded true of_max of_queue = rw (of_max, of_queue) refl
+by_sizes index name core max queue false false unbounded false of_max of_queue = rw (of_max, of_queue) refl
+
+-- whether the maximum is at least core and within the limit on sizes, or that of a pool that has none
+abbrev pub has_valid_max : Pool → Bool
+has_valid_max pool = is_within pool.core MAX_SIZE pool.max || has_no_max pool
+
+-- the first alternative holds if the second does not
+first_of : (a b : Bool) → (a || b) ≡ true → b ≡ false → a ≡ true
+first_of true b either off = refl
+first_of false b either off = absurd cc
+
+read_as_effective : (name : List ℕ) (core max queue : ℕ) (prestart may_reject unbounded core_timeout : Bool)
+    → let pool = pool_with name core max queue prestart may_reject unbounded core_timeout in
+    has_valid_max pool ≡ true → pool_read pool ≡ effective_pool pool
+read_as_effective name core max queue prestart may_reject false true valid = refl
+read_as_effective name core max queue prestart may_reject false false valid = refl
+read_as_effective name core max queue prestart may_reject true false valid = rw (first_of (is_within core MAX_SIZE max) false valid refl) refl
+read_as_effective name core max queue prestart may_reject true true valid =
+    elim (cases_Bool (max == MAX_THREADS)) [
+      | inl largest ↦ rw (eqb-true max MAX_THREADS largest) refl
+      | inr other ↦ rw (other, first_of (is_within core MAX_SIZE max) (max == MAX_THREADS) valid other) refl
+    ]
+
+-- the table of a pool is read as the pool's effective pool
+pool_back : (index : ℕ) (pool : Pool) → has_valid_max pool ≡ true → read_pool index (pool_data pool) ≡ Ok (effective_pool pool)
+pool_back index pool valid =
+    by_sizes index pool.name pool.core pool.max pool.queue pool.prestart pool.may_reject pool.unbounded pool.core_timeout (max_back index pool) (queue_back index pool)
+    ∙ ap (λ (p : Pool). Ok p) (read_as_effective pool.name pool.core pool.max pool.queue pool.prestart pool.may_reject pool.unbounded pool.core_timeout valid)
 
 class_back : (pools classes : List (List ℕ)) (index : ℕ) (class : Class) → nat_le (length (body_texts classes class.body)) MAX_ACTIONS ≡ true
     → read_class index (class_data pools classes class) ≡ Ok (class_entry pools classes class)
@@ -115,16 +175,16 @@ list_back key most document make xs found few =
     rw (found, elements-items_of (map make xs), long, few) refl
 
 -- the document of a plan is read as the entries of the effective plan
-pub entries_back : (plan : Plan) → IsShort plan → EachPlace plan.pools (λ i pool. is_within pool.core MAX_SIZE pool.max ≡ true) → entries_of (plan_document plan) ≡ Ok (entries_in (effective_plan plan))
+pub entries_back : (plan : Plan) → IsShort plan → EachPlace plan.pools (λ i pool. has_valid_max pool ≡ true) → entries_of (plan_document plan) ≡ Ok (entries_in (effective_plan plan))
 unfolding entries_of plan_document
-entries_back plan s within =
+entries_back plan s valid =
     let pools = pool_names plan in
     let classes = class_names_of plan in
     rw (
       list_back (codes "pool") MAX_POOLS (plan_document plan) pool_data plan.pools refl s.few_pools,
       list_back (codes "class") MAX_CLASSES (plan_document plan) (class_data pools classes) plan.classes refl s.few_classes,
       list_back (codes "client") MAX_CLIENT_KINDS (plan_document plan) (client_data classes) plan.clients refl s.few_clients,
-      read_made read_pool pool_data effective_pool plan.pools (λ i pool e. pool_back i pool (within i pool e)),
+      read_made read_pool pool_data effective_pool plan.pools (λ i pool e. pool_back i pool (valid i pool e)),
       read_made read_class (class_data pools classes) (class_entry pools classes) plan.classes (λ i class e. class_back pools classes i class (s.classes i class e)),
       read_made read_client (client_data classes) (client_entry classes) plan.clients (λ i client e. client_back classes i client (s.clients i client e)),
       same_pool_names plan,
@@ -143,20 +203,24 @@ each_at_most make most each (x ∷ xs) = max-le (each x) (each_at_most make most
 texts_depth : (texts : List (List ℕ)) → items_depth (items_of (map string texts)) ≤ 0
 texts_depth texts = each_at_most string 0 (λ text. omega arith) texts
 
-pool_depth_of : (name : List ℕ) (core max queue : ℕ) (prestart may_reject unbounded : Bool)
-    → depth (pool_data (record { name = name; core = core; max = max; queue = queue; prestart = prestart; may_reject = may_reject; unbounded = unbounded })) ≤ 2
-unfolding pool_data
-pool_depth_of name core max queue true true true = omega arith
-pool_depth_of name core max queue true true false = omega arith
-pool_depth_of name core max queue true false true = omega arith
-pool_depth_of name core max queue true false false = omega arith
-pool_depth_of name core max queue false true true = omega arith
-pool_depth_of name core max queue false true false = omega arith
-pool_depth_of name core max queue false false true = omega arith
-pool_depth_of name core max queue false false false = omega arith
+size_depth : (unbounded : Bool) (number : ℕ) → depth (size_data unbounded number) ≤ 0
+size_depth true number = omega arith
+size_depth false number = omega arith
+
+flag_depth : (key : List ℕ) (flag : Bool) (rest : Members) → members_depth rest ≤ 0 → members_depth (flag_and key flag rest) ≤ 0
+flag_depth key true rest shallow = max-le (omega arith) shallow
+flag_depth key false rest shallow = shallow
 
 pool_depth : (pool : Pool) → depth (pool_data pool) ≤ 2
-pool_depth pool = pool_depth_of pool.name pool.core pool.max pool.queue pool.prestart pool.may_reject pool.unbounded
+unfolding pool_data
+pool_depth pool =
+    let of_queue = member (codes "queue") (size_data pool.unbounded pool.queue) no_members in
+    let of_name = member (codes "name") (string pool.name) (flag_and (codes "prestart") pool.prestart of_queue) in
+    let of_max = member (codes "max") (size_data (has_no_max pool) pool.max) (flag_and (codes "may_reject") pool.may_reject of_name) in
+    let queue : members_depth of_queue ≤ 0 = max-le (size_depth pool.unbounded pool.queue) (omega arith) in
+    let name : members_depth of_name ≤ 0 = max-le (omega arith) (flag_depth (codes "prestart") pool.prestart of_queue queue) in
+    let max : members_depth of_max ≤ 0 = max-le (size_depth (has_no_max pool) pool.max) (flag_depth (codes "may_reject") pool.may_reject of_name name) in
+    omega (arith, flag_depth (codes "core_timeout") pool.core_timeout of_max max)
 
 class_depth : (pools classes : List (List ℕ)) (class : Class) → depth (class_data pools classes class) ≤ 2
 unfolding class_data

@@ -1,5 +1,5 @@
 -- Proofs that the document of a plan is read as its effective plan.
-use Rattle.std.proofs.Common.{◌≡◌, ℕ, ◌≤◌, true, ◌&&◌, le-leb, List, [], length, map, take, slice_get, Some, Ok, refl, ap, subst, ◌∙◌}
+use Rattle.std.proofs.Common.{◌≡◌, ℕ, ◌≤◌, true, ◌&&◌, ◌||◌, le-leb, List, [], length, map, take, slice_get, Some, Ok, refl, ap, subst, ◌∙◌}
 use Rattle.std.specs.Str.{is_utf8}
 use Rattle.std.proofs.lemmas.Bool.{and_parts, ltb-true}
 use Rattle.std.proofs.lemmas.List.{length-map}
@@ -8,7 +8,7 @@ use Rattle.toml.specs.Parse.{parse_document}
 use Rattle.support.specs.Reading.{check_each}
 use Rattle.job_bodies.specs.declared.fault.Part.TheVariants as part
 use Rattle.job_bodies.specs.Plan.{Class, Client, Plan, pool_names}
-use Rattle.job_bodies.specs.WellFormed.{is_within, is_valid_name, is_valid_pool, is_valid_body, is_valid_class, is_valid_client, IsWellFormed}
+use Rattle.job_bodies.specs.WellFormed.{is_within, has_no_max, is_valid_name, is_valid_pool, is_valid_body, is_valid_class, is_valid_client, IsWellFormed}
 use Rattle.job_bodies.specs.Checks.{check_pool, check_class, check_client}
 use Rattle.job_bodies.specs.Build.{check_counts, check_lengths, check_entries}
 use Rattle.job_bodies.proofs.Bodies.{list_all_get}
@@ -24,7 +24,7 @@ use Rattle.plan_text.specs.PlanDocument.{plan_document}
 use Rattle.plan_text.specs.PlanOf.{plan_of_entries, plan_of}
 use Rattle.plan_text.proofs.SpelledBodies.{place_is, length-texts, reads_back}
 use Rattle.plan_text.proofs.EffectivePlans.{effective_is_well_formed}
-use Rattle.plan_text.proofs.SpelledEntries.{read_again, class_entry, client_entry, class_names_of, entries_in, IsShort, entries_back, keys_are_known}
+use Rattle.plan_text.proofs.SpelledEntries.{read_again, class_entry, client_entry, class_names_of, entries_in, IsShort, has_valid_max, entries_back, keys_are_known}
 
 -- ---- the checks of names and numbers
 record Checked (plan : Plan) : Type 0 where
@@ -137,15 +137,15 @@ is_short plan w = record {
   clients = λ i client e. rw (length-texts (class_names_of plan) client.body) (and_parts _ _ (client_body plan w i client e)).0;
 }
 
--- the maximum of each pool is at least its core and within the limit on sizes
-maximum_within : (plan : Plan) → IsWellFormed plan → EachPlace plan.pools (λ i pool. is_within pool.core MAX_SIZE pool.max ≡ true)
-maximum_within plan w i pool e =
+-- the maximum of each pool is valid
+maximum_valid : (plan : Plan) → IsWellFormed plan → EachPlace plan.pools (λ i pool. has_valid_max pool ≡ true)
+maximum_valid plan w i pool e =
     let valid = and_parts (is_valid_name pool.name) _ (list_all_get is_valid_pool plan.pools i pool w.pools e) in
-    let sizes = and_parts (is_within 1 MAX_SIZE pool.core && is_within pool.core MAX_SIZE pool.max) _ valid.1 in
+    let sizes = and_parts (is_within 1 MAX_SIZE pool.core && (is_within pool.core MAX_SIZE pool.max || has_no_max pool)) _ valid.1 in
     (and_parts (is_within 1 MAX_SIZE pool.core) _ sizes.0).1
 
 -- a text for the document of a plan, if it is not longer than a plan's text may be, is read as the effective plan
 pub text_again : (plan : Plan) (text : List ℕ) → IsWellFormed plan → is_utf8 text ≡ true → length text ≤ MAX_PLAN_BYTES → parse_document text ≡ Some (plan_document plan) → plan_of text ≡ Ok (effective_plan plan)
 unfolding plan_of document_of
 text_again plan text w valid short parsed =
-    rw (le-leb (length text) MAX_PLAN_BYTES short, valid, parsed, keys_are_known plan, entries_back plan (is_short plan w) (maximum_within plan w)) (entries_again (effective_plan plan) (effective_is_well_formed plan w))
+    rw (le-leb (length text) MAX_PLAN_BYTES short, valid, parsed, keys_are_known plan, entries_back plan (is_short plan w) (maximum_valid plan w)) (entries_again (effective_plan plan) (effective_is_well_formed plan w))

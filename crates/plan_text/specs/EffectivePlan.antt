@@ -3,10 +3,11 @@ use Rattle.std.specs.Prelude.{if◌then◌else◌, map}
 use Rattle.job_bodies.specs.declared.limits.TheConstants.{MAX_SIZE}
 use Rattle.job_bodies.specs.Plan.{Pool, Plan}
 
--- the effective pool of a pool: if its queue is unbounded, its maximum is core and its queue the largest size; these two sizes have no
--- effect there
+-- the effective pool of a pool: if its queue is unbounded, its queue is the largest size, and its maximum is core unless core threads may
+-- time out; the sizes that are replaced have no effect there
 abbrev pub effective_pool : Pool → Pool
-effective_pool pool = if pool.unbounded then record pool { max = pool.core; queue = MAX_SIZE } else pool
+effective_pool pool =
+    if pool.unbounded then record pool { max = if pool.core_timeout then pool.max else pool.core; queue = MAX_SIZE } else pool
 
 -- the plan with the effective pool of each pool; it is the plan itself if no pool of the plan has an unbounded queue
 abbrev pub effective_plan : Plan → Plan

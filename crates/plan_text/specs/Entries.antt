@@ -39,15 +39,16 @@ pub record AreWithinLimits (entries : Entries) : Type 0 where
 
 unfoldable pub read_pool : ℕ → Data → Result Pool PlanFault
 read_pool index value =
-    entry_of part.Pool index (codes "name" ∷ codes "core" ∷ codes "max" ∷ codes "queue" ∷ codes "prestart" ∷ codes "may_reject" ∷ []) value >>= λ entry.
+    entry_of part.Pool index (codes "name" ∷ codes "core" ∷ codes "max" ∷ codes "queue" ∷ codes "prestart" ∷ codes "core_timeout" ∷ codes "may_reject" ∷ []) value >>= λ entry.
     text_at entry (codes "name") >>= λ name.
     number_at entry (codes "core") >>= λ core.
     size_at entry (codes "max") >>= λ max.
     size_at entry (codes "queue") >>= λ queue.
     flag_at entry (codes "prestart") >>= λ prestart.
+    flag_at entry (codes "core_timeout") >>= λ core_timeout.
     flag_at entry (codes "may_reject") >>= λ may_reject.
-    let sizes = sizes_of core max queue in
-    Ok (record { name = name; core = core; max = sizes.max; queue = sizes.queue; prestart = prestart; may_reject = may_reject; unbounded = sizes.unbounded })
+    let sizes = sizes_of core core_timeout max queue in
+    Ok (record { name = name; core = core; max = sizes.max; queue = sizes.queue; prestart = prestart; may_reject = may_reject; unbounded = sizes.unbounded; core_timeout = core_timeout })
 
 unfoldable pub read_class : ℕ → Data → Result ClassEntry PlanFault
 read_class index value =

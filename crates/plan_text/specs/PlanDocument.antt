@@ -6,6 +6,7 @@ use Rattle.toml.specs.Data.{Data, string, integer, boolean, array, table, Member
 use Rattle.toml.specs.View.{items_of}
 use Rattle.toml.specs.Text.{IsDocumentText}
 use Rattle.job_bodies.specs.Plan.{Pool, Class, Client, Plan, pool_names}
+use Rattle.job_bodies.specs.WellFormed.{has_no_max}
 use Rattle.plan_text.specs.Spelling.{name_at, body_texts}
 
 -- an integer of a document
@@ -22,18 +23,19 @@ texts_data texts = list_data (map string texts)
 abbrev pub flag_and : List ℕ → Bool → Members → Members
 flag_and key flag rest = if flag then member key (boolean true) rest else rest
 
--- the queue of a pool: the string `unbounded`, or the capacity
-abbrev pub queue_data : Pool → Data
-queue_data pool = if pool.unbounded then string (codes "unbounded") else number_data pool.queue
+-- a size: the string `unbounded`, or the number
+abbrev pub size_data : Bool → ℕ → Data
+size_data unbounded number = if unbounded then string (codes "unbounded") else number_data number
 
 unfoldable pub pool_data : Pool → Data
 pool_data pool =
     table (member (codes "core") (number_data pool.core)
-    (member (codes "max") (number_data pool.max)
+    (flag_and (codes "core_timeout") pool.core_timeout
+    (member (codes "max") (size_data (has_no_max pool) pool.max)
     (flag_and (codes "may_reject") pool.may_reject
     (member (codes "name") (string pool.name)
     (flag_and (codes "prestart") pool.prestart
-    (member (codes "queue") (queue_data pool) no_members))))))
+    (member (codes "queue") (size_data pool.unbounded pool.queue) no_members)))))))
 
 -- the table of a class, given the names of all pools and classes
 unfoldable pub class_data : List (List ℕ) → List (List ℕ) → Class → Data

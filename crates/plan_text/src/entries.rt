@@ -64,15 +64,24 @@ impl<'a> Model for Entries<'a> {
 fn read_pool(alloc: Global, index: usize, value: &Value) -> Result<Pool, TextError>
     ensures { Gives (λ pool. pool) result (spec.read_pool index (view value.now)) }
 {
-    let keys = ["name", "core", "max", "queue", "prestart", "may_reject"];
+    let keys = [
+        "name",
+        "core",
+        "max",
+        "queue",
+        "prestart",
+        "core_timeout",
+        "may_reject",
+    ];
     let entry = Entry::of(value, Part::Pool, index, &keys)?;
     let name = entry.text("name")?;
     let core = entry.number("core")?;
     let max = entry.size("max")?;
     let queue = entry.size("queue")?;
     let prestart = entry.flag("prestart")?;
+    let core_timeout = entry.flag("core_timeout")?;
     let may_reject = entry.flag("may_reject")?;
-    let sizes = sizes_of(core, max, queue);
+    let sizes = sizes_of(core, core_timeout, max, queue);
     Ok(Pool {
         name: String::from_str(alloc, name)?,
         core,
@@ -81,6 +90,7 @@ fn read_pool(alloc: Global, index: usize, value: &Value) -> Result<Pool, TextErr
         prestart,
         may_reject,
         unbounded: sizes.unbounded,
+        core_timeout,
     })
 }
 

@@ -21,12 +21,13 @@ use support::number::MEMORY;
 
 /// Parses the bytes of a plan.
 ///
-/// The `max` and the `queue` of a pool are each an integer or the string `unbounded`:
+/// The `max` and the `queue` of a pool are each an integer or the string `unbounded`. With
+/// `queue = "unbounded"`, the pool's queue is unbounded: in the plan, the queue is 1,000,000. Its
+/// `max` has an effect only with `core_timeout = true`: in the plan, the maximum is then `max`, or
+/// [`MAX_THREADS`] with `max = "unbounded"`, and otherwise it is core. A `max` that is a number
+/// must be in range in each case. If the queue has a capacity, `max = "unbounded"` is out of range.
 ///
-/// - If `queue` is `unbounded`, the pool's queue is unbounded and its `max` has no effect. In the
-///   plan, the maximum is then the core size, and the queue is 1,000,000. If `max` is a number, it
-///   must still be in range.
-/// - If `queue` is a number and `max` is `unbounded`, `max` is out of range.
+/// [`MAX_THREADS`]: job_bodies::MAX_THREADS
 ///
 /// # Errors
 ///

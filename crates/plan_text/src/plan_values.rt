@@ -1,6 +1,6 @@
 //! Building of the TOML document of a plan.
 
-ghost use Rattle.std.specs.Prelude.{◌≡◌, ◌≤◌, true, if◌then◌else◌, map, IfOk, OnOk};
+ghost use Rattle.std.specs.Prelude.{◌≡◌, ◌≤◌, true, false, if◌then◌else◌, map, IfOk, OnOk};
 ghost use Rattle.toml.specs.Data.{boolean};
 ghost use Rattle.toml.specs.View.{view, table_view};
 ghost use Rattle.job_bodies.specs.declared.limits.TheConstants.{MAX_SIZE};
@@ -44,15 +44,15 @@ fn number_value(number: u64) -> Value
     Value::Integer(number as i64)
 }
 
-/// Returns the value of the key `queue`, which is the string `unbounded` or the capacity.
-fn queue_value(alloc: Global, pool: &Pool) -> Result<Value, AllocError>
-    requires { is_valid_pool pool.now ≡ true }
-    ensures { IfOk result (λ value. view value ≡ spec.queue_data pool.now) }
+/// Returns the value of a size: the string `unbounded`, or the number.
+fn size_value(alloc: Global, unbounded: bool, number: u64) -> Result<Value, AllocError>
+    requires { unbounded ≡ false → number ≤ MAX_SIZE }
+    ensures { IfOk result (λ value. view value ≡ spec.size_data unbounded number) }
 {
-    if pool.unbounded {
+    if unbounded {
         Value::string(alloc, "unbounded")
     } else {
-        Ok(number_value(pool.queue))
+        Ok(number_value(number))
     }
 }
 
@@ -62,7 +62,12 @@ fn pool_value(alloc: Global, pool: &Pool) -> Result<Value, AllocError>
 {
     let mut table = Table::new(alloc);
     insert_value(alloc, &mut table, "core", number_value(pool.core))?;
-    insert_value(alloc, &mut table, "max", number_value(pool.max))?;
+    insert_value(
+        alloc,
+        &mut table,
+        "max",
+        size_value(alloc, pool.has_no_max(), pool.max)?,
+    )?;
     insert_value(
         alloc,
         &mut table,
@@ -70,8 +75,14 @@ fn pool_value(alloc: Global, pool: &Pool) -> Result<Value, AllocError>
         Value::string(alloc, pool.name.as_str())?,
     )?;
     insert_flag(alloc, &mut table, "prestart", pool.prestart)?;
+    insert_flag(alloc, &mut table, "core_timeout", pool.core_timeout)?;
     insert_flag(alloc, &mut table, "may_reject", pool.may_reject)?;
-    insert_value(alloc, &mut table, "queue", queue_value(alloc, pool)?)?;
+    insert_value(
+        alloc,
+        &mut table,
+        "queue",
+        size_value(alloc, pool.unbounded, pool.queue)?,
+    )?;
     Ok(Value::Table(table))
 }
 

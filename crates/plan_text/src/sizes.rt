@@ -3,7 +3,7 @@
 ghost use Rattle.std.specs.Prelude.{◌≡◌};
 ghost use Rattle.plan_text.specs.Sizes as spec;
 
-use job_bodies::{MAX_SIZE, is_within};
+use job_bodies::{MAX_SIZE, MAX_THREADS, is_within};
 
 /// The maximum of a pool, the capacity of its queue, and whether its queue is unbounded.
 #[derive(Clone, Copy)]
@@ -13,11 +13,11 @@ pub struct Sizes {
     pub unbounded: bool,
 }
 
-/// Returns the sizes of a pool with this core, this `max` and this `queue`. `None` stands for the
-/// string `unbounded`. If `queue` is a number and `max` is `None`, the maximum becomes a number
-/// that is out of range.
-pub fn sizes_of(core: u64, max: Option<u64>, queue: Option<u64>) -> Sizes
-    ensures { result ≡ spec.sizes_of core max queue }
+/// Returns the sizes of a pool with this core, given its `core_timeout`, its `max` and its `queue`;
+/// the last two are `None` for the text `unbounded`. If the queue has a capacity, the maximum
+/// `unbounded` becomes a number that is out of range.
+pub fn sizes_of(core: u64, core_timeout: bool, max: Option<u64>, queue: Option<u64>) -> Sizes
+    ensures { result ≡ spec.sizes_of core core_timeout max queue }
 {
     match queue {
         Some(queue) => Sizes {
@@ -26,27 +26,24 @@ pub fn sizes_of(core: u64, max: Option<u64>, queue: Option<u64>) -> Sizes
             unbounded: false,
         },
         None => Sizes {
-            max: max_over_unbounded(core, max),
+            max: max_over_unbounded(core, core_timeout, max),
             queue: MAX_SIZE,
             unbounded: true,
         },
     }
 }
 
-/// Returns the maximum of a pool with this core and an unbounded queue: `core`, because the maximum
-/// has no effect. `max` is `None` for the string `unbounded`. If `max` is out of range, returns
-/// `max`, so that it is a fault as in any other pool.
-fn max_over_unbounded(core: u64, max: Option<u64>) -> u64
-    ensures { result ≡ spec.max_over_unbounded core max }
+/// Returns the maximum of a pool with this core and an unbounded queue, given its `core_timeout`
+/// and its `max`, which is `None` for the text `unbounded`. The maximum has an effect only if core
+/// threads may time out, and is core otherwise. But a number that is out of range becomes one that
+/// is out of range in every pool, so that it is a fault as in any other pool.
+fn max_over_unbounded(core: u64, core_timeout: bool, max: Option<u64>) -> u64
+    ensures { result ≡ spec.max_over_unbounded core core_timeout max }
 {
     match max {
-        None => core,
-        Some(max) => {
-            if is_within(core, MAX_SIZE, max) {
-                core
-            } else {
-                max
-            }
-        }
+        Some(max) if !is_within(core, MAX_SIZE, max) => MAX_SIZE + 1,
+        Some(max) if core_timeout => max,
+        None if core_timeout => MAX_THREADS,
+        _ => core,
     }
 }

@@ -14,9 +14,11 @@ use std::alloc::{AllocError, Global};
 /// Writes a plan as TOML. Let the text be no longer than a plan's text may be. Then
 /// [`read_plan`](crate::read_plan) parses it as the same plan, except for the two sizes below.
 ///
-/// An unbounded queue is written as `queue = "unbounded"`, and the `max` of its pool as a number.
-/// [`read_plan`](crate::read_plan) then gives this pool its core size as the maximum and 1,000,000
-/// as the queue, whatever these sizes were before. They have no effect if the queue is unbounded.
+/// An unbounded queue is written as `queue = "unbounded"`, and the `max` of its pool as a number,
+/// or as `max = "unbounded"` if the pool has no maximum of its own.
+/// [`read_plan`](crate::read_plan) gives such a pool 1,000,000 as its queue, and core as its
+/// maximum unless core threads may time out, whatever they were in the plan. The sizes that it
+/// replaces have no effect there.
 ///
 /// If a get names a submit, the submit fills a slot of its own, whose name is `s` followed by the
 /// submit's position in its body. Other submits fill no slot.

@@ -4,10 +4,10 @@ ghost use Rattle.std.specs.Prelude.{IsTrue};
 ghost use Rattle.job_bodies.specs.Plan.{Pool};
 ghost use Rattle.job_bodies.specs.WellFormed.{has_valid_sizes};
 ghost use Rattle.pool_machine.specs.PoolState.{PoolView, IsSound, new_pool};
-ghost use Rattle.pool_machine.specs.Laws.{IsInvariant, HasSizesOf, QueuesOnlyAtCore, LoadIsOffered, FailureConditions};
+ghost use Rattle.pool_machine.specs.Laws.{IsInvariant, HasSizesOf, QueuesHaveThreads, LoadIsOffered, FailureConditions};
 
-/// States that no event changes the core, the maximum or the capacity of a pool, or whether its
-/// queue is unbounded.
+/// Proves that no event changes the core, the maximum or the capacity of a pool, nor whether its
+/// queue is unbounded or its core threads may time out.
 pub fn sizes_stay()
     ensures { (first : PoolView) → IsInvariant (HasSizesOf first) }
 {}
@@ -23,11 +23,12 @@ pub fn pools_stay_sound()
     ensures kept { IsInvariant IsSound }
 {}
 
-/// States that a pool with a queued job has at least core threads. The reason is that a pool queues
-/// a job only if it has at least core threads, and that core threads never end.
-pub fn queues_only_at_core()
-    ensures start { (pool : Pool) → QueuesOnlyAtCore (new_pool pool) }
-    ensures kept { IsInvariant QueuesOnlyAtCore }
+/// Proves that a pool with a queued job has at least core threads, or at least one if its core
+/// threads may time out. A pool queues a job only if it has at least core threads, and the last
+/// threads do not end while jobs are queued.
+pub fn queues_have_threads()
+    ensures start { (pool : Pool) → QueuesHaveThreads (new_pool pool) }
+    ensures kept { IsInvariant QueuesHaveThreads }
 {}
 
 /// States how the load of a pool changes. The load is the number of its threads plus the number of
@@ -42,15 +43,13 @@ pub fn load_is_offered()
     ensures { LoadIsOffered }
 {}
 
-/// States exactly when each operation of a pool fails. A queue of capacity 0 is full if it has a
-/// job for each idle worker.
-///
-/// - An offer is refused exactly when the queue is bounded and full, and the pool has its maximum
-///   of threads.
-/// - [`PoolState::take`](crate::PoolState::take) fails exactly when no worker is idle or the queue
-///   is empty.
-/// - [`PoolState::retire`](crate::PoolState::retire) fails exactly when no worker is idle, when the
-///   pool has at most core threads, or when its queue has the capacity 0 and is bounded and full.
+/// Proves under which conditions an operation of a pool fails. The pool refuses a job exactly when
+/// its queue is bounded and full and it has its maximum of threads.
+/// [`PoolState::take`](crate::PoolState::take) fails exactly when no worker is idle or the queue is
+/// empty. [`PoolState::retire`](crate::PoolState::retire) fails exactly when no worker is idle, the
+/// pool has at most core threads and these may not time out or are needed, or its queue is bounded
+/// with capacity 0 and each idle worker has a job in it. A core thread that may time out is needed
+/// if it is the last thread and a job is queued.
 pub fn failure_conditions()
     ensures { (pool : PoolView) → IsSound pool → FailureConditions pool }
 {}

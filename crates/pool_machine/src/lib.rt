@@ -7,7 +7,7 @@ mod offer;
 mod pool_state;
 
 pub use laws::{
-    failure_conditions, load_is_offered, pools_stay_sound, queues_only_at_core, sizes_stay,
+    failure_conditions, load_is_offered, pools_stay_sound, queues_have_threads, sizes_stay,
 };
 pub use offer::Offer;
 pub use pool_state::PoolState;

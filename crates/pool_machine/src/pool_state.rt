@@ -4,7 +4,7 @@ ghost use Rattle.std.specs.Prelude.{◌≡◌, ◌-◌, ◌<◌, ◌≤◌, ◌�
 ghost use Rattle.std.specs.Prelude.{IsTrue, IsNone, IfSome, IfNone, IfOk, OnOk, OnErr};
 ghost use Rattle.std.specs.Bool.{OnTrue, OnFalse};
 ghost use Rattle.job_bodies.specs.WellFormed.{has_valid_sizes};
-ghost use Rattle.pool_machine.specs.PoolState.{IsSound, queue_limit, has_room, new_pool, answer, offered, taken, finished, retired};
+ghost use Rattle.pool_machine.specs.PoolState.{IsSound, queue_limit, has_room, has_spare_thread, new_pool, answer, offered, taken, finished, retired};
 
 use crate::Offer;
 use job_bodies::Pool;
@@ -24,6 +24,7 @@ pub struct PoolState {
     max: u64,
     capacity: u64,
     unbounded: bool,
+    times_out: bool,
     threads: u64,
     idle: u64,
     queue: VecDeque<usize>,
@@ -39,6 +40,7 @@ impl Model for PoolState {
       max = p.max;
       capacity = p.capacity;
       unbounded = p.unbounded;
+      core_timeout = p.times_out;
       threads = p.threads;
       idle = p.idle;
       queue = p.queue.items;
@@ -49,6 +51,7 @@ impl Model for PoolState {
       max = p.max;
       capacity = p.capacity;
       unbounded = p.unbounded;
+      core_timeout = p.times_out;
       threads = p.threads;
       idle = p.idle;
       queue = p.queue.items;
@@ -59,11 +62,9 @@ impl PoolState {
     /// Creates a pool of these sizes with an empty queue. A prestarted pool has core idle workers
     /// at first, and any other pool has no threads. Allocates no memory.
     ///
-    /// The sizes must be valid:
-    ///
-    /// - The core is at least 1, and the maximum is at least the core.
-    /// - The capacity of the queue is at least 1, or at least 0 if the pool may reject jobs.
-    /// - None of them is above `MAX_SIZE`.
+    /// The sizes must be valid: core at least 1, the maximum at least core, and the queue capacity
+    /// at least 1, or 0 if the pool may reject jobs, each at most `MAX_SIZE` (the maximum can be
+    /// `MAX_THREADS` if the pool has none). Allocates no memory.
     pub fn new(alloc: Global, pool: &Pool) -> PoolState
         requires { IsTrue (has_valid_sizes pool.now) }
         ensures { result ≡ new_pool pool.now }
@@ -74,6 +75,7 @@ impl PoolState {
             max: pool.max,
             capacity: pool.queue,
             unbounded: pool.unbounded,
+            times_out: pool.core_timeout,
             threads: first_workers,
             idle: first_workers,
             queue: VecDeque::new(alloc),
@@ -172,24 +174,31 @@ impl PoolState {
         self.idle += 1;
     }
 
-    /// Ends an idle worker, whether or not jobs are queued, and returns `true`. Allocates no
-    /// memory. Returns `false` and leaves the pool unchanged if
-    ///
-    /// - no worker is idle,
-    /// - the pool has at most core threads, or
-    /// - the queue is bounded with capacity 0 and has a job for each idle worker. In such a queue,
-    ///   each job was handed to an idle worker, and a worker with a job does not end.
+    /// Ends an idle worker if the pool has more than core threads, whether or not jobs are queued.
+    /// If core threads may time out, it also ends one if the pool has another thread or no queued
+    /// job. In a bounded queue of capacity 0, each job was handed to an idle worker, and these
+    /// workers do not end. Returns whether a worker ended. If none can end, the pool is unchanged.
+    /// Allocates no memory.
     pub fn retire(&mut self) -> bool
         ensures ended { OnTrue result (retired self.old ≡ Some self.new) }
         ensures nothing { OnFalse result (retired self.old ≡ None) }
         ensures nothing_unchanged { OnFalse result (self.new ≡ self.old) }
     {
-        let ends = self.idle > 0 && self.threads > self.core && self.has_spare_worker();
+        let ends = self.idle > 0 && self.has_spare_thread() && self.has_spare_worker();
         if ends {
             self.threads -= 1;
             self.idle -= 1;
         }
         ends
+    }
+
+    // Returns whether an idle worker is not needed: the pool has more than core threads, or core
+    // threads may time out and the pool has another thread or no queued job.
+    fn has_spare_thread(&self) -> bool
+        ensures { result ≡ has_spare_thread self.now }
+    {
+        let above_core = self.threads > self.core;
+        above_core || (self.times_out && (self.threads > 1 || self.queue.is_empty()))
     }
 
     // Returns whether an idle worker has no job of its own in the queue. In a bounded queue of
@@ -209,7 +218,7 @@ impl PoolState {
         self.core
     }
 
-    /// Returns the maximum number of threads, which is from the core size to `MAX_SIZE`.
+    /// Returns the maximum number of threads: core to `MAX_SIZE`, or `MAX_THREADS`.
     pub fn max(&self) -> u64
         ensures { result ≡ self.now.max }
     {
@@ -231,7 +240,14 @@ impl PoolState {
         self.unbounded
     }
 
-    /// Returns the number of threads, both busy and idle, which is from 0 to the maximum.
+    /// Returns whether core threads may time out.
+    pub fn has_core_timeout(&self) -> bool
+        ensures { result ≡ self.now.core_timeout }
+    {
+        self.times_out
+    }
+
+    /// Returns the number of threads, busy and idle: 0 to the maximum.
     pub fn threads(&self) -> u64
         ensures value { result ≡ self.now.threads }
         ensures sound { IsSound self.now }

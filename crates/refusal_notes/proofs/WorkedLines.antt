@@ -12,7 +12,7 @@ use Rattle.soundness.specs.Conditions.{note}
 use Rattle.refusal_notes.specs.Line.{line}
 
 abbrev named_pool : List ℕ → Pool
-named_pool name = record { name = name; core = 1; max = 1; queue = 5; prestart = false; may_reject = false; unbounded = false }
+named_pool name = record { name = name; core = 1; max = 1; queue = 5; prestart = false; may_reject = false; unbounded = false; core_timeout = false }
 
 -- a plan with the pools p and q, a class a that submits a class b, and a client kind c
 abbrev two_pools : Plan

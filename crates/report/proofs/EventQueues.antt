@@ -84,7 +84,7 @@ room_exists plan s q n as_many room = elim (cases_lt q (length plan.pools)) [
 queue_happens : (plan : Plan) (s s' : State) (o : Outcome) (e : Event) (p : ℕ) → StateInvariant plan s → Happens plan s e s' o → queue_once p (pool_part s p).queue (pool_at_event plan s e s' o) o ≡ (pool_part s' p).queue
 queue_happens plan s s' o e p kept (works a body i u at) = refl
 queue_happens plan s s' o e p kept (starts a body i k at room) = refl
-queue_happens plan s s' o e p kept (queues a body i k at core room) =
+queue_happens plan s s' o e p kept (queues a body i k at room) =
     let q = pool_of plan k in
     let j = length s.jobs in
     let exists : q < length plan.pools = room_exists plan s q (length (pool_part s q).queue) kept.as_many room in
@@ -110,7 +110,7 @@ queue_happens plan s s' o e p kept (takes q j queue idle is_queue is_idle) =
     let is_test : is_of_pool p (counts_of plan after q) ≡ eqb q p = counts_there plan after p q exists in
     queue_where p q (λ n. (pool_part s n).queue) (λ n. drop 1 (pool_part s n).queue) (is_of_pool p (counts_of plan after q)) is_test
     ∙ put_changes s.pools q p (record { queue = queue; idle = idle }) (is_of_pool p (counts_of plan after q)) (drop 1 (pool_part s q).queue) inside is_test (sym (ap (drop 1) is_queue))
-queue_happens plan s s' o e p kept (retires q idle is_idle above not_handed) =
+queue_happens plan s s' o e p kept (retires q idle is_idle not_handed) =
     sym (put_same s.pools q p (record { queue = (pool_part s q).queue; idle = idle }) refl)
 
 -- ---- the queues along the rows

@@ -73,7 +73,7 @@ made_unfinished : (plan : Plan) (s s' : State) (o : Outcome) {e : Event} → Hap
 made_unfinished plan s s' o (works a body i u at) = tt
 made_unfinished plan s s' o (starts a body i k at room) =
     ap (λ (job : CreatedJob). is_unfinished job.stage) (made_last (moved_jobs a (i + 1) s) (length s.jobs) (record { class = k; parent = a; slot = i; stage = Stage.At 0 }) (length-moved a (i + 1) s))
-made_unfinished plan s s' o (queues a body i k at core room) =
+made_unfinished plan s s' o (queues a body i k at room) =
     ap (λ (job : CreatedJob). is_unfinished job.stage) (made_last (moved_jobs a (i + 1) s) (length s.jobs) (record { class = k; parent = a; slot = i; stage = Stage.Queued }) (length-moved a (i + 1) s))
 made_unfinished plan s s' o (is_refused a body i k at must no_room all) = tt
 made_unfinished plan s s' o (is_rejected a body i k at may) = tt
@@ -81,7 +81,7 @@ made_unfinished plan s s' o (gets a body i t j at is_child done) = tt
 made_unfinished plan s s' o (finishes j body i at) = tt
 made_unfinished plan s s' o (loops c client body i at is_client repeats) = tt
 made_unfinished plan s s' o (takes p j queue idle is_queue is_idle) = tt
-made_unfinished plan s s' o (retires p idle is_idle above not_handed) = tt
+made_unfinished plan s s' o (retires p idle is_idle not_handed) = tt
 
 -- a job that a thread took is unfinished
 abbrev TakenIsUnfinished : State → Outcome → Type 0
@@ -91,7 +91,7 @@ TakenIsUnfinished s _ = Unit {0}
 taken_unfinished : (plan : Plan) (s s' : State) (o : Outcome) {e : Event} → StateInvariant plan s → Happens plan s e s' o → TakenIsUnfinished s' o
 taken_unfinished plan s s' o kept (works a body i u at) = tt
 taken_unfinished plan s s' o kept (starts a body i k at room) = tt
-taken_unfinished plan s s' o kept (queues a body i k at core room) = tt
+taken_unfinished plan s s' o kept (queues a body i k at room) = tt
 taken_unfinished plan s s' o kept (is_refused a body i k at must no_room all) = tt
 taken_unfinished plan s s' o kept (is_rejected a body i k at may) = tt
 taken_unfinished plan s s' o kept (gets a body i t j at is_child done) = tt
@@ -102,7 +102,7 @@ taken_unfinished plan s s' o kept (takes q j queue idle is_queue is_idle) =
     let exists : q < length plan.pools = omega (arith, kept.as_many) in
     let first = first_where (is_queued_in plan q) s.jobs j queue (sym (kept.pools q exists).queue ∙ is_queue) in
     ap (λ (job : CreatedJob). is_unfinished job.stage) (get_or-set_same s.jobs j (record (job_at s j) { stage = Stage.At 0 }) no_job first.inside)
-taken_unfinished plan s s' o kept (retires p idle is_idle above not_handed) = tt
+taken_unfinished plan s s' o kept (retires p idle is_idle not_handed) = tt
 
 taken_shown_of : (plan : Plan) (s : State) (o : Outcome) → TakenIsUnfinished s o → seen.taken_seen (live_view plan s) o ≡ taken_class s o
 taken_shown_of plan s (outcome.Started j) live = refl

@@ -7,7 +7,7 @@ use Rattle.std.proofs.lemmas.List.Sums.{sum_by_push}
 use Rattle.std.proofs.lemmas.Slice.Zip.{get_or-zip, length-zip}
 use Rattle.job_bodies.specs.Plan.{Pool, Plan, no_pool}
 use Rattle.report.specs.Sizes as spec
-use Rattle.report.specs.Sizes.{changed, any_changed, pool_changes, pool_text, both_text, both_changes, both_pools, sizes_text}
+use Rattle.report.specs.Sizes.{changed, any_changed, has_useless_max, pool_changes, pool_text, both_text, both_changes, both_pools, sizes_text}
 
 -- the text after the lines of the first n pools, and the number of their sizes that change
 pub record IsTextOfFirst (declared fit : Plan) (old : List ℕ) (n : ℕ) (text : List ℕ) (changes : ℕ) : Type 0 where
@@ -24,9 +24,9 @@ at_most_one : (declared fit : ℕ) → changed declared fit ≤ 1
 at_most_one declared fit = one_at_most (declared == fit)
 
 pub at_most_three : (declared fit : Pool) → pool_changes declared fit ≤ 3
-at_most_three declared fit = by_key fit.unbounded
+at_most_three declared fit = by_key (has_useless_max fit)
   where
-    by_key : (unbounded : Bool) → cond unbounded (any_changed declared fit) (changed declared.core fit.core + changed declared.max fit.max + changed declared.queue fit.queue) ≤ 3
+    by_key : (useless : Bool) → cond useless (any_changed declared fit) (changed declared.core fit.core + changed declared.max fit.max + changed declared.queue fit.queue) ≤ 3
     by_key true = let one = one_at_most (declared.core == fit.core && declared.max == fit.max && declared.queue == fit.queue) in omega (arith, one)
     by_key false =
         let core = at_most_one declared.core fit.core in

@@ -10,13 +10,13 @@ use Rattle.report.specs.Story.{Turn, Line, is_continued, new_turn, longer_turn, 
 use Rattle.report.specs.StorySeen.{line_seen, shortened_seen}
 
 -- the step continues the turn
-pub turn_continued : (plan : Plan) (turn : Turn) (step : EventStep) (rest : List EventStep) → is_continued turn step ≡ true
+pub turn_continued : (plan : Plan) (turn : Turn) (step : EventStep) (rest : List EventStep) → is_continued plan turn step ≡ true
     → turns_from plan turn (step ∷ rest) ≡ turns_from plan (longer_turn plan turn step) rest
 turn_continued plan turn step rest e =
     ap (λ (b : Bool). if b then turns_from plan (longer_turn plan turn step) rest else turn ∷ turns_from plan (new_turn plan turn.end step) rest) e
 
 -- the step begins another turn
-pub turn_ended : (plan : Plan) (turn : Turn) (step : EventStep) (rest : List EventStep) → is_continued turn step ≡ false
+pub turn_ended : (plan : Plan) (turn : Turn) (step : EventStep) (rest : List EventStep) → is_continued plan turn step ≡ false
     → turns_from plan turn (step ∷ rest) ≡ turn ∷ turns_from plan (new_turn plan turn.end step) rest
 turn_ended plan turn step rest e =
     ap (λ (b : Bool). if b then turns_from plan (longer_turn plan turn step) rest else turn ∷ turns_from plan (new_turn plan turn.end step) rest) e

@@ -4,7 +4,7 @@ use Rattle.std.specs.Prelude.{◌==◌}
 use Rattle.std.proofs.lemmas.Bool.{eqb-true, and_parts}
 use Rattle.std.proofs.lemmas.List.Sums.{sum_by-cons}
 use Rattle.job_bodies.specs.Plan.{Pool, Class, Client, Plan}
-use Rattle.report.specs.Sizes.{changed, any_changed, pool_changes, both_changes, UnchangedSizesAreTheDeclaredPlan}
+use Rattle.report.specs.Sizes.{changed, any_changed, has_useless_max, pool_changes, both_changes, UnchangedSizesAreTheDeclaredPlan}
 
 -- a size that does not change is the declared one
 same_size : (declared fit : ℕ) → changed declared fit ≡ 0 → fit ≡ declared
@@ -24,8 +24,8 @@ abbrev AreSame : Pool → Pool → Type 0
 AreSame declared fit = (fit.core ≡ declared.core) × (fit.max ≡ declared.max) × (fit.queue ≡ declared.queue)
 
 -- if the number of changes is 0, the sizes are the declared ones, whether all changes count as one or each counts
-same_sizes : (unbounded : Bool) (declared fit : Pool)
-    → ◌≡◌ {A = ℕ} (cond unbounded (any_changed declared fit) (changed declared.core fit.core + changed declared.max fit.max + changed declared.queue fit.queue)) 0
+same_sizes : (useless : Bool) (declared fit : Pool)
+    → ◌≡◌ {A = ℕ} (cond useless (any_changed declared fit) (changed declared.core fit.core + changed declared.max fit.max + changed declared.queue fit.queue)) 0
     → AreSame declared fit
 same_sizes true declared fit none =
     let all = holds (declared.core == fit.core && declared.max == fit.max && declared.queue == fit.queue) none in
@@ -42,20 +42,23 @@ bare pool = record pool { core = 0; max = 0; queue = 0 }
 -- a pool with no changed size is the declared one
 same_pool : (declared fit : Pool) → bare fit ≡ bare declared → pool_changes declared fit ≡ 0 → fit ≡ declared
 same_pool declared fit same none =
-    let sizes : AreSame declared fit = same_sizes fit.unbounded declared fit none in
+    let sizes : AreSame declared fit = same_sizes (has_useless_max fit) declared fit none in
     let name : fit.name ≡ declared.name = ap (λ (pool : Pool). pool.name) same in
     let prestart : fit.prestart ≡ declared.prestart = ap (λ (pool : Pool). pool.prestart) same in
     let may_reject : fit.may_reject ≡ declared.may_reject = ap (λ (pool : Pool). pool.may_reject) same in
     let unbounded : fit.unbounded ≡ declared.unbounded = ap (λ (pool : Pool). pool.unbounded) same in
+    let core_timeout : fit.core_timeout ≡ declared.core_timeout = ap (λ (pool : Pool). pool.core_timeout) same in
     by_fields declared.name fit.name declared.core fit.core declared.max fit.max declared.queue fit.queue declared.prestart fit.prestart declared.may_reject fit.may_reject
-    declared.unbounded fit.unbounded name sizes.0 sizes.1 sizes.2 prestart may_reject unbounded
+    declared.unbounded fit.unbounded declared.core_timeout fit.core_timeout name sizes.0 sizes.1 sizes.2 prestart may_reject unbounded core_timeout
   where
-    pool_of : List ℕ → ℕ → ℕ → ℕ → Bool → Bool → Bool → Pool
-    pool_of name core max queue prestart may_reject unbounded =
-        record { name = name; core = core; max = max; queue = queue; prestart = prestart; may_reject = may_reject; unbounded = unbounded }
+    pool_of : List ℕ → ℕ → ℕ → ℕ → Bool → Bool → Bool → Bool → Pool
+    pool_of name core max queue prestart may_reject unbounded core_timeout =
+        record { name = name; core = core; max = max; queue = queue; prestart = prestart; may_reject = may_reject; unbounded = unbounded; core_timeout = core_timeout }
 
-    by_fields : (n n' : List ℕ) (c c' m m' q q' : ℕ) (p p' r r' u u' : Bool) → n' ≡ n → c' ≡ c → m' ≡ m → q' ≡ q → p' ≡ p → r' ≡ r → u' ≡ u → pool_of n' c' m' q' p' r' u' ≡ pool_of n c m q p r u
-    by_fields n n' c c' m m' q q' p p' r r' u u' name core max queue prestart may_reject unbounded = rw (name, core, max, queue, prestart, may_reject, unbounded) refl
+    by_fields : (n n' : List ℕ) (c c' m m' q q' : ℕ) (p p' r r' u u' t t' : Bool) → n' ≡ n → c' ≡ c → m' ≡ m → q' ≡ q → p' ≡ p → r' ≡ r → u' ≡ u → t' ≡ t
+        → pool_of n' c' m' q' p' r' u' t' ≡ pool_of n c m q p r u t
+    by_fields n n' c c' m m' q q' p p' r r' u u' t t' name core max queue prestart may_reject unbounded core_timeout =
+        rw (name, core, max, queue, prestart, may_reject, unbounded, core_timeout) refl
 
 same_pools : (declared fit : List Pool) → map bare fit ≡ map bare declared → sum_by both_changes (zip declared fit) ≡ 0 → fit ≡ declared
 same_pools [] [] same none = refl

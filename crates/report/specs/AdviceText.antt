@@ -1,7 +1,7 @@
 -- The advice for the sizes that were found, or for the cause why there are none.
 use Rattle.std.specs.Prelude.{ℕ, ◌-◌, ◌==◌, ◌||◌, if◌then◌else◌, List, [], ◌∷◌, ◌++◌, flat_map, codes, decimal}
 use Rattle.job_bodies.specs.Plan.{Pool, Plan}
-use Rattle.size_search.specs.declared.cause.Cause.TheVariants.{Circle, ClientNeverGets, ClassNeverGets}
+use Rattle.size_search.specs.declared.cause.Cause.TheVariants.{Circle, ClientNeverGets, ClassNeverGets, PoolWaitsForItself}
 use Rattle.size_search.specs.declared.found.NoSizes.{NoSizes}
 use Rattle.size_search.specs.declared.found.NoSizes.TheVariants.{Cause, TooLarge}
 use Rattle.size_search.specs.declared.found.SizesFound.{SizesFound}
@@ -33,11 +33,18 @@ reasons_text declared fit = flat_map pool_reasons (both_pools declared fit)
 abbrev pub not_got_text : List ℕ
 not_got_text = codes "no certificate accepts any sizes while nobody waits for these jobs: get the result, or bound them by permits (docs/PERMITS.md)" ++ 10 ∷ []
 
+-- the advice for a pool whose core threads may time out, if the last of its threads can wait for a job of this pool
+abbrev pub core_timeout_text : List ℕ
+core_timeout_text =
+    codes "no certificate accepts any sizes while core threads of this pool may time out: do not allow it (Spring Boot: spring.task.execution.pool.allow-core-thread-timeout=false), or give the inner jobs a pool of their own"
+    ++ 10 ∷ []
+
 -- the advice if sizes alone do not help
 abbrev pub cause_advice_text : NoSizes → List ℕ
 cause_advice_text (Cause (Circle k)) = codes "no certificate accepts any sizes while jobs submit jobs of their own class: write the levels as classes of their own" ++ 10 ∷ []
 cause_advice_text (Cause (ClientNeverGets c i)) = not_got_text
 cause_advice_text (Cause (ClassNeverGets k i)) = not_got_text
+cause_advice_text (Cause (PoolWaitsForItself p)) = core_timeout_text
 cause_advice_text (TooLarge p) = codes "fewer clients, or bodies with fewer open jobs at a time, need less" ++ 10 ∷ []
 
 abbrev pub advice_text : Plan → SizesFound → List ℕ

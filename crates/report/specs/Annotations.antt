@@ -11,6 +11,7 @@ abbrev pub lint_name : Lint → List ℕ
 lint_name lint.SafeAtCore = codes "safe-at-core"
 lint_name (lint.SubmitsItself k) = codes "submits-itself"
 lint_name (lint.NeverGot part number action) = codes "never-got"
+lint_name (lint.PoolWaitsForItself p) = codes "pool-waits-for-itself"
 lint_name lint.NothingToAsk = codes "nothing-to-ask"
 lint_name lint.NoClients = codes "no-clients"
 lint_name lint.NothingSubmitted = codes "nothing-submitted"

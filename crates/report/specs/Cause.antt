@@ -3,7 +3,7 @@ use Rattle.std.specs.Prelude.{List, ℕ, [], ◌∷◌, ◌++◌, codes, decimal
 use Rattle.job_bodies.specs.declared.limits.TheConstants.{MAX_SIZE}
 use Rattle.job_bodies.specs.Plan.{Plan, pool_at, class_at, client_at}
 use Rattle.size_search.specs.declared.found.NoSizes.{NoSizes}
-use Rattle.size_search.specs.declared.cause.Cause.TheVariants.{Circle, ClientNeverGets, ClassNeverGets}
+use Rattle.size_search.specs.declared.cause.Cause.TheVariants.{Circle, ClientNeverGets, ClassNeverGets, PoolWaitsForItself}
 use Rattle.size_search.specs.declared.found.NoSizes.TheVariants.{Cause, TooLarge}
 
 -- the words for a class whose jobs submit jobs of the same class, directly or through other jobs
@@ -18,11 +18,16 @@ never_got_words kind name action = kind ++ (codes " " ++ (name ++ (codes " actio
 abbrev pub above_words : List ℕ → List ℕ
 above_words name = codes "pool " ++ name ++ codes ": sizes above " ++ decimal MAX_SIZE
 
+-- the words for a pool whose core threads may time out, if the last of its threads can wait for a job of this pool
+abbrev pub last_thread_words : List ℕ → List ℕ
+last_thread_words name = codes "pool " ++ name ++ codes ": its last thread may wait for a job of this pool, since core threads may time out"
+
 -- the words for the cause
 abbrev pub cause_words : Plan → NoSizes → List ℕ
 cause_words plan (Cause (Circle k)) = circle_words (class_at plan k).name
 cause_words plan (Cause (ClientNeverGets c i)) = never_got_words (codes "client") (client_at plan c).name i
 cause_words plan (Cause (ClassNeverGets k i)) = never_got_words (codes "class") (class_at plan k).name i
+cause_words plan (Cause (PoolWaitsForItself p)) = last_thread_words (pool_at plan p).name
 cause_words plan (TooLarge p) = above_words (pool_at plan p).name
 
 -- the line of the cause

@@ -1,7 +1,8 @@
 -- The description of a witness.
-use Rattle.std.specs.Prelude.{◌≡◌, ◌↔◌, ◌==◌, ℕ, if◌then◌else◌, List, [], ◌∷◌, ◌++◌, length, flat_map, codes, decimal, Contains}
+use Rattle.std.specs.Prelude.{◌≡◌, ◌↔◌, ◌==◌, ℕ, Bool, if◌then◌else◌, List, [], ◌∷◌, ◌++◌, length, flat_map, codes, decimal, Contains}
+use Rattle.std.specs.List.{list_any}
 use Rattle.std.specs.List.Sorted.{IsStrictlyIncreasing}
-use Rattle.job_bodies.specs.Plan.{Plan, pool_at}
+use Rattle.job_bodies.specs.Plan.{Pool, Plan, pool_at}
 use Rattle.written_machine.specs.declared.event.Event.{Event}
 use Rattle.written_machine.specs.declared.event.Event.TheVariants.{Client, Job, Take, Retire}
 use Rattle.counterexample.specs.declared.ending.Ending.{Ending}
@@ -46,15 +47,36 @@ of_clients count = if count == 1 then codes " of 1 client" else codes " of " ++ 
 abbrev pub head : Plan → Witness → ℕ → List ℕ
 head plan witness clients = (ending_text plan witness.ending ++ codes ", after " ++ decimal (length witness.events.items) ++ codes " events") ++ (of_clients clients ++ 10 ∷ [])
 
+-- core threads of some pool may time out
+abbrev pub has_timeouts : Plan → Bool
+has_timeouts plan = list_any (λ (pool : Pool). pool.core_timeout) plan.pools
+
+-- why a pool starts no thread although it has fewer than its maximum. If core threads may time out, the pool can also start a thread below
+-- core, and one above core in place of one that timed out
+unfoldable pub at_core_words : Bool → List ℕ
+at_core_words timeouts = if timeouts then codes "at least core threads and a queue that is never full" else codes "never starts one above core"
+
+-- the last line about pools that start no thread although they may have fewer than their maximum
+abbrev pub at_core_line : Bool → List ℕ
+at_core_line timeouts = codes "forever: each pool in whose queue one of them waits has all its threads, or " ++ (at_core_words timeouts ++ 10 ∷ [])
+
+-- the thread that may end a wait. If core threads may time out, it can be below core
+abbrev pub started_words : Bool → List ℕ
+started_words timeouts = if timeouts then codes "another thread" else codes "a thread above core"
+
+-- the last line about a wait that a thread may end
+abbrev pub until_line : Bool → List ℕ
+until_line timeouts = codes "until a pool in whose queue one of them waits starts " ++ (started_words timeouts ++ 10 ∷ [])
+
 -- the last line: the reason why jobs wait permanently, or what may end the wait; a refused submit has no such line
-abbrev pub why_text : Ending → List ℕ
-why_text (Refused p) = []
-why_text (StuckForever members PoolsAreFull) = codes "forever: each pool in whose queue one of them waits has all its threads" ++ 10 ∷ []
-why_text (StuckForever members PoolsStayAtCore) = codes "forever: each pool in whose queue one of them waits has all its threads, or never starts one above core" ++ 10 ∷ []
-why_text (StuckNow members) = codes "until a pool in whose queue one of them waits starts a thread above core" ++ 10 ∷ []
+abbrev pub why_text : Plan → Ending → List ℕ
+why_text plan (Refused p) = []
+why_text plan (StuckForever members PoolsAreFull) = codes "forever: each pool in whose queue one of them waits has all its threads" ++ 10 ∷ []
+why_text plan (StuckForever members PoolsStayAtCore) = at_core_line (has_timeouts plan)
+why_text plan (StuckNow members) = until_line (has_timeouts plan)
 
 -- the text is the first line, the story, and the last line
 pub record IsDescription (plan : Plan) (witness : Witness) (text : List ℕ) : Type 0 where
   pub clients : ℕ
   pub clients_are : IsActiveClientCount witness.events.items clients
-  pub is : text ≡ (head plan witness clients ++ story_text plan witness.events.items (stuck_members witness.ending)) ++ why_text witness.ending
+  pub is : text ≡ (head plan witness clients ++ story_text plan witness.events.items (stuck_members witness.ending)) ++ why_text plan witness.ending

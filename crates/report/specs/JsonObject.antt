@@ -1,8 +1,8 @@
 -- A JSON object that is being built.
-use Rattle.std.specs.Prelude.{◌≡◌, ℕ, List, Option, option_map, IfSome, IsSomeAnd, Result, IsOkAnd}
+use Rattle.std.specs.Prelude.{◌≡◌, ℕ, Bool, true, if◌then◌else◌, List, Option, option_map, IfSome, IsSomeAnd, Result, IsOkAnd}
 use Rattle.std.specs.Result.{result_ok}
 use Rattle.std.specs.declared.alloc.AllocError.{AllocError}
-use Rattle.serde_json.specs.Data.{Data, Members, put}
+use Rattle.serde_json.specs.Data.{Data, Members, boolean, put}
 use Rattle.serde_json.specs.View.{view, members_view}
 use Rattle.serde_json.specs.declared.value.Value.{Value}
 use Rattle.report.specs.declared.json_object.Object.{Object}
@@ -11,9 +11,17 @@ use Rattle.report.specs.declared.json_object.Object.{Object}
 unfoldable pub members_of : Object → Option Members
 members_of o = option_map (λ map. members_view map.entries) (result_ok o.members)
 
+-- the members, and the member `key` with the value `true` if the flag is true
+abbrev pub with_flag : List ℕ → Bool → Members → Members
+with_flag key flag members = if flag then put key (boolean true) members else members
+
 -- the object, unless memory ran out, with this member in addition
 abbrev pub HasAlso : Object → List ℕ → Data → Object → Type 0
 HasAlso before key d after = IfSome (members_of after) (λ ms. IsSomeAnd (members_of before) (λ old. ms ≡ put key d old))
+
+-- the same with the value `true` if the flag is true; unchanged otherwise
+abbrev pub HasFlag : Object → List ℕ → Bool → Object → Type 0
+HasFlag before key flag after = IfSome (members_of after) (λ ms. IsSomeAnd (members_of before) (λ old. ms ≡ with_flag key flag old))
 
 -- the same of a value for which memory may have run out
 abbrev pub HasPart : Object → List ℕ → Result Value AllocError → Object → Type 0

@@ -5,7 +5,7 @@ use Rattle.plan_text.specs.declared.place.TextPlace.{TextPlace}
 use Rattle.diagnostics.specs.declared.entry_places.BodyPlaces.{BodyPlaces}
 use Rattle.diagnostics.specs.declared.entry_places.PoolPlaces.{PoolPlaces}
 use Rattle.diagnostics.specs.declared.entry_places.PlanPlaces.{PlanPlaces}
-use Rattle.size_search.specs.declared.cause.Cause.TheVariants.{Circle, ClientNeverGets, ClassNeverGets}
+use Rattle.size_search.specs.declared.cause.Cause.TheVariants.{Circle, ClientNeverGets, ClassNeverGets, PoolWaitsForItself}
 use Rattle.size_search.specs.declared.found.NoSizes.{NoSizes}
 use Rattle.size_search.specs.declared.found.NoSizes.TheVariants.{Cause, TooLarge}
 
@@ -21,7 +21,7 @@ column_data (Some place) = number (unsigned place.column)
 
 -- the places of a pool of which none is known
 abbrev pub no_pool_places : PoolPlaces
-no_pool_places = record { name = None; core = None; max = None; queue = None }
+no_pool_places = record { name = None; core = None; max = None; queue = None; core_timeout = None }
 
 -- the places of pool p
 abbrev pub pool_places_at : List PoolPlaces → ℕ → PoolPlaces
@@ -39,9 +39,11 @@ listed_place actions action = slice_index_or actions action None
 abbrev pub action_place : List BodyPlaces → ℕ → ℕ → Option TextPlace
 action_place bodies index action = option_and_then (λ body. listed_place body.actions.items action) (slice_get bodies index)
 
--- the place of the class, the action or the pool that the cause names
+-- the place of the class, the action or the pool that the cause names; of a pool whose core threads may time out, that of the key
+-- `core_timeout`
 abbrev pub cause_place : PlanPlaces → NoSizes → Option TextPlace
 cause_place places (Cause (Circle k)) = name_place places.classes.items k
 cause_place places (Cause (ClientNeverGets c i)) = action_place places.clients.items c i
 cause_place places (Cause (ClassNeverGets k i)) = action_place places.classes.items k i
+cause_place places (Cause (PoolWaitsForItself p)) = (pool_places_at places.pools.items p).core_timeout
 cause_place places (TooLarge p) = (pool_places_at places.pools.items p).name

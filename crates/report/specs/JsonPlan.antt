@@ -1,16 +1,18 @@
 -- A plan as JSON: its text, and its pools, classes and client kinds with their places.
-use Rattle.std.specs.Prelude.{ℕ, true, if◌then◌else◌, List, [], map, codes, Option}
+use Rattle.std.specs.Prelude.{ℕ, Bool, true, if◌then◌else◌, List, [], map, codes, Option}
 use Rattle.std.specs.List.{enumerate_from}
 use Rattle.std.specs.Str.{is_utf8}
-use Rattle.serde_json.specs.Data.{Data, null, boolean, number, unsigned, string, array, object, member, no_members}
+use Rattle.serde_json.specs.Data.{Data, Members, null, boolean, number, unsigned, string, array, object, member, no_members}
 use Rattle.serde_json.specs.View.{items_of}
 use Rattle.job_bodies.specs.declared.action.Action.{Action}
 use Rattle.job_bodies.specs.declared.action.Action.TheVariants.{Work, Submit, Get}
 use Rattle.job_bodies.specs.Plan.{Pool, Class, Client, Plan, pool_at, class_at, has_get_of}
+use Rattle.job_bodies.specs.WellFormed.{has_no_max}
 use Rattle.plan_text.specs.declared.place.TextPlace.{TextPlace}
 use Rattle.diagnostics.specs.declared.entry_places.BodyPlaces.{BodyPlaces}
 use Rattle.diagnostics.specs.declared.entry_places.PoolPlaces.{PoolPlaces}
 use Rattle.diagnostics.specs.declared.entry_places.PlanPlaces.{PlanPlaces}
+use Rattle.report.specs.JsonObject.{with_flag}
 use Rattle.report.specs.JsonPlaces.{line_data, column_data, pool_places_at, name_place, action_place}
 
 -- ---- actions
@@ -57,31 +59,32 @@ body_data plan bodies index body = array (items_of (map (action_entry plan bodie
 
 -- ---- pools, classes and client kinds
 
--- the capacity of the pool's queue, or the string `unbounded`
+-- a size, or the string `unbounded`
+abbrev pub limit_data : Bool → ℕ → Data
+limit_data unbounded size = if unbounded then string (codes "unbounded") else number (unsigned size)
+
+-- the maximum of the pool; `unbounded` if it has none
+abbrev pub max_data : Pool → Data
+max_data pool = limit_data (has_no_max pool) pool.max
+
+-- the capacity of the pool's queue; `unbounded` if it has none
 abbrev pub queue_data : Pool → Data
-queue_data pool = if pool.unbounded then string (codes "unbounded") else number (unsigned pool.queue)
+queue_data pool = limit_data pool.unbounded pool.queue
 
-unfoldable pub pool_data : Option TextPlace → Pool → Data
-pool_data place pool =
-    object (member (codes "column") (column_data place)
+-- the members of a pool, without the flags that only some pools have
+unfoldable pub pool_members : Option TextPlace → Pool → Members
+pool_members place pool =
+    member (codes "column") (column_data place)
     (member (codes "core") (number (unsigned pool.core))
     (member (codes "line") (line_data place)
-    (member (codes "max") (number (unsigned pool.max))
+    (member (codes "max") (max_data pool)
     (member (codes "name") (string pool.name)
     (member (codes "prestart") (boolean pool.prestart)
-    (member (codes "queue") (queue_data pool) no_members)))))))
+    (member (codes "queue") (queue_data pool) no_members))))))
 
--- a pool that may reject jobs
-unfoldable pub rejecting_data : Option TextPlace → Pool → Data
-rejecting_data place pool =
-    object (member (codes "column") (column_data place)
-    (member (codes "core") (number (unsigned pool.core))
-    (member (codes "line") (line_data place)
-    (member (codes "max") (number (unsigned pool.max))
-    (member (codes "may_reject") (boolean true)
-    (member (codes "name") (string pool.name)
-    (member (codes "prestart") (boolean pool.prestart)
-    (member (codes "queue") (queue_data pool) no_members))))))))
+-- a pool; `core_timeout` and `may_reject` are members only if they are true
+abbrev pub pool_data : Option TextPlace → Pool → Data
+pool_data place pool = object (with_flag (codes "may_reject") pool.may_reject (with_flag (codes "core_timeout") pool.core_timeout (pool_members place pool)))
 
 unfoldable pub class_data : Option TextPlace → List ℕ → List ℕ → Data → Data
 class_data place name pool body =
@@ -100,11 +103,8 @@ client_data place client body =
     (member (codes "name") (string client.name)
     (member (codes "repeat") (boolean client.repeat) no_members))))))
 
-abbrev pub placed_pool : Option TextPlace → Pool → Data
-placed_pool place pool = if pool.may_reject then rejecting_data place pool else pool_data place pool
-
 abbrev pub pool_entry : List PoolPlaces → ℕ × Pool → Data
-pool_entry places (p, pool) = placed_pool (pool_places_at places p).name pool
+pool_entry places (p, pool) = pool_data (pool_places_at places p).name pool
 
 abbrev pub class_entry : Plan → List BodyPlaces → ℕ × Class → Data
 class_entry plan places (k, class) = class_data (name_place places k) class.name (pool_at plan class.pool).name (body_data plan places k class.body)

@@ -1,15 +1,16 @@
 -- The pools of an answer as JSON: their sizes, and the bounds and the shares that a certificate gives.
 use Rattle.std.specs.Prelude.{ℕ, ◌-◌, ◌==◌, true, if◌then◌else◌, List, [], ◌∷◌, map, flat_map, codes, Option, Some, None, slice_get}
 use Rattle.std.specs.List.{enumerate_from}
-use Rattle.serde_json.specs.Data.{Data, null, boolean, number, unsigned, string, array, object, member, no_members}
+use Rattle.serde_json.specs.Data.{Data, Members, null, boolean, number, unsigned, string, array, object, member, no_members, put}
 use Rattle.serde_json.specs.View.{items_of}
-use Rattle.job_bodies.specs.Plan.{Pool, Plan, client_at, pool_at}
+use Rattle.job_bodies.specs.Plan.{Pool, Plan, client_at, pool_at, least_threads}
 use Rattle.weights.specs.Vector.{Vector, vector_fits, total}
 use Rattle.weights.specs.Bound.{bound_vector}
 use Rattle.weights.specs.declared.bound.Bound.{Bound}
 use Rattle.weights.specs.declared.bound.Bound.TheVariants.{Standing, Lifetime}
 use Rattle.cert_text.specs.Cert.{PoolCert}
-use Rattle.report.specs.JsonPlan.{queue_data}
+use Rattle.report.specs.JsonObject.{with_flag}
+use Rattle.report.specs.JsonPlan.{max_data, queue_data}
 use Rattle.report.specs.Places.{bounds_jobs, total_of}
 use Rattle.report.specs.SafeText.{waited_names, rejection_at}
 use Rattle.report.specs.Shares.{client_shares, worker_shares}
@@ -68,11 +69,11 @@ bound_data plan p (Some bound) = if bounds_jobs plan p bound then fitting_data p
 unfoldable pub waiting_data : ℕ → ℕ → Data
 waiting_data left most = object (member (codes "left") (number (unsigned left)) (member (codes "most") (number (unsigned most)) no_members))
 
--- the maximum number of core threads that wait at counted gets at once, and the number of other core threads; null if the maximum is not
--- known
+-- the maximum number of core threads that wait at counted gets at once, and how many other threads the pool has at least while a job is
+-- queued: the other core threads or, if core threads may time out, none besides the last thread; null if the maximum is not known
 abbrev pub blocked_of : Pool → Option ℕ → Data
 blocked_of pool None = null
-blocked_of pool (Some most) = waiting_data (pool.core - most) most
+blocked_of pool (Some most) = waiting_data (least_threads pool - most) most
 
 abbrev pub blocked_data : Plan → Pool → Vector → Data
 blocked_data plan pool v = blocked_of pool (total_of plan v)
@@ -83,30 +84,25 @@ waits_data plan p = array (items_of (map string (waited_names plan p)))
 
 -- ---- pools
 
-unfoldable pub pool_object : Data → Data → Pool → Data → Data
-pool_object blocked bound pool waits_for =
-    object (member (codes "blocked") blocked
+unfoldable pub sized_members : Data → Data → Pool → Data → Members
+sized_members blocked bound pool waits_for =
+    member (codes "blocked") blocked
     (member (codes "bound") bound
     (member (codes "core") (number (unsigned pool.core))
-    (member (codes "max") (number (unsigned pool.max))
+    (member (codes "max") (max_data pool)
     (member (codes "name") (string pool.name)
     (member (codes "prestart") (boolean pool.prestart)
     (member (codes "queue") (queue_data pool)
-    (member (codes "waits_for") waits_for no_members))))))))
+    (member (codes "waits_for") waits_for no_members)))))))
+
+-- the members of a pool; it has `core_timeout` only if that is true
+abbrev pub pool_members : Data → Data → Pool → Data → Members
+pool_members blocked bound pool waits_for = with_flag (codes "core_timeout") pool.core_timeout (sized_members blocked bound pool waits_for)
 
 -- the JSON object of a pool that may reject jobs by the plan
-unfoldable pub rejecting_object : Data → Data → Pool → Data → Data → Data
+abbrev pub rejecting_object : Data → Data → Pool → Data → Data → Data
 rejecting_object blocked bound pool rejects_after waits_for =
-    object (member (codes "blocked") blocked
-    (member (codes "bound") bound
-    (member (codes "core") (number (unsigned pool.core))
-    (member (codes "max") (number (unsigned pool.max))
-    (member (codes "may_reject") (boolean true)
-    (member (codes "name") (string pool.name)
-    (member (codes "prestart") (boolean pool.prestart)
-    (member (codes "queue") (queue_data pool)
-    (member (codes "rejects_after") rejects_after
-    (member (codes "waits_for") waits_for no_members))))))))))
+    object (put (codes "rejects_after") rejects_after (put (codes "may_reject") (boolean true) (pool_members blocked bound pool waits_for)))
 
 -- the number of events after which a pool rejects a job; null if it is not known
 abbrev pub rejects_data : Option ℕ → Data
@@ -116,7 +112,7 @@ rejects_data (Some events) = number (unsigned events)
 -- the JSON object of pool p. It has the number of events after which p rejects a job only if p may reject jobs
 abbrev pub sized_pool : Plan → ℕ → Pool → Option ℕ → Data → Data → Data
 sized_pool plan p pool rejection blocked bound =
-    if pool.may_reject then rejecting_object blocked bound pool (rejects_data rejection) (waits_data plan p) else pool_object blocked bound pool (waits_data plan p)
+    if pool.may_reject then rejecting_object blocked bound pool (rejects_data rejection) (waits_data plan p) else object (pool_members blocked bound pool (waits_data plan p))
 
 -- pool p, with the certificate's part for it if there is one
 abbrev pub pool_data : Plan → ℕ → Pool → Option ℕ → Option PoolCert → Data

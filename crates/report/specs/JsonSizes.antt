@@ -1,11 +1,11 @@
 -- The sizes that were found as JSON, or why there are none.
-use Rattle.std.specs.Prelude.{ℕ, ◌==◌, if◌then◌else◌, List, [], ◌∷◌, ◌++◌, map, codes, Option, Some, None, slice_get}
+use Rattle.std.specs.Prelude.{ℕ, ◌==◌, ◌||◌, if◌then◌else◌, List, [], ◌∷◌, ◌++◌, map, codes, Option, Some, None, slice_get}
 use Rattle.std.specs.List.{enumerate_from}
 use Rattle.serde_json.specs.Data.{Data, null, number, unsigned, string, array, object, member, no_members}
 use Rattle.serde_json.specs.View.{items_of}
 use Rattle.job_bodies.specs.Plan.{Pool, Plan, pool_at, class_at, client_at}
 use Rattle.plan_text.specs.declared.place.TextPlace.{TextPlace}
-use Rattle.size_search.specs.declared.cause.Cause.TheVariants.{Circle, ClientNeverGets, ClassNeverGets}
+use Rattle.size_search.specs.declared.cause.Cause.TheVariants.{Circle, ClientNeverGets, ClassNeverGets, PoolWaitsForItself}
 use Rattle.size_search.specs.declared.found.NoSizes.{NoSizes}
 use Rattle.size_search.specs.declared.found.NoSizes.TheVariants.{Cause, TooLarge}
 use Rattle.size_search.specs.declared.found.SizesFound.{SizesFound}
@@ -13,27 +13,35 @@ use Rattle.size_search.specs.declared.found.SizesFound.TheVariants.{Found, NotFo
 use Rattle.diagnostics.specs.declared.entry_places.PoolPlaces.{PoolPlaces}
 use Rattle.diagnostics.specs.declared.entry_places.PlanPlaces.{PlanPlaces}
 use Rattle.report.specs.Cause.{cause_words}
-use Rattle.report.specs.JsonPlan.{queue_data}
+use Rattle.report.specs.JsonPlan.{max_data, queue_data}
 use Rattle.report.specs.JsonPlaces.{line_data, column_data, pool_places_at, cause_place}
+use Rattle.report.specs.Sizes.{has_useless_max}
 
 -- ---- sizes
 
-unfoldable pub change_data : List ℕ → Option TextPlace → ℕ → ℕ → Data
+unfoldable pub change_data : List ℕ → Option TextPlace → Data → Data → Data
 change_data key place now value =
     object (member (codes "column") (column_data place)
     (member (codes "key") (string key)
     (member (codes "line") (line_data place)
-    (member (codes "now") (number (unsigned now))
-    (member (codes "value") (number (unsigned value)) no_members)))))
+    (member (codes "now") now
+    (member (codes "value") value no_members)))))
 
 -- the change of one size, or nothing if it keeps its value
 abbrev pub change_of : List ℕ → Option TextPlace → ℕ → ℕ → List Data
-change_of key place now value = if now == value then [] else change_data key place now value ∷ []
+change_of key place now value = if now == value then [] else change_data key place (number (unsigned now)) (number (unsigned value)) ∷ []
 
--- the changes of a pool's maximum and queue; none if its queue is unbounded, so that neither has an effect
+-- the change of a pool's maximum, or nothing if it keeps its value or has no effect
+abbrev pub max_change : Option TextPlace → Pool → Pool → List Data
+max_change place declared fit =
+    if has_useless_max fit || declared.max == fit.max then [] else change_data (codes "max") place (max_data declared) (max_data fit) ∷ []
+
+-- the change of a pool's queue, or nothing if it keeps its capacity or has none
+abbrev pub queue_change : Option TextPlace → Pool → Pool → List Data
+queue_change place declared fit = if fit.unbounded then [] else change_of (codes "queue") place declared.queue fit.queue
+
 abbrev pub limit_changes : PoolPlaces → Pool → Pool → List Data
-limit_changes places declared fit =
-    if fit.unbounded then [] else change_of (codes "max") places.max declared.max fit.max ++ change_of (codes "queue") places.queue declared.queue fit.queue
+limit_changes places declared fit = max_change places.max declared fit ++ queue_change places.queue declared fit
 
 -- the changes of a pool's sizes, in the order core, max, queue
 abbrev pub declared_changes : PoolPlaces → Pool → Pool → List Data
@@ -48,7 +56,7 @@ unfoldable pub size_data : List Data → Pool → Data
 size_data changes fit =
     object (member (codes "changes") (array (items_of changes))
     (member (codes "core") (number (unsigned fit.core))
-    (member (codes "max") (number (unsigned fit.max))
+    (member (codes "max") (max_data fit)
     (member (codes "name") (string fit.name)
     (member (codes "queue") (queue_data fit) no_members)))))
 
@@ -82,14 +90,14 @@ never_got_data place action class client words =
     (member (codes "pool") null
     (member (codes "text") (string words) no_members))))))))
 
--- a pool whose sizes are above the limit
-unfoldable pub limit_data : Option TextPlace → List ℕ → List ℕ → Data
-limit_data place pool words =
+-- a cause that names a pool
+unfoldable pub pool_cause_data : List ℕ → Option TextPlace → List ℕ → List ℕ → Data
+pool_cause_data kind place pool words =
     object (member (codes "action") null
     (member (codes "class") null
     (member (codes "client") null
     (member (codes "column") (column_data place)
-    (member (codes "kind") (string (codes "limit"))
+    (member (codes "kind") (string kind)
     (member (codes "line") (line_data place)
     (member (codes "pool") (string pool)
     (member (codes "text") (string words) no_members))))))))
@@ -99,7 +107,8 @@ abbrev pub cause_object : Plan → NoSizes → Option TextPlace → List ℕ →
 cause_object plan (Cause (Circle k)) place words = cycle_data place (class_at plan k).name words
 cause_object plan (Cause (ClientNeverGets c i)) place words = never_got_data place i null (string (client_at plan c).name) words
 cause_object plan (Cause (ClassNeverGets k i)) place words = never_got_data place i (string (class_at plan k).name) null words
-cause_object plan (TooLarge p) place words = limit_data place (pool_at plan p).name words
+cause_object plan (Cause (PoolWaitsForItself p)) place words = pool_cause_data (codes "core timeout") place (pool_at plan p).name words
+cause_object plan (TooLarge p) place words = pool_cause_data (codes "limit") place (pool_at plan p).name words
 
 abbrev pub cause_data : PlanPlaces → Plan → NoSizes → Data
 cause_data places plan cause = cause_object plan cause (cause_place places cause) (cause_words plan cause)

@@ -4,7 +4,7 @@ use Rattle.serde_json.specs.Data.{Data, string, array, object, member, no_member
 use Rattle.serde_json.specs.View.{items_of}
 use Rattle.plan_text.specs.declared.place.TextPlace.{TextPlace}
 use Rattle.diagnostics.specs.declared.lint.Lint.{Lint}
-use Rattle.diagnostics.specs.declared.lint.Lint.TheVariants.{SafeAtCore, SubmitsItself, NeverGot, NothingToAsk, NoClients, NothingSubmitted, PoolWithoutJobs, UselessMax, UselessMayReject, NeverRejects, QueueFarAbove, ClassWithoutJobs, RunInCaller, GoesOnce, Crowd, WorkLikeASize, OpenFuture, QueueMayGrow, StaleCertificate}
+use Rattle.diagnostics.specs.declared.lint.Lint.TheVariants.{SafeAtCore, SubmitsItself, NeverGot, PoolWaitsForItself, NothingToAsk, NoClients, NothingSubmitted, PoolWithoutJobs, UselessMax, UselessMayReject, NeverRejects, QueueFarAbove, ClassWithoutJobs, RunInCaller, GoesOnce, Crowd, WorkLikeASize, OpenFuture, QueueMayGrow, StaleCertificate}
 use Rattle.diagnostics.specs.declared.warnings.Warning.{Warning}
 use Rattle.report.specs.JsonPlaces.{line_data, column_data}
 
@@ -13,6 +13,7 @@ abbrev pub kind_of : Lint → List ℕ
 kind_of SafeAtCore = codes "safe at core"
 kind_of (SubmitsItself k) = codes "submits itself"
 kind_of (NeverGot of number action) = codes "never got"
+kind_of (PoolWaitsForItself p) = codes "pool waits for itself"
 kind_of NothingToAsk = codes "nothing to ask"
 kind_of NoClients = codes "no clients"
 kind_of NothingSubmitted = codes "nothing submitted"

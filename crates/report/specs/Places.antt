@@ -1,8 +1,9 @@
 -- The number of places that a pool needs in its queue, by a certificate.
 use Rattle.std.specs.Prelude.{ℕ, Bool, not, ◌&&◌, ◌||◌, ◌==◌, nat_le, List, slice_index, map, if◌then◌else◌, Option, Some, None}
 use Rattle.std.specs.List.{list_all, enumerate_from}
-use Rattle.job_bodies.specs.Plan.{Class, Plan, pool_at}
-use Rattle.weights.specs.Vector.{Vector, vector_fits, class_weights, total}
+use Rattle.job_bodies.specs.Plan.{Pool, Class, Plan, pool_at}
+use Rattle.job_bodies.specs.WellFormed.{has_no_max}
+use Rattle.weights.specs.Vector.{Vector, vector_fits, workers_weight, class_weights, total}
 use Rattle.weights.specs.Bound.{bound_vector}
 use Rattle.weights.specs.declared.bound.Bound.{Bound}
 use Rattle.weights.specs.declared.bound.Bound.TheVariants.{Standing, Lifetime}
@@ -27,9 +28,19 @@ counts_class (Lifetime v) k = list_all (nat_le 1) (class_weights v k)
 abbrev pub counts_if_of : ℕ → Bound → ℕ × Class → Bool
 counts_if_of p bound entry = not (entry.1.pool == p) || counts_class bound entry.0
 
--- the vector of the bound fits the plan, and `counts_class` holds for each class of pool p
+-- the pool has a maximum, or the vector gives its threads no weight
+abbrev pub has_finite_share : Vector → ℕ × Pool → Bool
+has_finite_share v (p, pool) = not (has_no_max pool) || workers_weight v p == 0
+
+-- the total of the vector has no share of the threads of a pool without a maximum
+abbrev pub has_finite_total : Plan → Vector → Bool
+has_finite_total plan v = list_all (has_finite_share v) (enumerate_from 0 plan.pools)
+
+-- the vector of the bound fits the plan, its total has no share of the threads of a pool without a maximum, and `counts_class` holds for
+-- each class of pool p
 abbrev pub counts_jobs : Plan → ℕ → Bound → Bool
-counts_jobs plan p bound = vector_fits plan (bound_vector bound) && list_all (counts_if_of p bound) (enumerate_from 0 plan.classes)
+counts_jobs plan p bound =
+    vector_fits plan (bound_vector bound) && has_finite_total plan (bound_vector bound) && list_all (counts_if_of p bound) (enumerate_from 0 plan.classes)
 
 -- the total of this bound limits the number of jobs of pool p. If the queue of p is bounded, the conditions on the bound demand this. If it
 -- is unbounded, they do not, so `counts_jobs` must hold

@@ -1,5 +1,5 @@
 -- The remarks of an answer.
-use Rattle.std.specs.Prelude.{◌≡◌, ℕ, ◌==◌, if◌then◌else◌, List, [], ◌∷◌, ◌++◌, map, codes, decimal, slice_get, slice_index_or, Option, Some, None, string_bytes}
+use Rattle.std.specs.Prelude.{◌≡◌, ℕ, ◌==◌, ◌||◌, if◌then◌else◌, List, [], ◌∷◌, ◌++◌, map, codes, decimal, slice_get, slice_index_or, Option, Some, None, string_bytes}
 use Rattle.std.specs.List.{flat_map, enumerate_from}
 use Rattle.std.specs.Str.Lines.{lines}
 use Rattle.job_bodies.specs.Plan.{Pool, Plan}
@@ -26,6 +26,7 @@ use Rattle.report.specs.Annotations.{Remark}
 use Rattle.report.specs.Cause.{cause_words}
 use Rattle.report.specs.JsonPlaces.{pool_places_at, cause_place}
 use Rattle.report.specs.SafeText.{safe_words}
+use Rattle.report.specs.Sizes.{has_useless_max, max_size}
 
 -- one remark, as a list
 abbrev pub one : Rule → List ℕ → Option TextPlace → List Remark
@@ -66,18 +67,27 @@ warning_remarks = map warning_remark
 -- ---- sizes to change, or the cause why there are none
 
 -- the words for a size that changes, as `pool web: queue 10 -> 13`
-abbrev pub change_words : List ℕ → List ℕ → ℕ → ℕ → List ℕ
-change_words pool key declared fit = codes "pool " ++ (pool ++ (codes ": " ++ (key ++ (codes " " ++ (decimal declared ++ (codes " -> " ++ decimal fit))))))
+abbrev pub change_words : List ℕ → List ℕ → List ℕ → List ℕ → List ℕ
+change_words pool key declared fit = codes "pool " ++ (pool ++ (codes ": " ++ (key ++ (codes " " ++ (declared ++ (codes " -> " ++ fit))))))
 
 -- the remark about a size, from the declared and the fitted one, if it changes
 abbrev pub change_remarks : Rule → Option TextPlace → List ℕ → List ℕ → ℕ × ℕ → List Remark
-change_remarks r place pool key size = if size.0 == size.1 then [] else one r (change_words pool key size.0 size.1) place
+change_remarks r place pool key size = if size.0 == size.1 then [] else one r (change_words pool key (decimal size.0) (decimal size.1)) place
 
--- the remarks about the maximum and the queue of a pool; none if its queue is unbounded, so that neither has an effect
+abbrev pub max_words : Pool → Pool → List ℕ
+max_words declared fit = change_words declared.name (codes "max") (max_size declared) (max_size fit)
+
+-- the remark about the maximum, if it changes and has an effect
+abbrev pub max_remarks : Rule → Option TextPlace → Pool → Pool → List Remark
+max_remarks r place declared fit = if has_useless_max fit || declared.max == fit.max then [] else one r (max_words declared fit) place
+
+-- the remark about the queue, if it changes and has a capacity
+abbrev pub queue_remarks : Rule → Option TextPlace → Pool → Pool → List Remark
+queue_remarks r place declared fit = if fit.unbounded then [] else change_remarks r place declared.name (codes "queue") (declared.queue, fit.queue)
+
+-- the remarks about the maximum and the queue of a pool
 abbrev pub limit_remarks : Rule → PoolPlaces → Pool → Pool → List Remark
-limit_remarks r places declared fit =
-    if fit.unbounded then []
-    else change_remarks r places.max declared.name (codes "max") (declared.max, fit.max) ++ change_remarks r places.queue declared.name (codes "queue") (declared.queue, fit.queue)
+limit_remarks r places declared fit = max_remarks r places.max declared fit ++ queue_remarks r places.queue declared fit
 
 abbrev pub pool_remarks : Rule → PoolPlaces → Pool → Pool → List Remark
 pool_remarks r places declared fit = change_remarks r places.core declared.name (codes "core") (declared.core, fit.core) ++ limit_remarks r places declared fit

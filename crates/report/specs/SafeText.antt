@@ -1,8 +1,9 @@
 -- The text for a plan that a certificate accepts: for each pool the bound of its queue, the shares in it, and the pools that
 -- its jobs wait for.
-use Rattle.std.specs.Prelude.{ℕ, ◌-◌, ◌==◌, Bool, not, ◌&&◌, ◌||◌, if◌then◌else◌, List, [], ◌∷◌, ◌++◌, flat_map, codes, decimal, Option, Some, None, is_none, slice_get, slice_index_or}
+use Rattle.std.specs.Prelude.{ℕ, ◌-◌, ◌==◌, Bool, not, ◌&&◌, if◌then◌else◌, List, [], ◌∷◌, ◌++◌, flat_map, codes, decimal, Option, Some, None, is_none, slice_get, slice_index_or}
 use Rattle.std.specs.List.{enumerate_from, join_by, list_any}
 use Rattle.job_bodies.specs.Plan.{Pool, Plan, client_at, pool_at}
+use Rattle.job_bodies.specs.WellFormed.{has_no_max}
 use Rattle.weights.specs.Vector.{Vector, vector_fits, total}
 use Rattle.weights.specs.Bound.{bound_vector}
 use Rattle.weights.specs.declared.bound.Bound.{Bound}
@@ -20,12 +21,28 @@ separated = join_by (λ part. part) (codes ", ")
 
 -- ---- the bound of a queue
 
--- the number of threads of the pool; with an unbounded queue it never has more than core
+-- `least` to `most` threads
+abbrev pub range_text : ℕ → ℕ → List ℕ
+range_text least most =
+    if least == most
+    then (if least == 1 then codes "1 thread" else decimal least ++ codes " threads")
+    else decimal least ++ codes " to " ++ decimal most ++ codes " threads"
+
+-- the most threads of a pool whose core threads never time out; with an unbounded queue it never has more than core
+abbrev pub most_threads : Pool → ℕ
+most_threads pool = if pool.unbounded then pool.core else pool.max
+
+-- the number of threads of a pool whose core threads may time out
+unfoldable pub range_of_timeouts : Pool → List ℕ
+range_of_timeouts pool = if has_no_max pool then decimal pool.core ++ codes " or more threads" else range_text pool.core pool.max
+
+-- the number of threads of a pool whose core threads may time out, and that they may
+abbrev pub timeouts_text : Pool → List ℕ
+timeouts_text pool = range_of_timeouts pool ++ codes " that may time out"
+
+-- the number of threads of the pool, and whether they may time out
 abbrev pub threads_text : Pool → List ℕ
-threads_text pool =
-    if pool.unbounded || pool.core == pool.max
-    then (if pool.core == 1 then codes "1 thread" else decimal pool.core ++ codes " threads")
-    else decimal pool.core ++ codes " to " ++ decimal pool.max ++ codes " threads"
+threads_text pool = if pool.core_timeout then timeouts_text pool else range_text pool.core (most_threads pool)
 
 -- the capacity of the pool's queue
 abbrev pub queue_size : Pool → List ℕ

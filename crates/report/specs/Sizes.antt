@@ -1,22 +1,36 @@
 -- The lines with the sizes of a fitted plan, next to the declared ones.
-use Rattle.std.specs.Prelude.{◌≡◌, ℕ, ◌+◌, ◌==◌, ◌&&◌, if◌then◌else◌, List, [], ◌∷◌, ◌++◌, codes, decimal}
+use Rattle.std.specs.Prelude.{◌≡◌, ℕ, ◌+◌, ◌==◌, not, ◌&&◌, Bool, if◌then◌else◌, List, [], ◌∷◌, ◌++◌, codes, decimal}
 use Rattle.std.specs.List.{flat_map, sum_by, zip}
 use Rattle.job_bodies.specs.Plan.{Pool, Plan}
+use Rattle.job_bodies.specs.WellFormed.{has_no_max}
 use Rattle.size_search.specs.Widened.{outline}
 
 -- a size, followed by the declared one if it differs
 abbrev pub size_text : ℕ → ℕ → List ℕ
 size_text declared fit = decimal fit ++ (if declared == fit then [] else codes " (now " ++ decimal declared ++ codes ")")
 
--- the maximum and the queue of a pool; with an unbounded queue the maximum has no effect, and is not shown
-abbrev pub limits_text : Pool → Pool → List ℕ
-limits_text declared fit =
-    if fit.unbounded then codes ", queue unbounded"
-    else codes ", max " ++ size_text declared.max fit.max ++ codes ", queue " ++ size_text declared.queue fit.queue
+-- the maximum of the pool; `unbounded` if it has none
+abbrev pub max_size : Pool → List ℕ
+max_size pool = if has_no_max pool then codes "unbounded" else decimal pool.max
+
+-- the maximum, followed by the declared one if it differs
+abbrev pub max_text : Pool → Pool → List ℕ
+max_text declared fit = max_size fit ++ (if declared.max == fit.max then [] else codes " (now " ++ max_size declared ++ codes ")")
+
+-- the maximum has no effect: the queue is unbounded, and core threads never time out
+abbrev pub has_useless_max : Pool → Bool
+has_useless_max pool = pool.unbounded && not pool.core_timeout
+
+-- the maximum, if it has an effect
+abbrev pub max_part : Pool → Pool → List ℕ
+max_part declared fit = if has_useless_max fit then [] else codes ", max " ++ max_text declared fit
+
+abbrev pub queue_part : Pool → Pool → List ℕ
+queue_part declared fit = if fit.unbounded then codes ", queue unbounded" else codes ", queue " ++ size_text declared.queue fit.queue
 
 -- the line of a pool
 abbrev pub pool_text : Pool → Pool → List ℕ
-pool_text declared fit = codes "pool " ++ fit.name ++ codes ": core " ++ size_text declared.core fit.core ++ limits_text declared fit ++ 10 ∷ []
+pool_text declared fit = codes "pool " ++ fit.name ++ codes ": core " ++ size_text declared.core fit.core ++ max_part declared fit ++ queue_part declared fit ++ 10 ∷ []
 
 -- 1 if the size changes
 abbrev pub changed : ℕ → ℕ → ℕ
@@ -26,10 +40,10 @@ changed declared fit = if declared == fit then 0 else 1
 abbrev pub any_changed : Pool → Pool → ℕ
 any_changed declared fit = if declared.core == fit.core && declared.max == fit.max && declared.queue == fit.queue then 0 else 1
 
--- the number of sizes of the pool that change; with an unbounded queue all changes count as one, because only the core has an effect
+-- the number of sizes of the pool that change; if the maximum has no effect, all changes count as one, because only the core has an effect
 abbrev pub pool_changes : Pool → Pool → ℕ
 pool_changes declared fit =
-    if fit.unbounded then any_changed declared fit else changed declared.core fit.core + changed declared.max fit.max + changed declared.queue fit.queue
+    if has_useless_max fit then any_changed declared fit else changed declared.core fit.core + changed declared.max fit.max + changed declared.queue fit.queue
 
 -- each pool as it is declared, and as it is fitted
 abbrev pub both_pools : Plan → Plan → List (Pool × Pool)

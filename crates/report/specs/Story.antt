@@ -2,6 +2,7 @@
 use Rattle.std.specs.Prelude.{ℕ, ◌+◌, ◌-◌, ◌==◌, ◌&&◌, Bool, true, false, not, nat_le, if◌then◌else◌, bytes_eq, List, [], ◌∷◌, ◌++◌, length, map, flat_map, take, drop, codes, decimal, Option, Some, None, slice_get}
 use Rattle.std.specs.List.{enumerate_from}
 use Rattle.job_bodies.specs.declared.action.Action.{Action}
+use Rattle.job_bodies.specs.declared.limits.TheConstants.{MAX_THREADS}
 use Rattle.job_bodies.specs.declared.action.Action.TheVariants.{Get}
 use Rattle.job_bodies.specs.Plan.{Plan, Pool as PoolSizes, class_at, client_at, pool_at, submitted_class}
 use Rattle.pool_machine.specs.PoolState.{PoolView}
@@ -39,45 +40,63 @@ abbrev pub taken_name : Plan → Option ℕ → List ℕ
 taken_name plan None = []
 taken_name plan (Some k) = (class_at plan k).name
 
--- what the actor did, given the name of the class that it submitted and of the class of the job that it took
-abbrev pub act_text : Plan → List ℕ → List ℕ → Outcome → List ℕ
-act_text plan submitted taken (Started j) = (codes "submits " ++ submitted) ++ codes " (a new thread starts it)"
-act_text plan submitted taken (Queued j) = (codes "submits " ++ submitted) ++ codes " (queued)"
-act_text plan submitted taken (Refused p) = (codes "submits " ++ submitted) ++ ((codes " (refused by " ++ (pool_at plan p).name) ++ codes ")")
-act_text plan submitted taken (Rejected p j) = (codes "submits " ++ submitted) ++ ((codes " (rejected by " ++ (pool_at plan p).name) ++ codes ")")
-act_text plan submitted taken (Worked u) = codes "works"
-act_text plan submitted taken (Got j) = codes "gets its result"
-act_text plan submitted taken Looped = codes "begins again"
-act_text plan submitted taken (Finished j) = codes "is done"
-act_text plan submitted taken (Took j) = codes "a thread takes " ++ taken
-act_text plan submitted taken Retired = codes "a thread ends"
+-- the actor is a thread of a pool whose core threads may time out
+abbrev pub may_time_out : Plan → Actor → Bool
+may_time_out plan (Client kind c) = false
+may_time_out plan (Job class j) = false
+may_time_out plan (Pool p) = (pool_at plan p).core_timeout
+
+-- the end of an idle thread
+abbrev pub retired_words : Bool → List ℕ
+retired_words timeout = if timeout then codes "an idle thread times out" else codes "a thread ends"
+
+-- what the actor did, given the name of the class that it submitted and of the class of the job that it took, and whether its thread may
+-- time out
+abbrev pub act_text : Plan → List ℕ → List ℕ → Bool → Outcome → List ℕ
+act_text plan submitted taken timeout (Started j) = (codes "submits " ++ submitted) ++ codes " (a new thread starts it)"
+act_text plan submitted taken timeout (Queued j) = (codes "submits " ++ submitted) ++ codes " (queued)"
+act_text plan submitted taken timeout (Refused p) = (codes "submits " ++ submitted) ++ ((codes " (refused by " ++ (pool_at plan p).name) ++ codes ")")
+act_text plan submitted taken timeout (Rejected p j) = (codes "submits " ++ submitted) ++ ((codes " (rejected by " ++ (pool_at plan p).name) ++ codes ")")
+act_text plan submitted taken timeout (Worked u) = codes "works"
+act_text plan submitted taken timeout (Got j) = codes "gets its result"
+act_text plan submitted taken timeout Looped = codes "begins again"
+act_text plan submitted taken timeout (Finished j) = codes "is done"
+act_text plan submitted taken timeout (Took j) = codes "a thread takes " ++ taken
+act_text plan submitted taken timeout Retired = retired_words timeout
 
 abbrev pub step_text : Plan → EventStep → List ℕ
-step_text plan step = act_text plan (submitted_name plan step.actor step.action) (taken_name plan step.taken) step.outcome
+step_text plan step = act_text plan (submitted_name plan step.actor step.action) (taken_name plan step.taken) (may_time_out plan step.actor) step.outcome
 
 -- ---- turns
 
--- consecutive steps of one actor; `is_ended` if with the last one a client begins again; `end` is the number of steps up to the last one
+-- consecutive steps of one actor; `is_ended` if with the last one a client begins again or a thread times out; `end` is the number of steps
+-- up to the last one
 pub record Turn : Type 0 where
   pub actor : Actor
   pub text : List ℕ
   pub is_ended : Bool
   pub end : ℕ
 
--- a client that begins again ends its turn
-abbrev pub ends_turn : Outcome → Bool
-ends_turn Looped = true
-ends_turn _ = false
+-- a thread ends in a pool whose core threads may time out; this step is a turn of its own, so that a line counts those that follow each
+-- other
+abbrev pub is_timeout : Plan → Actor → Outcome → Bool
+is_timeout plan actor Retired = may_time_out plan actor
+is_timeout plan actor _ = false
+
+-- a client that begins again ends its turn, and so does a thread that times out
+abbrev pub ends_turn : Plan → Actor → Outcome → Bool
+ends_turn plan actor Looped = true
+ends_turn plan actor outcome = is_timeout plan actor outcome
 
 -- the turn that the step begins, after this number of steps
 abbrev pub new_turn : Plan → ℕ → EventStep → Turn
 new_turn plan before step =
-    record { actor = step.actor; text = (actor_text plan step.actor ++ codes ": ") ++ step_text plan step; is_ended = ends_turn step.outcome; end = before + 1 }
+    record { actor = step.actor; text = (actor_text plan step.actor ++ codes ": ") ++ step_text plan step; is_ended = ends_turn plan step.actor step.outcome; end = before + 1 }
 
 -- the turn with one more step
 abbrev pub longer_turn : Plan → Turn → EventStep → Turn
 longer_turn plan turn step =
-    record { actor = turn.actor; text = turn.text ++ (codes ", " ++ step_text plan step); is_ended = ends_turn step.outcome; end = turn.end + 1 }
+    record { actor = turn.actor; text = turn.text ++ (codes ", " ++ step_text plan step); is_ended = ends_turn plan step.actor step.outcome; end = turn.end + 1 }
 
 abbrev pub is_same_actor : Actor → Actor → Bool
 is_same_actor (Client kind c) (Client kind' c') = kind == kind' && c == c'
@@ -86,14 +105,14 @@ is_same_actor (Pool p) (Pool p') = p == p'
 is_same_actor _ _ = false
 
 -- whether the step continues the turn
-abbrev pub is_continued : Turn → EventStep → Bool
-is_continued turn step = not turn.is_ended && is_same_actor turn.actor step.actor
+abbrev pub is_continued : Plan → Turn → EventStep → Bool
+is_continued plan turn step = not turn.is_ended && not (is_timeout plan step.actor step.outcome) && is_same_actor turn.actor step.actor
 
 -- this turn, with the steps that continue it, and the turns after it
 abbrev pub turns_from : Plan → Turn → List EventStep → List Turn
 turns_from plan turn [] = turn ∷ []
 turns_from plan turn (step ∷ rest) =
-    if is_continued turn step
+    if is_continued plan turn step
     then turns_from plan (longer_turn plan turn step) rest
     else turn ∷ turns_from plan (new_turn plan turn.end step) rest
 
@@ -158,17 +177,24 @@ steps_text plan steps = lines_text (lines (turns plan steps))
 
 -- ---- pools
 
--- the most threads that the pool has at one time
+-- the most threads that the pool has at one time; with an unbounded queue core, unless core threads may time out
 abbrev pub most_threads : PoolView → ℕ
-most_threads pool = if pool.unbounded then pool.core else pool.max
+most_threads pool = if pool.unbounded && not pool.core_timeout then pool.core else pool.max
+
+-- the pool has no maximum
+abbrev pub has_no_max : PoolView → Bool
+has_no_max pool = pool.core_timeout && pool.unbounded && pool.max == MAX_THREADS
+
+abbrev pub most_text : PoolView → List ℕ
+most_text pool = if has_no_max pool then codes "unbounded" else decimal (most_threads pool)
 
 abbrev pub capacity_text : PoolView → List ℕ
 capacity_text pool = if pool.unbounded then codes "unbounded" else decimal pool.capacity
 
 abbrev pub pool_text : List ℕ → PoolView → List ℕ
 pool_text name pool =
-    (codes "pool " ++ name ++ codes ": threads " ++ decimal pool.threads ++ codes " of " ++ decimal (most_threads pool) ++ codes ", idle " ++ decimal pool.idle)
-    ++ (codes ", queued " ++ decimal (length pool.queue) ++ codes " of " ++ capacity_text pool ++ 10 ∷ [])
+    (codes "pool " ++ name ++ codes ": threads " ++ decimal pool.threads ++ codes " of " ++ most_text pool)
+    ++ (codes ", idle " ++ decimal pool.idle ++ codes ", queued " ++ decimal (length pool.queue) ++ codes " of " ++ capacity_text pool ++ 10 ∷ [])
 
 abbrev pub pool_line : Plan → State → ℕ × PoolSizes → List ℕ
 pool_line plan s (p, pool) = pool_text pool.name (pool_seen plan s p)

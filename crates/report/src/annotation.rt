@@ -72,6 +72,7 @@ fn lint_name(lint: Lint) -> &'static str
         Lint::SafeAtCore => "safe-at-core",
         Lint::SubmitsItself(_) => "submits-itself",
         Lint::NeverGot(_, _, _) => "never-got",
+        Lint::PoolWaitsForItself(_) => "pool-waits-for-itself",
         Lint::NothingToAsk => "nothing-to-ask",
         Lint::NoClients => "no-clients",
         Lint::NothingSubmitted => "nothing-submitted",

@@ -43,6 +43,9 @@ pub(crate) fn push_cause_words(
         NoSizes::Cause(Cause::ClassNeverGets(class, action)) => {
             push_never_got(text, "class", plan.class_name(class), action)
         }
+        NoSizes::Cause(Cause::PoolWaitsForItself(pool)) => {
+            push_last_thread(text, plan.pool_name(pool))
+        }
         NoSizes::TooLarge(pool) => push_above(text, plan.pool_name(pool)),
     }
 }
@@ -64,6 +67,15 @@ fn push_never_got(
     write!(
         text,
         "{kind} {name} action {action}: submits for ever, never got"
+    )
+}
+
+fn push_last_thread(text: &mut String, name: &str) -> Result<(), AllocError>
+    ensures { Pushes result text.old text.new (spec.last_thread_words name.now) }
+{
+    write!(
+        text,
+        "pool {name}: its last thread may wait for a job of this pool, since core threads may time out"
     )
 }
 

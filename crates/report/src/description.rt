@@ -1,7 +1,7 @@
 //! The description of a witness as text. A witness is a list of events after which a submit is
 //! refused or jobs wait only for each other.
 
-ghost use Rattle.std.specs.Prelude.{◌++◌, IfOk, string_bytes};
+ghost use Rattle.std.specs.Prelude.{◌≡◌, ◌++◌, ◌∷◌, [], IfOk, string_bytes};
 ghost use Rattle.support.specs.Pushed.{Pushes};
 ghost use Rattle.report.specs.Description as spec;
 
@@ -37,7 +37,7 @@ pub fn describe(alloc: Global, plan: &Plan, witness: &Witness) -> Result<String,
         &witness.events,
         members_of(&witness.ending),
     )?;
-    push_why(&mut text, &witness.ending)?;
+    push_why(&mut text, plan, &witness.ending)?;
     Ok(text)
 }
 
@@ -87,8 +87,8 @@ fn push_stuck(text: &mut String, how: &str, members: &[usize]) -> Result<(), All
 
 /// Appends the last line, which says why the jobs wait permanently or what may end their wait.
 /// Appends nothing if the witness ends with a refused submit.
-fn push_why(text: &mut String, ending: &Ending) -> Result<(), AllocError>
-    ensures { Pushes result text.old text.new (spec.why_text ending.now) }
+fn push_why(text: &mut String, plan: &Plan, ending: &Ending) -> Result<(), AllocError>
+    ensures { Pushes result text.old text.new (spec.why_text plan.now ending.now) }
 {
     match ending {
         Ending::Refused(_) => Ok(()),
@@ -97,13 +97,72 @@ fn push_why(text: &mut String, ending: &Ending) -> Result<(), AllocError>
                 "forever: each pool in whose queue one of them waits has all its threads\n",
             )
         }
-        Ending::StuckForever(_, Reason::PoolsStayAtCore) => text.push_str(
-            "forever: each pool in whose queue one of them waits has all its threads, or never starts one above core\n",
-        ),
-        Ending::StuckNow(_) => {
-            text.push_str(
-                "until a pool in whose queue one of them waits starts a thread above core\n",
-            )
+        Ending::StuckForever(_, Reason::PoolsStayAtCore) => {
+            push_at_core(text, has_timeouts(plan))
         }
+        Ending::StuckNow(_) => push_until(text, has_timeouts(plan)),
+    }
+}
+
+fn push_at_core(text: &mut String, timeouts: bool) -> Result<(), AllocError>
+    ensures { Pushes result text.old text.new (spec.at_core_line timeouts) }
+{
+    let why = at_core_words(timeouts);
+    push_two_parts(
+        text,
+        "forever: each pool in whose queue one of them waits has all its threads, or ",
+        why,
+    )
+}
+
+/// Appends a line that consists of these two parts.
+fn push_two_parts(text: &mut String, front: &str, rest: &str) -> Result<(), AllocError>
+    ensures { Pushes result text.old text.new (front.now ++ (rest.now ++ 10 ∷ [])) }
+{
+    text.push_str(front)?;
+    text.push_str(rest)?;
+    text.push('\n')
+}
+
+fn push_until(text: &mut String, timeouts: bool) -> Result<(), AllocError>
+    ensures { Pushes result text.old text.new (spec.until_line timeouts) }
+{
+    let started = started_words(timeouts);
+    writeln!(
+        text,
+        "until a pool in whose queue one of them waits starts {started}"
+    )
+}
+
+/// Returns whether core threads of some pool may time out.
+fn has_timeouts(plan: &Plan) -> bool
+    ensures { result ≡ spec.has_timeouts plan.now }
+{
+    plan.pools().iter().any(|pool| pool.core_timeout)
+}
+
+/// Returns the text for a pool that starts no thread although it has fewer than its maximum. If
+/// core threads may time out, the pool can have fewer than core threads, and then it can start one.
+/// It can also start one above core in place of a thread that timed out.
+#[tactic(auto, unfolding(crate::specs::Description::at_core_words))]
+fn at_core_words(timeouts: bool) -> &'static str
+    ensures { result.now ≡ spec.at_core_words timeouts }
+{
+    if timeouts {
+        "at least core threads and a queue that is never full"
+    } else {
+        "never starts one above core"
+    }
+}
+
+/// Returns the text for the thread that may end a wait. If core threads may time out, this thread
+/// can be a core thread.
+fn started_words(timeouts: bool) -> &'static str
+    ensures { result.now ≡ spec.started_words timeouts }
+{
+    if timeouts {
+        "another thread"
+    } else {
+        "a thread above core"
     }
 }

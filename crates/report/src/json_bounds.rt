@@ -134,8 +134,10 @@ fn push_share(
 }
 
 /// Creates a JSON object with two numbers: the maximum number of core threads that wait at counted
-/// gets at once, and the number of the other core threads. A counted get can block a thread that
-/// other jobs need. The value is null if the vector `blocked` does not fit the plan.
+/// gets at once, and the number of other threads that the pool has at least while a job is queued.
+/// These are the other core threads. If core threads may time out, only one thread is sure to be
+/// left. A counted get can block a thread that other jobs need. The value is null if the vector
+/// `blocked` does not fit the plan.
 #[tactic(auto, unfolding(crate::specs::JsonPools::waiting_data))]
 pub(crate) fn blocked_value(
     alloc: Global,
@@ -149,7 +151,10 @@ pub(crate) fn blocked_value(
         return Ok(Value::Null);
     };
     Object::new(alloc)
-        .value("left", Value::from(pool.core.saturating_sub(most)))
+        .value(
+            "left",
+            Value::from(pool.least_threads().saturating_sub(most)),
+        )
         .value("most", Value::from(most))
         .done()
 }

@@ -59,7 +59,12 @@ fn cause_object(
             let class = Value::try_from_str(alloc, plan.class_name(class));
             never_got_value(alloc, place, action, class, Ok(Value::Null), words)
         }
-        NoSizes::TooLarge(pool) => limit_value(alloc, place, plan.pool_name(pool), words),
+        NoSizes::Cause(Cause::PoolWaitsForItself(pool)) => {
+            pool_value(alloc, "core timeout", place, plan.pool_name(pool), words)
+        }
+        NoSizes::TooLarge(pool) => {
+            pool_value(alloc, "limit", place, plan.pool_name(pool), words)
+        }
     }
 }
 
@@ -108,21 +113,22 @@ fn never_got_value(
         .done()
 }
 
-#[tactic(auto, unfolding(crate::specs::JsonSizes::limit_data))]
-fn limit_value(
+#[tactic(auto, unfolding(crate::specs::JsonSizes::pool_cause_data))]
+fn pool_value(
     alloc: Global,
+    kind: &str,
     place: Option<TextPlace>,
     pool: &str,
     words: &str,
 ) -> Result<Value, AllocError>
-    ensures { IfOk result (λ value. view value ≡ spec.limit_data place pool.now words.now) }
+    ensures { IfOk result (λ value. view value ≡ spec.pool_cause_data kind.now place pool.now words.now) }
 {
     Object::new(alloc)
         .value("action", Value::Null)
         .value("class", Value::Null)
         .value("client", Value::Null)
         .value("column", column_value(place))
-        .text("kind", "limit")
+        .text("kind", kind)
         .value("line", line_value(place))
         .text("pool", pool)
         .text("text", words)

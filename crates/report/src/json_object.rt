@@ -45,6 +45,17 @@ impl Object {
         self.part(key, value)
     }
 
+    /// Adds a member with the value `true` if `flag` is true.
+    pub(crate) fn flag(self, key: &str, flag: bool) -> Object
+        ensures { spec.HasFlag self key.now flag result }
+    {
+        if flag {
+            self.value(key, Value::Bool(true))
+        } else {
+            self
+        }
+    }
+
     /// Adds a member with a value that was built if memory sufficed.
     #[tactic(auto, unfolding(crate::specs::JsonObject::members_of))]
     pub(crate) fn part(self, key: &str, part: Result<Value, AllocError>) -> Object

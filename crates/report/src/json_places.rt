@@ -31,7 +31,7 @@ pub(crate) fn column_value(place: Option<TextPlace>) -> Value
     }
 }
 
-/// Returns the places of the name and sizes of the pool with this index. If there is no such pool,
+/// Returns the places of the name, the sizes and `core_timeout` of the pool with this index. If there is no such pool,
 /// each place is `None`.
 pub(crate) fn pool_places_at(pools: &[PoolPlaces], pool: usize) -> PoolPlaces
     ensures { result ≡ spec.pool_places_at pools.now pool }
@@ -43,6 +43,7 @@ pub(crate) fn pool_places_at(pools: &[PoolPlaces], pool: usize) -> PoolPlaces
             core: None,
             max: None,
             queue: None,
+            core_timeout: None,
         },
     }
 }
@@ -78,8 +79,9 @@ fn place_at(actions: &[Option<TextPlace>], action: usize) -> Option<TextPlace>
     }
 }
 
-/// Returns the place of the class, the action or the pool that the reason `cause` names. Returns
-/// `None` if the place is not known.
+/// Returns the place of the class, the action or the pool that the reason `cause` names. If core
+/// threads of the pool may time out, this is the place of its `core_timeout`. Returns `None` if the
+/// place is not known.
 pub(crate) fn cause_place(places: &PlanPlaces, cause: NoSizes) -> Option<TextPlace>
     ensures { result ≡ spec.cause_place places.now cause }
 {
@@ -90,6 +92,9 @@ pub(crate) fn cause_place(places: &PlanPlaces, cause: NoSizes) -> Option<TextPla
         }
         NoSizes::Cause(Cause::ClassNeverGets(class, action)) => {
             action_place(&places.classes, class, action)
+        }
+        NoSizes::Cause(Cause::PoolWaitsForItself(pool)) => {
+            pool_places_at(&places.pools, pool).core_timeout
         }
         NoSizes::TooLarge(pool) => pool_places_at(&places.pools, pool).name,
     }

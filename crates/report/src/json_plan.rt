@@ -1,13 +1,14 @@
 //! A plan as JSON: its text, and its pools, classes and client kinds with their places.
 
-ghost use Rattle.std.specs.Prelude.{◌≡◌, IfOk};
+ghost use Rattle.std.specs.Prelude.{◌≡◌, IfOk, IfSome};
 ghost use Rattle.serde_json.specs.View.{view};
+ghost use Rattle.report.specs.JsonObject.{members_of};
 ghost use Rattle.report.specs.JsonPlan as spec;
 
 use crate::json_bodies::body_value;
 use crate::json_object::Object;
 use crate::json_places::{column_value, line_value, name_place, pool_places_at};
-use crate::json_values::{empty_list, queue_value};
+use crate::json_values::{empty_list, max_value, queue_value};
 use diagnostics::{BodyPlaces, PlanPlaces, PoolPlaces};
 use job_bodies::{Class, Client, Plan, Pool};
 use plan_text::TextPlace;
@@ -83,54 +84,32 @@ fn pool_entry(
         (λ value. view value ≡ spec.pool_entry places.now (number, pool.now)) }
 {
     let places = pool_places_at(places, number);
-    placed_pool(alloc, places.name, pool)
+    pool_value(alloc, places.name, pool)
 }
 
-/// Converts a pool to JSON. Only for a pool that may reject jobs, the object has a member that says
-/// this.
-fn placed_pool(alloc: Global, place: Option<TextPlace>, pool: &Pool) -> Result<Value, AllocError>
-    ensures { IfOk result (λ value. view value ≡ spec.placed_pool place pool.now) }
-{
-    if pool.may_reject {
-        rejecting_value(alloc, place, pool)
-    } else {
-        pool_value(alloc, place, pool)
-    }
-}
-
-#[tactic(auto, unfolding(crate::specs::JsonPlan::rejecting_data))]
-fn rejecting_value(
-    alloc: Global,
-    place: Option<TextPlace>,
-    pool: &Pool,
-) -> Result<Value, AllocError>
-    ensures { IfOk result (λ value. view value ≡ spec.rejecting_data place pool.now) }
-{
-    Object::new(alloc)
-        .value("column", column_value(place))
-        .value("core", Value::from(pool.core))
-        .value("line", line_value(place))
-        .value("max", Value::from(pool.max))
-        .value("may_reject", Value::Bool(true))
-        .text("name", &pool.name)
-        .value("prestart", Value::Bool(pool.prestart))
-        .part("queue", queue_value(alloc, pool))
-        .done()
-}
-
-#[tactic(auto, unfolding(crate::specs::JsonPlan::pool_data))]
+/// Converts a pool to JSON. The object has the members `core_timeout` and `may_reject` only if they
+/// are true.
 fn pool_value(alloc: Global, place: Option<TextPlace>, pool: &Pool) -> Result<Value, AllocError>
     ensures { IfOk result (λ value. view value ≡ spec.pool_data place pool.now) }
 {
+    pool_object(alloc, place, pool)
+        .flag("core_timeout", pool.core_timeout)
+        .flag("may_reject", pool.may_reject)
+        .done()
+}
+
+#[tactic(auto, unfolding(crate::specs::JsonPlan::pool_members))]
+fn pool_object(alloc: Global, place: Option<TextPlace>, pool: &Pool) -> Object
+    ensures { IfSome (members_of result) (λ members. members ≡ spec.pool_members place pool.now) }
+{
     Object::new(alloc)
         .value("column", column_value(place))
         .value("core", Value::from(pool.core))
         .value("line", line_value(place))
-        .value("max", Value::from(pool.max))
+        .part("max", max_value(alloc, pool))
         .text("name", &pool.name)
         .value("prestart", Value::Bool(pool.prestart))
         .part("queue", queue_value(alloc, pool))
-        .done()
 }
 
 fn classes_value(

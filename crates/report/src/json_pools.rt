@@ -1,17 +1,18 @@
 //! Pools as JSON: their sizes and the pools for which their jobs wait. If a certificate accepts the
 //! plan, also the bound of each queue and the maximum number of core threads that wait. Only a pool
 //! that may reject jobs by the plan has the members `may_reject` and `rejects_after`, the number of
-//! events after which it rejects a job.
+//! events after which it rejects a job. Only a pool whose core threads may time out has the member
+//! `core_timeout`.
 
 ghost use Rattle.std.specs.Prelude.{◌≡◌, IfOk, IfSome, option_map, map, string_bytes};
-ghost use Rattle.serde_json.specs.Data.{array, object, string};
+ghost use Rattle.serde_json.specs.Data.{array, string};
 ghost use Rattle.serde_json.specs.View.{view, items_of};
 ghost use Rattle.report.specs.JsonObject.{members_of};
 ghost use Rattle.report.specs.JsonPools as spec;
 
 use crate::json_bounds::{blocked_value, bound_value};
 use crate::json_object::Object;
-use crate::json_values::queue_value;
+use crate::json_values::{max_value, queue_value};
 use crate::safe::rejection_at;
 use crate::safe_waits::waited_names;
 use cert_text::PoolCert;
@@ -124,7 +125,6 @@ fn sized_pool(
     }
 }
 
-#[tactic(auto, unfolding(crate::specs::JsonPools::pool_object, crate::specs::JsonPools::rejecting_object))]
 fn rejecting_object(
     alloc: Global,
     pool: &Pool,
@@ -153,16 +153,29 @@ fn rejects_value(rejection: Option<u64>) -> Value
     }
 }
 
-#[tactic(auto, unfolding(crate::specs::JsonPools::pool_object))]
 fn pool_object(alloc: Global, pool: &Pool, blocked: Value, bound: Value, waits_for: Value) -> Object
-    ensures { IfSome (members_of result) (λ members. object members ≡ spec.pool_object
+    ensures { IfSome (members_of result) (λ members. members ≡ spec.pool_members
+        (view blocked) (view bound) pool.now (view waits_for)) }
+{
+    sized_object(alloc, pool, blocked, bound, waits_for).flag("core_timeout", pool.core_timeout)
+}
+
+#[tactic(auto, unfolding(crate::specs::JsonPools::sized_members))]
+fn sized_object(
+    alloc: Global,
+    pool: &Pool,
+    blocked: Value,
+    bound: Value,
+    waits_for: Value,
+) -> Object
+    ensures { IfSome (members_of result) (λ members. members ≡ spec.sized_members
         (view blocked) (view bound) pool.now (view waits_for)) }
 {
     Object::new(alloc)
         .value("blocked", blocked)
         .value("bound", bound)
         .value("core", Value::from(pool.core))
-        .value("max", Value::from(pool.max))
+        .part("max", max_value(alloc, pool))
         .text("name", &pool.name)
         .value("prestart", Value::Bool(pool.prestart))
         .part("queue", queue_value(alloc, pool))

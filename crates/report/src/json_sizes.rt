@@ -7,7 +7,8 @@ ghost use Rattle.report.specs.JsonSizes as spec;
 use crate::json_cause::cause_value;
 use crate::json_object::Object;
 use crate::json_places::{column_value, line_value, pool_places_at};
-use crate::json_values::{empty_list, queue_value};
+use crate::json_values::{empty_list, max_value, queue_value};
+use crate::size_lines::has_useless_max;
 use diagnostics::{PlanPlaces, PoolPlaces};
 use job_bodies::{Plan, Pool};
 use plan_text::TextPlace;
@@ -80,7 +81,7 @@ fn size_value(alloc: Global, changes: Vec<Value>, fit: &Pool) -> Result<Value, A
     Object::new(alloc)
         .value("changes", Value::Array(changes))
         .value("core", Value::from(fit.core))
-        .value("max", Value::from(fit.max))
+        .part("max", max_value(alloc, fit))
         .text("name", &fit.name)
         .part("queue", queue_value(alloc, fit))
         .done()
@@ -118,8 +119,7 @@ fn push_changes(
     push_limits(alloc, values, places, declared, fit)
 }
 
-/// Appends the changes of the pool's maximum and queue capacity. Appends nothing if the queue is
-/// unbounded, because the maximum and the capacity then have no effect.
+/// Appends the changes of the pool's maximum and queue capacity.
 fn push_limits(
     alloc: Global,
     values: &mut Vec<Value>,
@@ -130,23 +130,53 @@ fn push_limits(
     ensures { OnOk result (map view values.new.items
         ≡ map view values.old.items ++ spec.limit_changes places declared.now fit.now) }
 {
+    push_max(alloc, values, places.max, declared, fit)?;
+    push_queue(alloc, values, places.queue, declared, fit)
+}
+
+/// Appends the change of the pool's maximum. Appends nothing if the maximum does not change or has
+/// no effect.
+#[tactic(auto, using(std::proofs::lemmas::List::map_push))]
+fn push_max(
+    alloc: Global,
+    values: &mut Vec<Value>,
+    place: Option<TextPlace>,
+    declared: &Pool,
+    fit: &Pool,
+) -> Result<(), AllocError>
+    ensures { OnOk result (map view values.new.items
+        ≡ map view values.old.items ++ spec.max_change place declared.now fit.now) }
+{
+    if has_useless_max(fit) || declared.max == fit.max {
+        return Ok(());
+    }
+    let now = max_value(alloc, declared)?;
+    let value = max_value(alloc, fit)?;
+    values.push(change_value(alloc, "max", place, now, value)?)?;
+    Ok(())
+}
+
+/// Appends the change of the capacity of the pool's queue. Appends nothing if the capacity does not
+/// change, or if the queue is unbounded.
+fn push_queue(
+    alloc: Global,
+    values: &mut Vec<Value>,
+    place: Option<TextPlace>,
+    declared: &Pool,
+    fit: &Pool,
+) -> Result<(), AllocError>
+    ensures { OnOk result (map view values.new.items
+        ≡ map view values.old.items ++ spec.queue_change place declared.now fit.now) }
+{
     if fit.unbounded {
         return Ok(());
     }
-    push_change(alloc, values, "max", places.max, declared.max, fit.max)?;
-    push_change(
-        alloc,
-        values,
-        "queue",
-        places.queue,
-        declared.queue,
-        fit.queue,
-    )
+    push_change(alloc, values, "queue", place, declared.queue, fit.queue)
 }
 
 /// Appends the change of the size `key` from `now` to `value`. Appends nothing if the two are
 /// equal.
-#[tactic(auto, using(std::proofs::lemmas::List::map_push), unfolding(crate::specs::JsonSizes::change_data))]
+#[tactic(auto, using(std::proofs::lemmas::List::map_push))]
 fn push_change(
     alloc: Global,
     values: &mut Vec<Value>,
@@ -161,13 +191,29 @@ fn push_change(
     if now == value {
         return Ok(());
     }
-    let change = Object::new(alloc)
+    let now = Value::from(now);
+    let value = Value::from(value);
+    values.push(change_value(alloc, key, place, now, value)?)?;
+    Ok(())
+}
+
+/// Creates a JSON object for the change of the size `key` from `now` to `value`.
+#[tactic(auto, unfolding(crate::specs::JsonSizes::change_data))]
+fn change_value(
+    alloc: Global,
+    key: &str,
+    place: Option<TextPlace>,
+    now: Value,
+    value: Value,
+) -> Result<Value, AllocError>
+    ensures { IfOk result (λ change.
+        view change ≡ spec.change_data key.now place (view now) (view value)) }
+{
+    Object::new(alloc)
         .value("column", column_value(place))
         .text("key", key)
         .value("line", line_value(place))
-        .value("now", Value::from(now))
-        .value("value", Value::from(value))
-        .done()?;
-    values.push(change)?;
-    Ok(())
+        .value("now", now)
+        .value("value", value)
+        .done()
 }

@@ -1,10 +1,10 @@
-//! Numbers and capacities as JSON.
+//! Numbers and sizes as JSON.
 
 ghost use Rattle.std.specs.Prelude.{◌≡◌, IfOk, IsOkAnd, map};
 ghost use Rattle.serde_json.specs.Data.{array, item, no_items};
 ghost use Rattle.serde_json.specs.View.{view};
 ghost use Rattle.report.specs.JsonEvents as spec;
-ghost use Rattle.report.specs.JsonPlan.{queue_data};
+ghost use Rattle.report.specs.JsonPlan.{limit_data, max_data, queue_data};
 
 use job_bodies::Pool;
 use serde_json::Value;
@@ -20,14 +20,27 @@ pub(crate) fn optional_number(number: Option<usize>) -> Value
     }
 }
 
+/// Converts the pool's maximum to JSON: a number, or the string `unbounded` if the pool has none.
+pub(crate) fn max_value(alloc: Global, pool: &Pool) -> Result<Value, AllocError>
+    ensures { IfOk result (λ value. view value ≡ max_data pool.now) }
+{
+    limit_value(alloc, pool.has_no_max(), pool.max)
+}
+
 /// Converts the capacity of the pool's queue to JSON: a number, or the string `unbounded`.
 pub(crate) fn queue_value(alloc: Global, pool: &Pool) -> Result<Value, AllocError>
     ensures { IfOk result (λ value. view value ≡ queue_data pool.now) }
 {
-    if pool.unbounded {
+    limit_value(alloc, pool.unbounded, pool.queue)
+}
+
+fn limit_value(alloc: Global, unbounded: bool, size: u64) -> Result<Value, AllocError>
+    ensures { IfOk result (λ value. view value ≡ limit_data unbounded size) }
+{
+    if unbounded {
         Value::try_from_str(alloc, "unbounded")
     } else {
-        Ok(Value::from(pool.queue))
+        Ok(Value::from(size))
     }
 }
 

@@ -43,6 +43,7 @@ fn kind_of(lint: Lint) -> &'static str
         Lint::SafeAtCore => "safe at core",
         Lint::SubmitsItself(_) => "submits itself",
         Lint::NeverGot(_, _, _) => "never got",
+        Lint::PoolWaitsForItself(_) => "pool waits for itself",
         Lint::NothingToAsk => "nothing to ask",
         Lint::NoClients => "no clients",
         Lint::NothingSubmitted => "nothing submitted",

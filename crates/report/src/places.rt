@@ -3,11 +3,11 @@
 ghost use Rattle.std.specs.Prelude.{◌≡◌, IfOk, nat_le};
 ghost use Rattle.std.specs.List.{list_all, enumerate_from};
 ghost use Rattle.job_bodies.specs.Plan.{pool_at};
-ghost use Rattle.weights.specs.Vector.{class_weights};
+ghost use Rattle.weights.specs.Vector.{class_weights, workers_weight};
 ghost use Rattle.report.specs.Places as spec;
 
 use cert_text::{Cert, PoolCert};
-use job_bodies::{Class, Plan};
+use job_bodies::{Class, Plan, Pool};
 use std::alloc::{AllocError, Global};
 use weights::{Bound, Vector};
 
@@ -16,7 +16,8 @@ use weights::{Bound, Vector};
 ///
 /// - has a lifetime vector or no vector,
 /// - has a vector that does not fit the plan, or
-/// - has an unbounded queue, and some queued job of the pool has no weight in the vector.
+/// - has an unbounded queue, and some queued job of the pool has no weight in the vector, or the
+///   threads of a pool without a maximum have a weight in it.
 ///
 /// # Errors
 ///
@@ -74,8 +75,8 @@ pub fn total_of(plan: &Plan, vector: &Vector) -> Option<u64>
 ///
 /// - If the queue is bounded, the result is `true`, because the conditions on the bound demand it.
 /// - If the queue is unbounded, the result is whether the vector fits the plan and gives each job
-///   of the pool a weight of at least 1. A standing vector need give this weight only to queued
-///   jobs.
+///   of the pool a weight of at least 1, and the threads of pools without a maximum no weight. A
+///   standing vector need give this weight only to queued jobs.
 pub(crate) fn bounds_jobs(plan: &Plan, pool: usize, bound: &Bound) -> bool
     ensures { result ≡ spec.bounds_jobs plan.now pool bound.now }
 {
@@ -94,11 +95,42 @@ pub(crate) fn is_unbounded(plan: &Plan, pool: usize) -> bool
 }
 
 /// Returns whether the bound's vector fits the plan and gives each job of the pool a weight of at
-/// least 1. In a standing vector, only queued jobs need this weight.
+/// least 1. In a standing vector, only queued jobs need this weight. The threads of a pool without
+/// a maximum must have no weight in the vector.
 fn counts_jobs(plan: &Plan, pool: usize, bound: &Bound) -> bool
     ensures { result ≡ spec.counts_jobs plan.now pool bound.now }
 {
-    bound.vector().fits(plan) && counts_classes(pool, bound, plan.classes())
+    let vector = bound.vector();
+    vector.fits(plan)
+        && has_finite_total(plan.pools(), vector)
+        && counts_classes(pool, bound, plan.classes())
+}
+
+fn has_finite_total(pools: &[Pool], vector: &Vector) -> bool
+    ensures { result ≡ list_all (spec.has_finite_share vector.now) (enumerate_from 0 pools.now) }
+{
+    pools
+        .iter()
+        .enumerate()
+        .all(|(number, pool)| has_finite_share(vector, number, pool))
+}
+
+/// Returns whether the pool has a maximum, or the vector gives its threads no weight. `number` is
+/// the number of the pool.
+fn has_finite_share(vector: &Vector, number: usize, pool: &Pool) -> bool
+    ensures { result ≡ spec.has_finite_share vector.now (number, pool.now) }
+{
+    !pool.has_no_max() || workers_weight(vector, number) == 0
+}
+
+/// Returns the weight of one worker of the pool, or 0 if the vector has no weight for the pool.
+fn workers_weight(vector: &Vector, pool: usize) -> u64
+    ensures { result ≡ workers_weight vector.now pool }
+{
+    match vector.workers.get(pool) {
+        Some(weight) => *weight,
+        None => 0,
+    }
 }
 
 fn counts_classes(pool: usize, bound: &Bound, classes: &[Class]) -> bool

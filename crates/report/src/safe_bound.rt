@@ -214,19 +214,56 @@ pub(crate) fn push_most(text: &mut String, bound: &Bound, total: u64) -> Result<
 }
 
 /// Appends the number of threads that the pool can have, such as `4 threads`, or `2 to 4 threads`
-/// if the core size and the maximum differ. If the queue is unbounded, appends only the core size,
-/// because the pool never has more threads.
+/// if the pool can have more than its core size. If core threads may time out, the text says so, as
+/// `2 to 4 threads that may time out`.
 pub(crate) fn push_threads(text: &mut String, pool: &Pool) -> Result<(), AllocError>
     ensures { Pushes result text.old text.new (spec.threads_text pool.now) }
 {
-    let core = pool.core;
-    let max = pool.max;
-    if !pool.unbounded && core != max {
-        return write!(text, "{core} to {max} threads");
+    if pool.core_timeout {
+        push_timeouts(text, pool)
+    } else {
+        push_range(text, pool.core, most_threads(pool))
     }
-    match core {
+}
+
+/// Appends the number of threads of a pool whose core threads may time out, and that they may.
+fn push_timeouts(text: &mut String, pool: &Pool) -> Result<(), AllocError>
+    ensures { Pushes result text.old text.new (spec.timeouts_text pool.now) }
+{
+    push_range_of_timeouts(text, pool)?;
+    text.push_str(" that may time out")
+}
+
+/// Returns the greatest number of threads of a pool whose core threads never time out: the maximum,
+/// or the core size if the queue is unbounded.
+fn most_threads(pool: &Pool) -> u64
+    ensures { result ≡ spec.most_threads pool.now }
+{
+    if pool.unbounded { pool.core } else { pool.max }
+}
+
+/// Appends the number of threads of a pool whose core threads may time out, such as `2 to 4
+/// threads`, or `2 or more threads` if the pool has no maximum.
+#[tactic(auto, unfolding(crate::specs::SafeText::range_of_timeouts))]
+fn push_range_of_timeouts(text: &mut String, pool: &Pool) -> Result<(), AllocError>
+    ensures { Pushes result text.old text.new (spec.range_of_timeouts pool.now) }
+{
+    if !pool.has_no_max() {
+        return push_range(text, pool.core, pool.max);
+    }
+    let core = pool.core;
+    write!(text, "{core} or more threads")
+}
+
+fn push_range(text: &mut String, least: u64, most: u64) -> Result<(), AllocError>
+    ensures { Pushes result text.old text.new (spec.range_text least most) }
+{
+    if least != most {
+        return write!(text, "{least} to {most} threads");
+    }
+    match least {
         1 => text.push_str("1 thread"),
-        _ => write!(text, "{core} threads"),
+        _ => write!(text, "{least} threads"),
     }
 }
 

@@ -1,6 +1,6 @@
 //! The annotations for the sizes to change, or for the reason why no sizes were found.
 
-ghost use Rattle.std.specs.Prelude.{◌≡◌, IfOk, option_map, string_bytes};
+ghost use Rattle.std.specs.Prelude.{◌≡◌, IfOk, decimal, option_map, string_bytes};
 ghost use Rattle.report.specs.Annotations.{Adds};
 ghost use Rattle.report.specs.Remarks as spec;
 
@@ -8,6 +8,7 @@ use crate::annotation::{Annotation, Rule};
 use crate::annotations::push;
 use crate::cause_lines::push_cause_words;
 use crate::json_places::{cause_place, pool_places_at};
+use crate::size_lines::{has_useless_max, push_max_size};
 use diagnostics::{PlanPlaces, PoolPlaces};
 use job_bodies::{Plan, Pool};
 use plan_text::TextPlace;
@@ -104,8 +105,7 @@ fn push_pool(
     push_limits(alloc, found, rule, places, declared, fit)
 }
 
-/// Appends the annotations for changes of the pool's maximum and queue capacity. Appends nothing if
-/// the queue is unbounded, because the maximum and the capacity then have no effect.
+/// Appends the annotations for changes of the pool's maximum and queue capacity.
 fn push_limits(
     alloc: Global,
     found: &mut Vec<Annotation>,
@@ -117,14 +117,48 @@ fn push_limits(
     ensures { Adds result found.old.items found.new.items
         (spec.limit_remarks rule places declared.now fit.now) }
 {
+    push_max(alloc, found, rule, places.max, declared, fit)?;
+    push_queue(alloc, found, rule, places.queue, declared, fit)
+}
+
+/// Appends an annotation if the pool's maximum changes and has an effect.
+fn push_max(
+    alloc: Global,
+    found: &mut Vec<Annotation>,
+    rule: Rule,
+    place: Option<TextPlace>,
+    declared: &Pool,
+    fit: &Pool,
+) -> Result<(), AllocError>
+    ensures { Adds result found.old.items found.new.items
+        (spec.max_remarks rule place declared.now fit.now) }
+{
+    if has_useless_max(fit) || declared.max == fit.max {
+        return Ok(());
+    }
+    let words = max_words(alloc, declared, fit)?;
+    push(alloc, found, rule, &words, place)
+}
+
+/// Appends an annotation if the capacity of the pool's queue changes. Appends nothing if the queue
+/// is unbounded, because the capacity then has no effect.
+fn push_queue(
+    alloc: Global,
+    found: &mut Vec<Annotation>,
+    rule: Rule,
+    place: Option<TextPlace>,
+    declared: &Pool,
+    fit: &Pool,
+) -> Result<(), AllocError>
+    ensures { Adds result found.old.items found.new.items
+        (spec.queue_remarks rule place declared.now fit.now) }
+{
     if fit.unbounded {
         return Ok(());
     }
     let pool = declared.name.as_str();
-    let max = (declared.max, fit.max);
-    push_change(alloc, found, rule, places.max, pool, "max", max)?;
     let queue = (declared.queue, fit.queue);
-    push_change(alloc, found, rule, places.queue, pool, "queue", queue)
+    push_change(alloc, found, rule, place, pool, "queue", queue)
 }
 
 /// Appends an annotation if the size `key` changes. The first element of `size` is the declared
@@ -148,14 +182,26 @@ fn push_change(
     push(alloc, found, rule, &words, place)
 }
 
+fn max_words(alloc: Global, declared: &Pool, fit: &Pool) -> Result<String, AllocError>
+    ensures { IfOk result (λ words. string_bytes words ≡ spec.max_words declared.now fit.now) }
+{
+    let mut words = String::new(alloc);
+    let pool = declared.name.as_str();
+    write!(words, "pool {pool}: max ")?;
+    push_max_size(&mut words, declared)?;
+    words.push_str(" -> ")?;
+    push_max_size(&mut words, fit)?;
+    Ok(words)
+}
+
 fn change_words(
     alloc: Global,
     pool: &str,
     key: &str,
     size: (u64, u64),
 ) -> Result<String, AllocError>
-    ensures { IfOk result
-        (λ words. string_bytes words ≡ spec.change_words pool.now key.now size.0 size.1) }
+    ensures { IfOk result (λ words. string_bytes words
+        ≡ spec.change_words pool.now key.now (decimal size.0) (decimal size.1)) }
 {
     let declared = size.0;
     let fit = size.1;

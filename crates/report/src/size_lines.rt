@@ -34,20 +34,53 @@ fn push_pool(text: &mut String, declared: &Pool, fit: &Pool) -> Result<(), Alloc
     let name = &fit.name;
     write!(text, "pool {name}: core ")?;
     push_size(text, declared.core, fit.core)?;
-    push_limits(text, declared, fit)?;
+    push_max(text, declared, fit)?;
+    push_queue(text, declared, fit)?;
     text.push('\n')
 }
 
-/// Appends the maximum and the queue capacity of a pool. If the queue is unbounded, omits the
-/// maximum, because it has no effect.
-fn push_limits(text: &mut String, declared: &Pool, fit: &Pool) -> Result<(), AllocError>
-    ensures { Pushes result text.old text.new (spec.limits_text declared.now fit.now) }
+/// Appends the maximum of a pool, unless it [has no effect](has_useless_max).
+fn push_max(text: &mut String, declared: &Pool, fit: &Pool) -> Result<(), AllocError>
+    ensures { Pushes result text.old text.new (spec.max_part declared.now fit.now) }
+{
+    if has_useless_max(fit) {
+        return Ok(());
+    }
+    text.push_str(", max ")?;
+    push_max_size(text, fit)?;
+    if declared.max == fit.max {
+        return Ok(());
+    }
+    text.push_str(" (now ")?;
+    push_max_size(text, declared)?;
+    text.push_str(")")
+}
+
+/// Returns whether the maximum of the pool has no effect: its queue is unbounded, and its core
+/// threads never time out.
+pub(crate) fn has_useless_max(pool: &Pool) -> bool
+    ensures { result ≡ spec.has_useless_max pool.now }
+{
+    pool.unbounded && !pool.core_timeout
+}
+
+/// Appends the maximum of the pool, or `unbounded` if the pool has none.
+pub(crate) fn push_max_size(text: &mut String, pool: &Pool) -> Result<(), AllocError>
+    ensures { Pushes result text.old text.new (spec.max_size pool.now) }
+{
+    if pool.has_no_max() {
+        return text.push_str("unbounded");
+    }
+    let max = pool.max;
+    write!(text, "{max}")
+}
+
+fn push_queue(text: &mut String, declared: &Pool, fit: &Pool) -> Result<(), AllocError>
+    ensures { Pushes result text.old text.new (spec.queue_part declared.now fit.now) }
 {
     if fit.unbounded {
         return text.push_str(", queue unbounded");
     }
-    text.push_str(", max ")?;
-    push_size(text, declared.max, fit.max)?;
     text.push_str(", queue ")?;
     push_size(text, declared.queue, fit.queue)
 }
@@ -62,12 +95,12 @@ fn push_size(text: &mut String, declared: u64, fit: u64) -> Result<(), AllocErro
     }
 }
 
-/// Returns the number of sizes of the pool that change. For a pool with an unbounded queue, all
-/// sizes count as one, because only the core size has an effect.
+/// Returns the number of sizes of the pool that change. If the maximum [has no
+/// effect](has_useless_max), all sizes count as one, because only the core size has an effect.
 fn pool_changes(declared: &Pool, fit: &Pool) -> u64
     ensures { result ≡ spec.pool_changes declared.now fit.now }
 {
-    if fit.unbounded {
+    if has_useless_max(fit) {
         return any_changed(declared, fit);
     }
     u64::from(declared.core != fit.core)

@@ -1,6 +1,6 @@
 //! The lines of a story that show the state of the pools.
 
-ghost use Rattle.std.specs.Prelude.{◌≡◌, flat_map};
+ghost use Rattle.std.specs.Prelude.{◌≡◌, decimal, flat_map};
 ghost use Rattle.std.specs.List.{enumerate_from};
 ghost use Rattle.support.specs.Pushed.{Pushes};
 ghost use Rattle.interleaving.specs.OfPlan.{IsReachableView};
@@ -8,12 +8,13 @@ ghost use Rattle.report.specs.Story as spec;
 ghost use Rattle.report.specs.StorySeen.{pool_line_seen};
 
 use interleaving::World;
-use job_bodies::{Plan, Pool};
+use job_bodies::{MAX_THREADS, Plan, Pool};
 use pool_machine::PoolState;
 use std::alloc::AllocError;
 
 /// Appends a line for each pool, such as `pool db: threads 10 of 10, idle 0, queued 190 of 190`.
 /// For a pool with an unbounded queue, the line ends with, for example, `queued 190 of unbounded`.
+/// For a pool without a maximum, it has, for example, `threads 10 of unbounded`.
 ///
 /// # Errors
 ///
@@ -38,24 +39,47 @@ fn push_pool(text: &mut String, pool: &Pool, state: &PoolState) -> Result<(), Al
 {
     let name = pool.name.as_str();
     let threads = state.threads();
-    let most = most_threads(state);
+    write!(text, "pool {name}: threads {threads} of ")?;
+    push_most_threads(text, state)?;
     let idle = state.idle();
     let queued = state.queued();
-    write!(
-        text,
-        "pool {name}: threads {threads} of {most}, idle {idle}"
-    )?;
-    write!(text, ", queued {queued} of ")?;
+    write!(text, ", idle {idle}, queued {queued} of ")?;
     push_capacity(text, state)?;
     text.push('\n')
 }
 
-/// Returns the greatest number of threads that the pool can have: the core size if its queue is
-/// unbounded, and otherwise its maximum.
+/// Appends the greatest number of threads that the pool can have, or `unbounded` if the pool has no
+/// maximum.
+fn push_most_threads(text: &mut String, state: &PoolState) -> Result<(), AllocError>
+    ensures { Pushes result text.old text.new (spec.most_text state.now) }
+{
+    if has_no_max(state) {
+        text.push_str("unbounded")
+    } else {
+        push_number(text, most_threads(state))
+    }
+}
+
+fn push_number(text: &mut String, number: u64) -> Result<(), AllocError>
+    ensures { Pushes result text.old text.new (decimal number) }
+{
+    write!(text, "{number}")
+}
+
+/// Returns whether the pool has no maximum: its core threads may time out, its queue is unbounded,
+/// and its maximum is [`MAX_THREADS`].
+fn has_no_max(state: &PoolState) -> bool
+    ensures { result ≡ spec.has_no_max state.now }
+{
+    state.has_core_timeout() && state.is_unbounded() && state.max() == MAX_THREADS
+}
+
+/// Returns the greatest number of threads that the pool can have: its maximum. If the queue is
+/// unbounded and core threads never time out, this is the core size.
 fn most_threads(state: &PoolState) -> u64
     ensures { result ≡ spec.most_threads state.now }
 {
-    if state.is_unbounded() {
+    if state.is_unbounded() && !state.has_core_timeout() {
         state.core()
     } else {
         state.max()

@@ -36,7 +36,8 @@ pub(crate) fn push_step(text: &mut String, plan: &Plan, step: EventStep) -> Resu
 {
     let submitted = submitted_name(plan, step.actor, step.action);
     let taken = taken_name(plan, step.taken);
-    push_act(text, plan, submitted, taken, step.outcome)
+    let timeout = may_time_out(plan, step.actor);
+    push_act(text, plan, submitted, taken, timeout, step.outcome)
 }
 
 /// Returns the name of the class that the actor's action submits, or an empty name if `action` is
@@ -75,18 +76,32 @@ fn taken_name(plan: &Plan, taken: Option<usize>) -> &str
     }
 }
 
+/// Returns whether the actor is a thread of a pool whose core threads may time out.
+pub(crate) fn may_time_out(plan: &Plan, actor: Actor) -> bool
+    ensures { result ≡ spec.may_time_out plan.now actor }
+{
+    match actor {
+        Actor::Client(_, _) | Actor::Job(_, _) => false,
+        Actor::Pool(pool) => match plan.pool_at(pool) {
+            Some(pool) => pool.core_timeout,
+            None => false,
+        },
+    }
+}
+
 /// Appends what an actor did. `submitted` is the name of the class whose job the actor submitted.
-/// `taken` is the name of the class whose job the actor took. A name that the outcome does not need
-/// is ignored.
+/// `taken` is the name of the class whose job the actor took. `timeout` is whether the actor is a
+/// thread of a pool whose core threads may time out. What the outcome does not need is ignored.
 fn push_act(
     text: &mut String,
     plan: &Plan,
     submitted: &str,
     taken: &str,
+    timeout: bool,
     outcome: Outcome,
 ) -> Result<(), AllocError>
     ensures { Pushes result text.old text.new
-        (spec.act_text plan.now submitted.now taken.now outcome) }
+        (spec.act_text plan.now submitted.now taken.now timeout outcome) }
 {
     match outcome {
         Outcome::Started(_) => push_submit(text, submitted, " (a new thread starts it)"),
@@ -102,7 +117,17 @@ fn push_act(
         Outcome::Looped => text.push_str("begins again"),
         Outcome::Finished(_) => text.push_str("is done"),
         Outcome::Took(_) => push_named(text, "a thread takes ", taken),
-        Outcome::Retired => text.push_str("a thread ends"),
+        Outcome::Retired => text.push_str(retired_words(timeout)),
+    }
+}
+
+fn retired_words(timeout: bool) -> &'static str
+    ensures { result.now ≡ spec.retired_words timeout }
+{
+    if timeout {
+        "an idle thread times out"
+    } else {
+        "a thread ends"
     }
 }
 

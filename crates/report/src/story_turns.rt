@@ -8,18 +8,20 @@ ghost use Rattle.report.specs.Story as spec;
 ghost use Rattle.report.specs.StorySeen.{turn_seen};
 
 use crate::event_steps::{Actor, EventStep};
-use crate::story_steps::{push_actor, push_step};
+use crate::story_steps::{may_time_out, push_actor, push_step};
 use interleaving::Outcome;
 use job_bodies::Plan;
 use std::alloc::{AllocError, Global};
 
 /// A turn: consecutive steps of one actor, such as `client web: works, submits page (queued)`. If a
-/// client starts its body again, its next step begins a new turn.
+/// client starts its body again, its next step begins a new turn. A thread that times out is a turn
+/// of its own.
 #[derive(Drop)]
 pub(crate) struct Turn {
     pub(crate) actor: Actor,
     pub(crate) text: String,
-    /// Whether the last step of this turn is that the client starts its body again.
+    /// Whether the last step of this turn is that the client starts its body again or that a thread
+    /// times out.
     pub(crate) is_ended: bool,
     /// The number of steps in this turn and in all turns before it.
     pub(crate) end: usize,
@@ -98,9 +100,9 @@ fn after_step(
         ≡ map turn_seen turns.old.items ++ spec.turns_from plan.now (turn_seen turn) (step ∷ rest)) }
     ensures end { IfOk result (λ next. next.end ≡ turn.end + 1) }
 {
-    if is_continued(&turn, step) {
+    if is_continued(plan, &turn, step) {
         push_to_turn(&mut turn.text, plan, step)?;
-        turn.is_ended = ends_turn(step.outcome);
+        turn.is_ended = ends_turn(plan, step.actor, step.outcome);
         turn.end += 1;
         Ok(turn)
     } else {
@@ -129,18 +131,28 @@ fn new_turn(
     Ok(Turn {
         actor: step.actor,
         text,
-        is_ended: ends_turn(step.outcome),
+        is_ended: ends_turn(plan, step.actor, step.outcome),
         end: before + 1,
     })
 }
 
-/// Returns whether a step with this outcome ends its turn: whether the client starts its body
-/// again.
-fn ends_turn(outcome: Outcome) -> bool
-    ensures { result ≡ spec.ends_turn outcome }
+/// Returns whether a step of this actor with this outcome ends its turn: whether the client starts
+/// its body again, or a thread times out.
+fn ends_turn(plan: &Plan, actor: Actor, outcome: Outcome) -> bool
+    ensures { result ≡ spec.ends_turn plan.now actor outcome }
 {
     match outcome {
         Outcome::Looped => true,
+        _ => is_timeout(plan, actor, outcome),
+    }
+}
+
+/// Returns whether a thread ends in a pool whose core threads may time out.
+fn is_timeout(plan: &Plan, actor: Actor, outcome: Outcome) -> bool
+    ensures { result ≡ spec.is_timeout plan.now actor outcome }
+{
+    match outcome {
+        Outcome::Retired => may_time_out(plan, actor),
         _ => false,
     }
 }
@@ -152,10 +164,12 @@ fn push_to_turn(text: &mut String, plan: &Plan, step: EventStep) -> Result<(), A
     push_step(text, plan, step)
 }
 
-fn is_continued(turn: &Turn, step: EventStep) -> bool
-    ensures { result ≡ spec.is_continued (turn_seen turn.now) step }
+fn is_continued(plan: &Plan, turn: &Turn, step: EventStep) -> bool
+    ensures { result ≡ spec.is_continued plan.now (turn_seen turn.now) step }
 {
-    !turn.is_ended && is_same_actor(turn.actor, step.actor)
+    !turn.is_ended
+        && !is_timeout(plan, step.actor, step.outcome)
+        && is_same_actor(turn.actor, step.actor)
 }
 
 fn is_same_actor(actor: Actor, other: Actor) -> bool

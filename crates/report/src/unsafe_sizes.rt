@@ -85,6 +85,9 @@ fn push_advice_for_cause(text: &mut String, cause: NoSizes) -> Result<(), AllocE
         NoSizes::Cause(Cause::ClientNeverGets(_, _) | Cause::ClassNeverGets(_, _)) => text.push_str(
             "no certificate accepts any sizes while nobody waits for these jobs: get the result, or bound them by permits (docs/PERMITS.md)\n",
         ),
+        NoSizes::Cause(Cause::PoolWaitsForItself(_)) => text.push_str(
+            "no certificate accepts any sizes while core threads of this pool may time out: do not allow it (Spring Boot: spring.task.execution.pool.allow-core-thread-timeout=false), or give the inner jobs a pool of their own\n",
+        ),
         NoSizes::TooLarge(_) => text.push_str(
             "fewer clients, or bodies with fewer open jobs at a time, need less\n",
         ),

@@ -63,9 +63,10 @@ const h = (name, attributes, ...children) => make(name, null, attributes, childr
 const text = (x, y, words, kind = "", anchor = "start") =>s("text", {x, y, class: kind || null, "text-anchor": anchor}, String(words));const rect = (x, y, width, height, style, more) =>
 s("rect", {x, y, width: Math.max(width, 0), height, rx: 3, style, ...more});const line = (x1, y1, x2, y2, style) => s("line", {x1, y1, x2, y2, style: style || "stroke:var(--line)"});
 const number = value => value.toLocaleString("en-US");const isUnbounded = pool => pool.queue === "unbounded";const capacity = pool => isUnbounded(pool) ? "unbounded" : number(pool.queue);
-const mostThreads = pool => isUnbounded(pool) ? pool.core : pool.max;const plural = (count, word) => `${number(count)} ${word}${count === 1 ? "" : "s"}`;
-const width = words => String(words).length * 6.6;function short(words, room) {const most = Math.max(Math.floor(room / 7.2), 2);return words.length <= most ? words : `${words.slice(0, most - 1)}\u2026`;}
-function someOf(names, most) {return names.length <= most + 1 ? names.join(", ") :
+const hasMax = pool => !isUnbounded(pool) || pool.core_timeout;const mostThreads = pool => hasMax(pool) ? pool.max : pool.core;
+const plural = (count, word) => `${number(count)} ${word}${count === 1 ? "" : "s"}`;const width = words => String(words).length * 6.6;function short(words, room) {
+const most = Math.max(Math.floor(room / 7.2), 2);return words.length <= most ? words : `${words.slice(0, most - 1)}\u2026`;}function someOf(names, most) {
+return names.length <= most + 1 ? names.join(", ") :
 `${names.slice(0, most).join(", ")} and ${names.length - most} more`;}function coded(words) { return words.split("`").map((part, at) => at % 2 ? h("code", {}, part) : part); }
 function drawing(height, label, ...parts) {const marks = {viewBox: "0 0 10 10", refX: 9, refY: 5, markerWidth: 7, markerHeight: 7, orient: "auto-start-reverse"};
 const arrow = s("marker", {id: "arrow", ...marks}, s("path", {d: "M0 0L10 5L0 10z", style: "fill:context-stroke"}));const waits =
@@ -167,24 +168,25 @@ function boundRows(plan, pool) {const {blocked} = pool;const waits = blocked.mos
 bound.clients.map(each => ({count: each.jobs, color: plan.color("client", each.name), label: each.name}));
 parts.push(...bound.threads.map(each => ({count: each.jobs, color: "var(--c6)", label: `from ${each.name}`})));const isLifetime = bound.kind === "lifetime";if (isUnbounded(pool)) {
 const most = isLifetime ? `at most ${plural(bound.total, "job")} in all` : `at most ${plural(bound.total, "job")} at once`;
-return ["queue", bar(bound.total, parts), `unbounded: ${most}${listOf(parts)}`];}const room = isLifetime ? pool.queue + pool.max - (pool.prestart ? pool.core : 0) : pool.queue;
-const most = isLifetime ? `at most ${plural(bound.total, "job")} in all, and room for ${number(room)}` :
+return ["queue", bar(bound.total, parts), `unbounded: ${most}${listOf(parts)}`];}const hasThreads = isLifetime && !pool.core_timeout;
+const room = hasThreads ? pool.queue + pool.max - (pool.prestart ? pool.core : 0) : pool.queue;const most = isLifetime ? `at most ${plural(bound.total, "job")} in all, and room for ${number(room)}` :
 `at most ${number(bound.total)} of ${number(room)} places in use`;const never = pool.may_reject ? "never rejects: " : "";
-return [isLifetime ? "queue, max" : "queue", bar(room, parts), never + most + listOf(parts)];}function noBoundWords(pool) {if (isUnbounded(pool)) return "unbounded: no bound is known";
+return [hasThreads ? "queue, max" : "queue", bar(room, parts), never + most + listOf(parts)];}function noBoundWords(pool) {if (isUnbounded(pool)) return "unbounded: no bound is known";
 return pool.rejects_after === null ? "may reject" : `may reject: after ${plural(pool.rejects_after, "event")}`;}function endRows(plan, answer, pool, state) {
-const fit = answer.sizes && answer.sizes.pools.find(each => each.name === pool.name);const keys = isUnbounded(pool) ? ["core"] : ["core", "max"], most = mostThreads(pool);
+const fit = answer.sizes && answer.sizes.pools.find(each => each.name === pool.name);const keys = hasMax(pool) ? ["core", "max"] : ["core"], most = mostThreads(pool);
 const more = key => fit && !(key === "queue" && isUnbounded(pool)) ? Math.max(fit[key] - pool[key], 0) : 0;const enough = (...keys) => {
 const changed = keys.filter(more).map(key => `${key} ${number(fit[key])}`);return changed.length ? h("b", {style: "color:var(--good)"}, ` Enough: ${changed.join(", ")}.`) : null;};if (!state) {
-const threads = [keys.join(", "), bar(most, [], more(keys.at(-1))), enough(...keys)];
+const drawn = most === "unbounded" ? [h("div", {}), "unbounded"] : [bar(most, [], more(keys.at(-1))), enough(...keys)];const threads = [keys.join(", "), ...drawn];
 const places = isUnbounded(pool) ? [h("div", {}), "unbounded"] : [bar(pool.queue, [], more("queue")), enough("queue")];return [threads, ["queue", ...places]];}
 const threads = state.threads.get(pool.name), queue = state.queues.get(pool.name);const idle = threads.filter(job => job === null).length;
 const waiting = threads.filter(job => job !== null && state.waits(state.jobs.get(job))).length;const uses = [{count: threads.length - idle - waiting, color: "var(--c2)", label: "at work"},
-{count: waiting, color: "var(--c3)", label: "wait"},{count: idle, color: "var(--c6)", label: "idle"},];const started = `${number(threads.length)} of ${number(most)} started${listOf(uses)}.`;
+{count: waiting, color: "var(--c3)", label: "wait"},{count: idle, color: "var(--c6)", label: "idle"},];
+const limit = most === "unbounded" ? threads.length : most, ofMost = most === "unbounded" ? "" : ` of ${number(most)}`;const started = `${number(threads.length)}${ofMost} started${listOf(uses)}.`;
 const queued = new Map();for (const job of queue) {const {name} = state.jobs.get(job), part = queued.get(name) || {count: 0, color: plan.color("class", name), label: name};
 queued.set(name, {...part, count: part.count + 1});}const refuses = h("b", {style: "color:var(--bad)"}, " The next submit is refused.");const room = isUnbounded(pool) ? 0 : pool.queue;
 const inUse = room ? `${number(queue.length)} of ${number(room)} places in use` :
 `${plural(queue.length, "job")} ${isUnbounded(pool) ? "in the unbounded queue" : "handed to idle threads"}`;const places = `${inUse}${listOf([...queued.values()])}.`;return [
-["threads", bar(most, uses, more(keys.at(-1))), [started, enough(...keys)]],["queue", bar(room || queue.length, [...queued.values()], more("queue")),
+["threads", bar(limit, uses, more(keys.at(-1))), [started, enough(...keys)]],["queue", bar(room || queue.length, [...queued.values()], more("queue")),
 [places, answer.witness.ending.pool === pool.name ? refuses : null, enough("queue")]],];}function listOf(parts) {
 const named = parts.filter(each => each.count).map(each => `${number(each.count)} ${each.label}`);return named.length ? `: ${someOf(named, 4)}` : "";}function pools(plan, answer, state) {
 const isSafe = answer.answer === "SAFE";const shown = answer.pools.map(pool => {const changes = answer.sizes && answer.sizes.pools.some(each => each.name === pool.name && each.changes.length);
@@ -195,8 +197,9 @@ const few = shown.length <= MOST_POOLS, first = few ? shown : shown.filter(each 
 "The pools after the last event.";const unused = isSafe || rest.some(each => each.isUsed) ? "" : ", which no event has used";
 return section("pools", "Pools", isSafe || state ? h("p", {class: "muted"}, note) : null, first.map(each => each.row),
 rest.length ? folded(plural(rest.length, "other pool") + unused, false, rest.map(each => each.row)) : null);}function poolRow(pool, rows) {const rejects = pool.may_reject && !isUnbounded(pool);
-const flags = `${pool.prestart ? ", prestarted" : ""}${rejects ? ", may reject" : ""}`;const max = isUnbounded(pool) ? "" : `, max ${number(pool.max)}`;
-const declared = `core ${number(pool.core)}${max}, queue ${capacity(pool)}${flags}`;const waits = pool.waits_for.length ? h("div", {class: "muted"}, `waits for ${someOf(pool.waits_for, 5)}`) : null;
+const timeout = pool.core_timeout ? ", core threads may time out" : "";const flags = `${pool.prestart ? ", prestarted" : ""}${timeout}${rejects ? ", may reject" : ""}`;
+const max = hasMax(pool) ? `, max ${number(pool.max)}` : "";const declared = `core ${number(pool.core)}${max}, queue ${capacity(pool)}${flags}`;
+const waits = pool.waits_for.length ? h("div", {class: "muted"}, `waits for ${someOf(pool.waits_for, 5)}`) : null;
 const bars = rows.map(([label, drawn, words]) => [h("div", {class: "label"}, label), drawn, h("div", {}, words)]);return h("div", {class: "pool"},
 h("div", {}, h("div", {class: "name"}, pool.name), h("div", {class: "muted"}, declared), waits),h("div", {class: "bars"}, bars));}function timeline(plan, story) {
 const {columns, shown, clients, lanes} = story;const wide = Math.min(104, (WIDTH - LEFT - 4) / shown.length), x = at => LEFT + at * wide, right = x(shown.length);const parts = [];
@@ -281,7 +284,8 @@ const labelled = [...boxes.values()].map(box => ({...box,label: box.jobs.length 
 const {boxes, edges} = waitersOf(state, waits), label = key => boxes.find(box => box.key === key).label;const list = h("ul", {}, boxes.map(box => {
 const others = edges.filter(edge => edge.from === box.key).map(edge => label(edge.to)), many = box.jobs.length > 1;const gets = many ? `have threads of ${box.pool} and wait at their gets of` :
 `has a thread of ${box.pool} and waits at its get of`;const isQueued = `${many ? "are" : "is"} in the queue of ${box.pool}, whose threads run`;const holds = ` ${box.at === "get" ? gets : isQueued} `;
-return h("li", {}, h("b", {}, box.label), holds, h("b", {}, someOf(others, 7)));}));const until = kind === "stuck now" ? "They make progress when another submit starts a thread above core." :
+return h("li", {}, h("b", {}, box.label), holds, h("b", {}, someOf(others, 7)));}));const started = plan.pools.some(pool => pool.core_timeout) ? "a thread" : "a thread above core";
+const until = kind === "stuck now" ? `They make progress when another submit starts ${started}.` :
 "No event can end this: no thread that they need becomes free.";return [h("h3", {}, "The jobs that wait for each other"), h("p", {class: "muted"}, until),
 boxes.length <= MOST_RING ? [ring(plan, boxes, edges), folded("As a list", false, list)] :
 folded(`Who waits for whom: ${plural(jobs.length, "job")}`, false, list)
@@ -336,9 +340,9 @@ const along = (from, control1, control2, to) =>(1 - at) ** 3 * from + 3 * (1 - a
 while (at < .5 && along(x1, x, x, x2) < x1 + 40) at += .01;return [along(x1, x, x, x2), along(y1, y1, y2, y2) - 5];}function graph(plan, rows, depth, levels) {
 const step = Math.min(330, (WIDTH - 230) / levels.length), box = Math.min(205, step - 60), grounds = [], front = [];const places = new Map(), tops = new Map();for (const pool of plan.pools) {
 const level = levels.indexOf(depth.get(pool.name)), x = 270 + level * step, y = tops.get(level) || 4;const boxes = boxesOf(plan, rows, pool), tall = 46 + 31 * Math.max(boxes.length, 1);
-const most = mostThreads(pool);const threads = pool.core === most ? plural(pool.core, "thread") : `${number(pool.core)}\u2013${number(most)} threads`;
-grounds.push(rect(x, y, box, tall, "fill:var(--inset);stroke:var(--edge)", {rx: 8}));front.push(text(x + 12, y + 19, short(pool.name, box - 20), "strong"),
-text(x + 12, y + 35, short(`${threads}, queue ${capacity(pool)}`, 1.2 * box), "small dim"));boxes.forEach((names, row) => {
+const most = mostThreads(pool);const range = most === "unbounded" ? `${number(pool.core)} or more` : `${number(pool.core)}\u2013${number(most)}`;
+const threads = pool.core === most ? plural(pool.core, "thread") : `${range} threads`;grounds.push(rect(x, y, box, tall, "fill:var(--inset);stroke:var(--edge)", {rx: 8}));
+front.push(text(x + 12, y + 19, short(pool.name, box - 20), "strong"),text(x + 12, y + 35, short(`${threads}, queue ${capacity(pool)}`, 1.2 * box), "small dim"));boxes.forEach((names, row) => {
 const top = y + 43 + row * 31, label = names.length === 1 ? names[0] : `${names[0]} and ${names.length - 1} more`;
 front.push(rect(x + 12, top, box - 24, 25, `fill:${plan.color("class", names[0])}`, {rx: 5}),text(x + box / 2, top + 17, short(label, box - 30), "on", "middle"));
 for (const name of names) places.set(`class ${name}`, [x + 12, x + box - 12, top + 13]);});tops.set(level, y + tall + 20);}let y = 4;for (const kind of plan.clients) {

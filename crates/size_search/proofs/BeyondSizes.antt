@@ -3,7 +3,7 @@ use Rattle.std.proofs.Common.{◌≡◌, ℕ, ◌<◌, ◌≤◌, true, false, L
 use Rattle.std.proofs.lemmas.Bool.{false≢true, or_parts}
 use Rattle.job_bodies.specs.declared.action.Action.{Action}
 use Rattle.job_bodies.specs.declared.action.Action.TheVariants.{Submit}
-use Rattle.job_bodies.specs.Plan.{Pool, Class, Client, Plan, no_class, no_client, pool_at, class_at, client_at, needs_no_bound, submitted_class, class_of_submit}
+use Rattle.job_bodies.specs.Plan.{Class, Client, Plan, no_class, no_client, pool_at, class_at, client_at, needs_no_bound, submitted_class, class_of_submit}
 use Rattle.job_bodies.specs.WellFormed.{IsWellFormed}
 use Rattle.job_bodies.proofs.Bodies.{ordered}
 use Rattle.weights.specs.declared.bound.Bound.{Bound}
@@ -19,6 +19,7 @@ use Rattle.size_search.specs.Widened.{outline}
 use Rattle.size_search.specs.NoSizesHelp.{IsBeyondSizes, NoSizesHelp}
 use Rattle.size_search.proofs.Changes.{pool_at-outline}
 use Rattle.size_search.proofs.Circles.{submitted_in, sinks_below}
+use Rattle.size_search.proofs.LastThreads.{pool_waits_for_itself}
 use Rattle.size_search.proofs.Losses.{class_submitted}
 use Rattle.size_search.proofs.Repeats.{IsWeighed, lighter_without_get, repeats_with_gets, none_is_lighter}
 
@@ -129,4 +130,4 @@ class_never_gets plan k i lost other cert well same is_accepted =
     })
 
 pub no_sizes_help : NoSizesHelp
-no_sizes_help = record { circle = circle; client_never_gets = client_never_gets; class_never_gets = class_never_gets }
+no_sizes_help = record { circle = circle; client_never_gets = client_never_gets; class_never_gets = class_never_gets; pool_waits_for_itself = pool_waits_for_itself }

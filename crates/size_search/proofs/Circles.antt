@@ -1,6 +1,6 @@
 -- No class of an accepted plan submits itself, because the classes that a class submits have lower levels.
-use Rattle.std.proofs.Common.{◌≡◌, ℕ, suc, ◌<◌, List, [], ◌∷◌, get_or, slice_get, Some, ⊎_elim, refl, sym, subst, arith}
-use Rattle.support.specs.In.{In, here, there}
+use Rattle.std.proofs.Common.{◌≡◌, ℕ, ◌<◌, List, [], ◌∷◌, get_or, ⊎_elim, sym, subst, arith}
+use Rattle.support.specs.In.{In}
 use Rattle.support.proofs.Members.{not_In_nil, In-cons_cases}
 use Rattle.job_bodies.specs.declared.action.Action.{Action}
 use Rattle.job_bodies.specs.declared.action.Action.TheVariants.{Submit}
@@ -8,11 +8,7 @@ use Rattle.job_bodies.specs.Plan.{Class, Plan, no_class, class_at}
 use Rattle.weights.specs.Ranks.{Ranks, level}
 use Rattle.soundness.proofs.RankLaws.{RankLaws}
 use Rattle.size_search.specs.Submitted.{IsSubmitted, begins, follows}
-
--- an element of a list has an index
-pub position_of : {X : Type 0} {x : X} {xs : List X} → In x xs → (i : ℕ) × (slice_get xs i ≡ Some x)
-position_of here = (0, refl)
-position_of (there at) = let found = position_of at in (suc found.0, found.1)
+use Rattle.size_search.proofs.Opened.{place_in}
 
 -- plans with the same classes submit the same classes
 pub submitted_in : (plan other : Plan) (bodies : List (List Action)) → other.classes ≡ plan.classes → {k : ℕ} → IsSubmitted plan bodies k → IsSubmitted other bodies k
@@ -25,10 +21,10 @@ pub sinks_below : (plan : Plan) (ranks : Ranks) (k : ℕ) → RankLaws plan rank
 sinks_below plan ranks k laws (begins {k = j} {body = body} from at) =
     ⊎_elim
     (λ (same : body ≡ (class_at plan k).body).
-    let found = position_of (subst (In (Submit j)) same at) in
+    let found = place_in (subst (In (Submit j)) same at) in
     omega (arith, laws.sinks k found.0 j found.1))
     (λ none. absurd (not_In_nil none))
     (In-cons_cases from)
 sinks_below plan ranks k laws (follows {j = i} {k = j} known at) =
-    let found = position_of at in
+    let found = place_in at in
     omega (arith, laws.sinks i found.0 j found.1, sinks_below plan ranks k laws known)

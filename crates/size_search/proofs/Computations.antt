@@ -5,13 +5,12 @@ use Rattle.std.proofs.lemmas.Option.{slice_get-get_or}
 use Rattle.job_bodies.specs.declared.action.Action.{Action}
 use Rattle.job_bodies.specs.declared.action.Action.TheVariants.{Work, Submit, Get}
 use Rattle.job_bodies.specs.declared.limits.TheConstants.{MAX_ACTIONS, MAX_WEIGHT}
-use Rattle.job_bodies.specs.Plan.{Plan, class_at, submitted_class, has_get_of}
+use Rattle.job_bodies.specs.Plan.{Plan, submitted_class, has_get_of}
 use Rattle.job_bodies.specs.ValidBody.{IsValidBody}
 use Rattle.weights.specs.Vector.{Vector, queued_weight, done_weight}
 use Rattle.size_search.specs.Small.{JobsAreSmall}
-use Rattle.size_search.specs.Steady.{sum_below, greatest_upto, submitted_weight, awaited_weight, open_weight, weight_at, weights_from, level_above, levels_within}
+use Rattle.size_search.specs.Steady.{sum_below, greatest_upto, submitted_weight, awaited_weight, open_weight, weight_at, weights_from}
 use Rattle.size_search.proofs.Opened.{rest_at, open-work, open-submit, open-get}
-use Rattle.size_search.proofs.Depths.{level-step}
 
 -- ---- open jobs
 
@@ -89,20 +88,6 @@ longer_rest body behind position x inside is at =
 
 pub reverse-cons : {X : Type 0} (x : X) (xs : List X) → reverse (x ∷ xs) ≡ reverse xs ++ x ∷ []
 reverse-cons x xs = reverse-append (x ∷ []) xs
-
--- ---- levels
-
-pub level-le : (plan : Plan) (n k : ℕ) → get_or (levels_within plan n) k 0 ≤ n
-level-le plan zero k = omega arith
-level-le plan (suc n) k = omega (arith, level-step plan n k, above-le (levels_within plan n) (class_at plan k).body n (level-le plan n))
-  where
-    above-le : (levels : List ℕ) (body : List Action) (m : ℕ) → ((j : ℕ) → get_or levels j 0 ≤ m) → level_above levels body ≤ suc m
-    above-le levels [] m each = omega arith
-    above-le levels (Work u ∷ rest) m each = above-le levels rest m each
-    above-le levels (Submit j ∷ rest) m each =
-        let step : level_above levels (Submit j ∷ rest) ≡ max (get_or levels j 0 + 1) (level_above levels rest) = refl in
-        omega (arith, step, each j, above-le levels rest m each)
-    above-le levels (Get t ∷ rest) m each = above-le levels rest m each
 
 -- ---- contracts
 

@@ -9,7 +9,8 @@ use Rattle.weights.specs.Vector.{has_small_numbers}
 use Rattle.cert_text.specs.Cert.{Cert}
 use Rattle.size_search.specs.Fitted.{NoneFits}
 use Rattle.size_search.specs.Widened.{widened, NoneFitsWide}
-use Rattle.size_search.specs.Submitted.{IsAllGot, IsWithoutCause}
+use Rattle.size_search.specs.Waiting.{IsSteady}
+use Rattle.size_search.specs.Causes.{IsWithoutCause}
 use Rattle.size_search.specs.Steady.{steady_vector, steady_total, steady_cert}
 use Rattle.size_search.specs.NoSizesHelp.{HasSizes}
 use Rattle.size_search.proofs.SizesExist.{free_where_sizes}
@@ -42,14 +43,14 @@ decided_without_cause plan (NotFound (TooLarge p)) free large = (free, large.1)
 
 -- ---- the steady certificate is fitted, unless its total is at least the limit of sizes
 
-pub too_high_where_not_wide : (plan : Plan) (cert : Cert) → IsWellFormed plan → IsAllGot plan → IsTrue (has_small_numbers (steady_vector plan)) → cert ≡ steady_cert plan → NoneFitsWide plan cert → MAX_SIZE ≤ steady_total plan
+pub too_high_where_not_wide : (plan : Plan) (cert : Cert) → IsWellFormed plan → IsSteady plan → IsTrue (has_small_numbers (steady_vector plan)) → cert ≡ steady_cert plan → NoneFitsWide plan cert → MAX_SIZE ≤ steady_total plan
 too_high_where_not_wide plan cert well free small is none =
     elim (cases_lt (steady_total plan) MAX_SIZE) [
       | inl low ↦ absurd (some_fit_wide plan well free small low (subst (NoneFitsWide plan) is none))
       | inr high ↦ high
     ]
 
-pub too_high_where_not_fitted : (plan wide : Plan) (cert : Cert) → IsWellFormed plan → IsAllGot plan → IsTrue (has_small_numbers (steady_vector plan)) → cert ≡ steady_cert plan → wide ≡ widened plan cert → NoneFits wide cert
+pub too_high_where_not_fitted : (plan wide : Plan) (cert : Cert) → IsWellFormed plan → IsSteady plan → IsTrue (has_small_numbers (steady_vector plan)) → cert ≡ steady_cert plan → wide ≡ widened plan cert → NoneFits wide cert
     → MAX_SIZE ≤ steady_total plan
 too_high_where_not_fitted plan wide cert well free small is wide_is none =
     elim (cases_lt (steady_total plan) MAX_SIZE) [

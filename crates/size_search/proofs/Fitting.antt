@@ -1,13 +1,13 @@
 -- The steady certificate fits its plan.
-use Rattle.std.proofs.Common.{◌≡◌, ℕ, zero, suc, ◌+◌, true, List, [], ◌∷◌, ◌++◌, length, map, get_or, Bool, false, refl, ap, sym, subst, ◌∙◌, arith}
+use Rattle.std.proofs.Common.{◌&&◌, ◌≡◌, ℕ, zero, suc, ◌+◌, true, List, [], ◌∷◌, ◌++◌, length, take, drop, get_or, Bool, false, refl, ap, sym, subst, ◌∙◌, arith}
 use Rattle.std.specs.Prelude.{◌==◌}
-use Rattle.std.specs.List.{list_all, enumerate_from}
+use Rattle.std.specs.List.{enumerate_from}
 use Rattle.std.proofs.lemmas.Bool.{and_from, eq-eqb, le-leb}
-use Rattle.std.proofs.lemmas.List.{length-map, get_or-map}
+use Rattle.std.proofs.lemmas.List.{length-map, get_or-map, length-drop, length-take-le, take-append-drop}
 use Rattle.std.proofs.lemmas.Option.{slice_get_within, get_or_from_slice_get}
 use Rattle.std.proofs.lemmas.List.{length-append}
 use Rattle.support.specs.In.{In}
-use Rattle.support.proofs.Members.{list_all_from_In}
+use Rattle.support.proofs.Members.{In-append_left, In-append_right, list_all_from_In}
 use Rattle.job_bodies.specs.Plan.{Pool, Class, Client, Plan, no_pool, pool_at, needs_no_bound, no_class, no_client, class_at, client_at}
 use Rattle.job_bodies.specs.WellFormed.{IsWellFormed}
 use Rattle.job_bodies.proofs.Bodies.{HasValidBodies, ordered}
@@ -16,10 +16,12 @@ use Rattle.weights.specs.Vector.{Vector, class_weights, client_weights, has_shap
 use Rattle.weights.specs.Ranks.{ranks_fit}
 use Rattle.cert_text.specs.Cert.{PoolCert, no_pool_cert, bound_fits, pool_cert_fits, cert_fits}
 use Rattle.size_search.specs.Submitted.{NoCircle}
-use Rattle.size_search.specs.Steady.{job_end, class_row, client_end, client_row, weights_from, level_above, jobs, jobs_within, levels_within, steady_vector, steady_levels, bound_of, steady_pool, steady_ranks, steady_cert}
+use Rattle.size_search.specs.Steady.{job_end, class_row, client_end, client_row, weights_from, jobs, jobs_within, steady_vector, steady_levels, wait_levels, blocked_of, bound_of, part_of, pool_of, steady_pool, steady_ranks, steady_cert}
 use Rattle.size_search.proofs.Opened.{place_in}
 use Rattle.size_search.proofs.Balance.{weights-length}
-use Rattle.size_search.proofs.Depths.{shallow}
+use Rattle.size_search.proofs.Depths.{shallow, as_many_levels}
+use Rattle.size_search.proofs.WaitLevels.{length-wait_levels, wait_level-le}
+use Rattle.size_search.proofs.ZeroVectors.{zero_fits}
 use Rattle.size_search.proofs.SteadyRows.{class_is, client_is}
 use Rattle.size_search.proofs.Holding.{at_number}
 
@@ -28,10 +30,6 @@ use Rattle.size_search.proofs.Holding.{at_number}
 pub as_many_jobs : (plan : Plan) (n : ℕ) → n ≡ length plan.classes → length (jobs_within plan n).classes ≡ length plan.classes
 as_many_jobs plan zero is = is
 as_many_jobs plan (suc n) is = length-map plan.classes (λ (class : Class). class_row plan (jobs_within plan n) class.body)
-
-as_many_levels : (plan : Plan) (n : ℕ) → n ≡ length plan.classes → length (levels_within plan n) ≡ length plan.classes
-as_many_levels plan zero is = is
-as_many_levels plan (suc n) is = length-map plan.classes (λ (class : Class). level_above (levels_within plan n) class.body)
 
 class_row-length : (plan : Plan) (v : Vector) (body : List _) → length (class_row plan v body) ≡ length body + 3
 class_row-length plan v body =
@@ -78,14 +76,16 @@ vector_is_fit plan is_ordered none small = and_from (has_shape plan (steady_vect
 
 -- ---- the ranks
 
-nothing_is_small : {X : Type 0} (xs : List X) → list_all is_small (map (λ (x : X). 0) xs) ≡ true
-nothing_is_small [] = refl
-nothing_is_small (x ∷ xs) = nothing_is_small xs
+wait_level_is_small : (plan : Plan) → IsWellFormed plan → (n : ℕ) → In n (wait_levels plan) → is_small n ≡ true
+wait_level_is_small plan well n at =
+    let place = place_in at in
+    let is : get_or (wait_levels plan) place.0 0 ≡ n = get_or_from_slice_get (wait_levels plan) place.0 n 0 place.1 in
+    le-leb n MAX_WEIGHT (omega (arith, is, wait_level-le plan place.0, well.few_classes, well.few_pools))
 
 level_is_small : (plan : Plan) → IsWellFormed plan → NoCircle plan → (n : ℕ) → In n (steady_levels plan) → is_small n ≡ true
 level_is_small plan well none n at =
     let place = place_in at in
-    let long = as_many_levels plan (length plan.classes) refl in
+    let long = as_many_levels plan in
     let inside = slice_get_within (steady_levels plan) place.0 n place.1 in
     let low = shallow plan (ordered plan well) none place.0 (omega (arith, long, inside)) in
     let is : get_or (steady_levels plan) place.0 0 ≡ n = get_or_from_slice_get (steady_levels plan) place.0 n 0 place.1 in
@@ -94,16 +94,19 @@ level_is_small plan well none n at =
 ranks_are_fit : (plan : Plan) → IsWellFormed plan → NoCircle plan → ranks_fit plan (steady_ranks plan) ≡ true
 ranks_are_fit plan well none =
     let ranks = steady_ranks plan in
+    let count = length plan.classes in
+    let long = length-wait_levels plan in
+    let halves = take-append-drop count (wait_levels plan) in
     and_from _ _
     (and_from _ _
     (and_from _ _
     (and_from _ _
     (and_from _ _
-    (eq-eqb (length ranks.pools) (length plan.pools) (length-map plan.pools (λ (pool : Pool). 0)))
-    (eq-eqb (length ranks.reach) (length plan.classes) (length-map plan.classes (λ (class : Class). 0))))
-    (eq-eqb (length ranks.levels) (length plan.classes) (as_many_levels plan (length plan.classes) refl)))
-    (nothing_is_small plan.pools))
-    (nothing_is_small plan.classes))
+    (eq-eqb (length ranks.pools) (length plan.pools) (omega (arith, long, length-drop count (wait_levels plan))))
+    (eq-eqb (length ranks.reach) (length plan.classes) (length-take-le count (wait_levels plan) (omega (arith, long)))))
+    (eq-eqb (length ranks.levels) (length plan.classes) (as_many_levels plan)))
+    (list_all_from_In is_small ranks.pools (λ n at. wait_level_is_small plan well n (subst (In n) halves (In-append_right (take count (wait_levels plan)) at)))))
+    (list_all_from_In is_small ranks.reach (λ n at. wait_level_is_small plan well n (subst (In n) halves (In-append_left (drop count (wait_levels plan)) at)))))
     (list_all_from_In is_small ranks.levels (level_is_small plan well none))
 
 -- ---- the certificate
@@ -112,9 +115,21 @@ bound_is_fit : (plan : Plan) (p : ℕ) (boundless : Bool) → needs_no_bound (po
 bound_is_fit plan p true none fit = none
 bound_is_fit plan p false none fit = fit
 
+blocked_is_fit : (plan : Plan) (core_timeout : Bool) → vector_fits plan (steady_vector plan) ≡ true → vector_fits plan (blocked_of (steady_vector plan) core_timeout) ≡ true
+blocked_is_fit plan true fit = zero_fits plan (steady_vector plan) fit
+blocked_is_fit plan false fit = fit
+
 pub pool_is_fit : (plan : Plan) (p : ℕ) → vector_fits plan (steady_vector plan) ≡ true → pool_cert_fits plan p (steady_pool plan (pool_at plan p)) ≡ true
 pool_is_fit plan p fit =
-    and_from (bound_fits plan p (steady_pool plan (pool_at plan p)).bound) (vector_fits plan (steady_vector plan)) (bound_is_fit plan p (needs_no_bound (pool_at plan p)) refl fit) fit
+    and_from (bound_fits plan p (steady_pool plan (pool_at plan p)).bound) (vector_fits plan (steady_pool plan (pool_at plan p)).blocked) (bound_is_fit plan p (needs_no_bound (pool_at plan p)) refl fit) (blocked_is_fit plan ((pool_at plan p).core_timeout && has_small_numbers (steady_vector plan)) fit)
+
+-- if the weights are within the limit, no get of a pool whose core threads may time out is counted
+pub part_where_small : (v : Vector) (pool : Pool) → has_small_numbers v ≡ true → pool_of v pool ≡ part_of v (needs_no_bound pool) pool.core_timeout
+part_where_small v pool small = ap (λ (b : Bool). part_of v (needs_no_bound pool) (pool.core_timeout && b)) small ∙ ap (part_of v (needs_no_bound pool)) (and-true pool.core_timeout)
+  where
+    and-true : (b : Bool) → (b && true) ≡ b
+    and-true true = refl
+    and-true false = refl
 
 -- the part at each place of the certificate is that of the pool at the same place
 pub part_at : (plan : Plan) (entry : ℕ × PoolCert) → In entry (enumerate_from 0 (steady_cert plan).pools) → steady_pool plan (pool_at plan entry.0) ≡ entry.1

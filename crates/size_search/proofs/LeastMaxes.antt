@@ -1,12 +1,12 @@
 -- A larger maximum saves no core.
-use Rattle.std.proofs.Common.{◌≡◌, ℕ, ◌+◌, ◌*◌, ◌<◌, ◌≤◌, inl, inr, suc, true, List, [], ◌∷◌, length, get_or, sum_by, refl, ap, sym, subst, ◌∙◌, arith, zero-add}
+use Rattle.std.proofs.Common.{◌≡◌, ℕ, ◌+◌, ◌*◌, ◌<◌, ◌≤◌, max, inl, inr, suc, Bool, true, false, cond, List, [], ◌∷◌, length, get_or, sum_by, refl, ap, sym, subst, ◌∙◌, arith, zero-add}
 use Rattle.std.specs.List.{enumerate_from}
 use Rattle.std.proofs.lemmas.Bool.{cases_lt, and_parts}
 use Rattle.std.proofs.lemmas.List.{get_or_past}
 use Rattle.std.proofs.lemmas.List.Sums.{sum_by-cons}
 use Rattle.std.proofs.Math.Nat.{mul-le-mul_left}
 use Rattle.job_bodies.specs.declared.limits.TheConstants.{MAX_SIZE}
-use Rattle.job_bodies.specs.Plan.{Pool, Client, Plan, no_pool, pool_at, needs_no_bound}
+use Rattle.job_bodies.specs.Plan.{Pool, Client, Plan, no_pool, pool_at, needs_no_bound, least_threads}
 use Rattle.weights.specs.Vector.{Vector, workers_weight, client_weight, total}
 use Rattle.cert_text.specs.Cert.{Cert, pool_cert_at, cert_fits}
 use Rattle.soundness.specs.Conditions.{failing}
@@ -16,8 +16,9 @@ use Rattle.size_search.specs.Widened.{with_max, widened, outline, IsWideFit, Has
 use Rattle.size_search.proofs.Numbered.{length-numbered, numbered_at, numbered_past, map-numbered}
 use Rattle.size_search.proofs.Shapes.{cert_fits-pools}
 use Rattle.size_search.proofs.TotalRows.{totals_where_accepted}
-use Rattle.size_search.proofs.Changes.{nameplate, length-outline, pool_at-outline, sizes_at}
-use Rattle.size_search.proofs.LeastSizes.{raised_at, raised_past}
+use Rattle.size_search.proofs.Changes.{nameplate, length-outline, pool_at-outline, same_timeout, own_max, raised-le, sizes_at}
+use Rattle.size_search.proofs.RaisedPlans.{raised_at, raised_past}
+use Rattle.size_search.proofs.LeastSizes.{kept_or_needed}
 
 -- ---- totals grow with the maximums
 
@@ -49,12 +50,18 @@ total-grows plan other v same grows =
 abbrev pub maxless : Pool → Pool
 maxless pool = record pool { max = 0 }
 
--- in each plan that satisfies `IsWideFit`, a core is at least the one that the certificate needs with the maximums of `plan`
-cores_least : (plan other : Plan) (cert : Cert) (p : ℕ) → p < length plan.pools → IsWideFit plan cert other → core_needed plan (pool_cert_at cert p).blocked ≤ (pool_at other p).core
-cores_least plan other cert p inside fits =
+-- the number of threads is core if core threads never time out
+pub threads_are_core : (pool : Pool) → pool.core_timeout ≡ false → least_threads pool ≡ pool.core
+threads_are_core pool never = ap (λ (timeout : Bool). cond timeout 1 pool.core) never
+
+-- in each plan that satisfies `IsWideFit`, a core is at least the one that the certificate needs with the maximums of `plan`, if core threads
+-- never time out
+cores_least : (plan other : Plan) (cert : Cert) (p : ℕ) → p < length plan.pools → (pool_at plan p).core_timeout ≡ false → IsWideFit plan cert other → core_needed plan (pool_cert_at cert p).blocked ≤ (pool_at other p).core
+cores_least plan other cert p inside never fits =
     let as_many : length other.pools ≡ length plan.pools = sym (length-outline other) ∙ (ap (λ (any : Plan). length any.pools) fits.same_outline ∙ length-outline plan) in
     let there : p < length other.pools = omega arith in
-    omega (arith, (totals_where_accepted other cert fits.accepts).blocked p there, (sizes_at other p fits.well_formed there).core, total-grows plan other (pool_cert_at cert p).blocked fits.same_outline fits.no_smaller_max)
+    let threads = threads_are_core (pool_at other p) (same_timeout plan other p fits.same_outline ∙ never) in
+    omega (arith, (totals_where_accepted other cert fits.accepts).blocked p there, threads, (sizes_at other p fits.well_formed there).core, total-grows plan other (pool_cert_at cert p).blocked fits.same_outline fits.no_smaller_max)
 
 pub widened-outline : (plan : Plan) (cert : Cert) → outline (widened plan cert) ≡ outline plan
 widened-outline plan cert =
@@ -64,6 +71,11 @@ pub widened_at : (plan : Plan) (cert : Cert) (p : ℕ) → p < length plan.pools
 widened_at plan cert p inside =
     numbered_at (λ (entry : ℕ × Pool). with_max plan (pool_cert_at cert entry.0).blocked entry.1) 0 plan.pools p no_pool no_pool inside
     ∙ ap (λ (j : ℕ). with_max plan (pool_cert_at cert j).blocked (pool_at plan p)) (zero-add p)
+
+-- a size that grew was raised to what is needed
+grown_to_needed : (kept : Bool) (m needed : ℕ) → m < cond kept m (max m needed) → cond kept m (max m needed) ≤ needed
+grown_to_needed true m needed grew = absurd (omega (arith, grew))
+grown_to_needed false m needed grew = omega (arith, grew)
 
 maxes_least : (plan other : Plan) (cert : Cert) → IsWideFit plan cert other → IsWideFit (widened plan cert) cert other
 maxes_least plan other cert fits = record {
@@ -77,7 +89,9 @@ maxes_least plan other cert fits = record {
     no_smaller_max p = elim (cases_lt p (length plan.pools)) [
       | inl inside ↦ let max = ap (λ (pool : Pool). pool.max) (widened_at plan cert p inside) in
           let as_many : length other.pools ≡ length plan.pools = sym (length-outline other) ∙ (ap (λ (any : Plan). length any.pools) fits.same_outline ∙ length-outline plan) in
-          omega (arith, fits.no_smaller_max p, cores_least plan other cert p inside fits, (sizes_at other p fits.well_formed (omega arith)).max)
+          let least = kept_or_needed (pool_at plan p).core_timeout (pool_at plan p).max (core_needed plan (pool_cert_at cert p).blocked) (pool_at other p).max (fits.no_smaller_max p)
+          (λ never. omega (arith, cores_least plan other cert p inside never fits, (sizes_at other p fits.well_formed (omega arith)).max)) in
+          omega (arith, max, least)
       | inr past ↦ let max = ap (λ (pool : Pool). pool.max) (numbered_past (λ (entry : ℕ × Pool). with_max plan (pool_cert_at cert entry.0).blocked entry.1) 0 plan.pools p no_pool past) in
           omega arith
     ]
@@ -98,30 +112,36 @@ widened_is_least_wide plan cert = record {
   where
     no_smaller_max : (p : ℕ) → (pool_at plan p).max ≤ (pool_at (widened plan cert) p).max
     no_smaller_max p = elim (cases_lt p (length plan.pools)) [
-      | inl inside ↦ let max = ap (λ (pool : Pool). pool.max) (widened_at plan cert p inside) in omega arith
+      | inl inside ↦ let max = ap (λ (pool : Pool). pool.max) (widened_at plan cert p inside) in
+          omega (arith, max, raised-le (pool_at plan p).core_timeout (pool_at plan p).max (core_needed plan (pool_cert_at cert p).blocked))
       | inr past ↦ let none = ap (λ (pool : Pool). pool.max) (get_or_past plan.pools p no_pool past) in omega arith
     ]
 
     needed : (p : ℕ) → (pool_at plan p).max < (pool_at (widened plan cert) p).max → (pool_at (widened plan cert) p).max ≤ core_needed (widened plan cert) (pool_cert_at cert p).blocked
     needed p grew = elim (cases_lt p (length plan.pools)) [
       | inl inside ↦ let max = ap (λ (pool : Pool). pool.max) (widened_at plan cert p inside) in
-          omega (arith, total-grows plan (widened plan cert) (pool_cert_at cert p).blocked (widened-outline plan cert) no_smaller_max)
+          let raised = grown_to_needed (pool_at plan p).core_timeout (pool_at plan p).max (core_needed plan (pool_cert_at cert p).blocked) (omega (arith, grew, max)) in
+          omega (arith, max, raised, total-grows plan (widened plan cert) (pool_cert_at cert p).blocked (widened-outline plan cert) no_smaller_max)
       | inr past ↦ let none = ap (λ (pool : Pool). pool.max) (numbered_past (λ (entry : ℕ × Pool). with_max plan (pool_cert_at cert entry.0).blocked entry.1) 0 plan.pools p no_pool past) in omega arith
     ]
 
 pub widened_leaves_room : (plan : Plan) (cert : Cert) → LeavesRoom plan cert (widened plan cert)
-widened_leaves_room plan cert p inside = let max = ap (λ (pool : Pool). pool.max) (widened_at plan cert p inside) in omega arith
+widened_leaves_room plan cert p inside never =
+    let needed = core_needed plan (pool_cert_at cert p).blocked in
+    let max : (pool_at (widened plan cert) p).max ≡ max (pool_at plan p).max needed = ap (λ (pool : Pool). pool.max) (widened_at plan cert p inside) ∙ ap (λ (kept : Bool). cond kept (pool_at plan p).max (max (pool_at plan p).max needed)) never in
+    omega (arith, max)
 
 pub raised_has_least_cores : (plan : Plan) (cert : Cert) → HasLeastCores plan cert (raised plan cert)
 raised_has_least_cores plan cert other fits larger p = elim (cases_lt p (length plan.pools)) [
   | inl inside ↦ let core = ap (λ (pool : Pool). pool.core) (raised_at plan cert p inside) in
-      omega (arith, larger.core p, cores_least plan other cert p inside fits)
+      let least = kept_or_needed (pool_at plan p).core_timeout (pool_at plan p).core (core_needed plan (pool_cert_at cert p).blocked) (pool_at other p).core (larger.core p) (λ never. cores_least plan other cert p inside never fits) in
+      omega (arith, core, least)
   | inr past ↦ let core = ap (λ (pool : Pool). pool.core) (raised_past plan cert p past) in omega (arith, larger.core p)
 ]
 
 pub widened_maxes_are_least : WidenedMaxesAreLeast
 widened_maxes_are_least = record {
-  cores = λ plan other cert p inside fits. cores_least plan other cert p inside fits;
+  cores = λ plan other cert p inside never fits. cores_least plan other cert p inside never fits;
   maxes = λ plan other cert fits. maxes_least plan other cert fits;
 }
 
@@ -137,9 +157,10 @@ wide_fit_fits plan other cert fits =
     ∙ (sym (ap (λ (any : Plan). cert_fits any cert) fits.same_outline)
     ∙ (cert_fits-pools other (outline other).pools cert (length-outline other) (λ p. ap needs_no_bound (pool_at-outline other p)) ∙ (and_parts (cert_fits other cert) (is_nil (failing other cert)) fits.accepts).0))
 
--- if some plan satisfies `IsWideFit`, no maximum of the widened plan is above the limit
-pub wide_fit_has_room : (plan other : Plan) (cert : Cert) (p : ℕ) → IsWideFit plan cert other → p < length (widened plan cert).pools → (pool_at (widened plan cert) p).max ≤ MAX_SIZE
-wide_fit_has_room plan other cert p fits there =
+-- if some plan satisfies `IsWideFit`, no maximum of the widened plan is above the limit, except where core threads may time out
+pub wide_fit_has_room : (plan other : Plan) (cert : Cert) (p : ℕ) → IsWideFit plan cert other → p < length (widened plan cert).pools → (pool_at (widened plan cert) p).core_timeout ≡ false → (pool_at (widened plan cert) p).max ≤ MAX_SIZE
+wide_fit_has_room plan other cert p fits there never =
     let as_many : length other.pools ≡ length plan.pools = sym (length-outline other) ∙ (ap (λ (any : Plan). length any.pools) fits.same_outline ∙ length-outline plan) in
     let inside : p < length other.pools = subst (λ (n : ℕ). p < n) (length-widened plan cert ∙ sym as_many) there in
-    omega (arith, (maxes_least plan other cert fits).no_smaller_max p, (sizes_at other p fits.well_formed inside).most_max)
+    let own : (pool_at other p).core_timeout ≡ false = same_timeout plan other p fits.same_outline ∙ (sym (same_timeout plan (widened plan cert) p (widened-outline plan cert)) ∙ never) in
+    omega (arith, (maxes_least plan other cert fits).no_smaller_max p, own_max (pool_at other p) (sizes_at other p fits.well_formed inside).most_max own)

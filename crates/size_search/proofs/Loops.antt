@@ -8,7 +8,7 @@ use Rattle.cert_text.specs.Cert.{Cert, pool_cert_at}
 use Rattle.size_search.specs.declared.unfit.Unfit.{Unfit}
 use Rattle.size_search.specs.declared.unfit.Unfit.TheVariants.{Queue}
 use Rattle.size_search.specs.Fitted.{has_queue}
-use Rattle.size_search.specs.Unfit.{unfit_pool, first_unfit, first_tight}
+use Rattle.size_search.specs.Unfit.{unfit_pool, first_unfit, first_tight, first_short}
 
 -- the list of the pools from index i on begins with pool i
 turn : {Y : Type 0} (F : List (ℕ × Pool) → Y) (pools : List Pool) (i : ℕ) → i < length pools → F (enumerate_from i (drop i pools)) ≡ F ((i, get_or pools i no_pool) ∷ enumerate_from (i + 1) (drop (i + 1) pools))
@@ -73,3 +73,9 @@ tight_here plan cert pools i all inside tight prefix_is =
 -- after the last pool, the result is None
 pub none_tight : (plan : Plan) (cert : Cert) (pools : List Pool) (i : ℕ) (all : Option Unfit) → length pools ≤ i → rest_tight plan cert pools i ≡ all → None ≡ all
 none_tight plan cert pools i all past prefix_is = sym (at_drop_all (λ (ps : List Pool). first_tight plan cert (enumerate_from i ps)) pools i past) ∙ prefix_is
+
+-- ---- the first pool with too few threads
+
+-- the reason for the first pool from index i on that has too few threads, or None
+abbrev pub rest_short : Plan → Cert → List Pool → ℕ → Option Unfit
+rest_short plan cert pools i = first_short plan cert (enumerate_from i (drop i pools))

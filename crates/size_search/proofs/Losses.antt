@@ -207,6 +207,10 @@ lost_so_far get_return plan v weight body (suc n) valid laws gains within =
     let at = slice_get-get_or body n (Work 0) (omega (arith, within)) in
     omega (arith, step get_return plan v weight body n _ valid laws gains at, lost_so_far get_return plan v weight body n valid laws gains (omega (arith, within)))
 
+-- an actor is not heavier at any position than at the start
+pub lost_at_most : (get_return : GetReturn) (plan : Plan) (v : Vector) (weight : ℕ → ℕ) (body : List Action) (n : ℕ) → IsValidBody plan body → BodyLaws get_return plan v weight body → NoneGains get_return plan v body → n ≤ length body → weight n ≤ weight 0
+lost_at_most get_return plan v weight body n valid laws gains within = omega (arith, lost_so_far get_return plan v weight body n valid laws gains within)
+
 -- an actor is not heavier at the end of its body than at the start
 pub never_heavier : (get_return : GetReturn) (plan : Plan) (v : Vector) (weight : ℕ → ℕ) (body : List Action) → IsValidBody plan body → BodyLaws get_return plan v weight body → NoneGains get_return plan v body → weight (length body) ≤ weight 0
 never_heavier get_return plan v weight body valid laws gains = omega (arith, lost_so_far get_return plan v weight body (length body) valid laws gains (omega arith))

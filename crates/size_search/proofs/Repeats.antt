@@ -16,7 +16,7 @@ use Rattle.weights.specs.Ranks.{Ranks, level}
 use Rattle.soundness.proofs.VectorLaws.{VectorLaws, class_of_action}
 use Rattle.soundness.proofs.RankLaws.{RankLaws}
 use Rattle.size_search.specs.Submitted.{IsSubmitted, begins, follows, repeated_bodies}
-use Rattle.size_search.proofs.Circles.{position_of}
+use Rattle.size_search.proofs.Opened.{place_in}
 use Rattle.size_search.proofs.Losses.{NoneGains, never_heavier, lost_without_get, lost_by_child}
 
 -- a vector of a plan that satisfies its rules, and ranks that satisfy theirs
@@ -46,7 +46,7 @@ never_gains get_return plan v ranks weighed (suc n) k inside low =
     omega (arith, returned_weight-le get_return plan v j, never_gains get_return plan v ranks weighed n j (valid.submit i j is_submit) below) in
     omega (arith, never_heavier get_return plan v (job_weight v k) body valid (weighed.vector.classes k) children, weighed.vector.begins k inside, weighed.vector.ends k inside)
 
-none_gains : (get_return : GetReturn) (plan : Plan) (v : Vector) (ranks : Ranks) (body : List Action) → IsWeighed get_return plan v ranks → IsValidBody plan body → NoneGains get_return plan v body
+pub none_gains : (get_return : GetReturn) (plan : Plan) (v : Vector) (ranks : Ranks) (body : List Action) → IsWeighed get_return plan v ranks → IsValidBody plan body → NoneGains get_return plan v body
 none_gains get_return plan v ranks body weighed valid i k is_submit =
     omega (arith, returned_weight-le get_return plan v k, never_gains get_return plan v ranks weighed (suc (level ranks k)) k (valid.submit i k is_submit) (omega arith))
 
@@ -105,7 +105,7 @@ repeated_by plan body from =
     let of_client = In-map_from (λ (client : Client). client.body) (filter repeat_of plan.clients) from in
     let client = of_client.0 in
     let kept = In-filter_from repeat_of plan.clients of_client.1 in
-    let found = position_of kept.0 in
+    let found = place_in kept.0 in
     let is_client : client_at plan found.0 ≡ client = get_or_from_slice_get plan.clients found.0 client no_client found.1 in
     record {
       client = found.0;
@@ -117,8 +117,8 @@ repeated_by plan body from =
 pub none_is_lighter : (get_return : GetReturn) (plan : Plan) (v : Vector) (ranks : Ranks) → IsWeighed get_return plan v ranks → {k : ℕ} → IsSubmitted plan (repeated_bodies plan) k → done_weight plan v k < queued_weight v k → ⊥
 none_is_lighter get_return plan v ranks weighed (begins {k = k} {body = body} from at) lighter =
     let by = repeated_by plan body from in
-    let found = position_of (subst (In (Submit k)) (sym by.same) at) in
+    let found = place_in (subst (In (Submit k)) (sym by.same) at) in
     client_submits_none get_return plan v ranks by.client found.0 k weighed by.repeats found.1 lighter
 none_is_lighter get_return plan v ranks weighed (follows {j = j} {k = k} known at) lighter =
-    let found = position_of at in
+    let found = place_in at in
     none_is_lighter get_return plan v ranks weighed known (lighter_by_child get_return plan v ranks j found.0 k weighed found.1 lighter)

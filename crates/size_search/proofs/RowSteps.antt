@@ -11,6 +11,7 @@ use Rattle.job_bodies.proofs.Bodies.{HasValidBodies}
 use Rattle.job_bodies.specs.declared.limits.TheConstants.{MAX_WEIGHT}
 use Rattle.weights.specs.Vector.{Vector, class_weights, is_small, has_small_numbers, vector_fits}
 use Rattle.weights.proofs.Fitting.{small_in}
+use Rattle.weights.specs.Ranks.{Ranks}
 use Rattle.cert_text.specs.Cert.{PoolCert, Cert}
 use Rattle.size_search.specs.Submitted.{NoCircle}
 use Rattle.size_search.specs.ComputedRows.{IsComputedUpTo}
@@ -165,16 +166,12 @@ vector_from plan v workers clients ordered none computed are_zeros are_rows =
 
 -- ---- the certificate
 
-abbrev pub cert_of : List PoolCert → List ℕ → List ℕ → List ℕ → Cert
-cert_of pools zeros' nothing levels = record { pools = pools; ranks = record { pools = zeros'; reach = nothing; levels = levels } }
+abbrev pub cert_of : List PoolCert → Ranks → Cert
+cert_of pools ranks = record { pools = pools; ranks = ranks }
 
-pub cert_from : (plan : Plan) (v : Vector) (pools : List PoolCert) (ranks reach levels : List ℕ) → v ≡ steady_vector plan → pools ≡ map (pool_of v) plan.pools → ranks ≡ replicate (length plan.pools) 0
-    → reach ≡ replicate (length plan.classes) 0 → levels ≡ steady_levels plan → cert_of pools ranks reach levels ≡ steady_cert plan
-cert_from plan v pools ranks reach levels is are_pools are_ranks are_reach are_levels =
-    ap (λ (any : List PoolCert). cert_of any ranks reach levels) (are_pools ∙ ap (λ (w : Vector). map (pool_of w) plan.pools) is)
-    ∙ (ap (λ (any : List ℕ). cert_of (steady_cert plan).pools any reach levels) (are_ranks ∙ zeros plan.pools)
-    ∙ (ap (λ (any : List ℕ). cert_of (steady_cert plan).pools (steady_ranks plan).pools any levels) (are_reach ∙ zeros plan.classes)
-    ∙ ap (cert_of (steady_cert plan).pools (steady_ranks plan).pools (steady_ranks plan).reach) are_levels))
+pub cert_from : (plan : Plan) (v : Vector) (pools : List PoolCert) (ranks : Ranks) → v ≡ steady_vector plan → pools ≡ map (pool_of v) plan.pools → ranks ≡ steady_ranks plan → cert_of pools ranks ≡ steady_cert plan
+cert_from plan v pools ranks is are_pools are_ranks =
+    ap (λ (any : List PoolCert). cert_of any ranks) (are_pools ∙ ap (λ (w : Vector). map (pool_of w) plan.pools) is) ∙ ap (cert_of (steady_cert plan).pools) are_ranks
 
 pub heavy_unless_fit : (plan : Plan) → HasValidBodies plan → NoCircle plan → vector_fits plan (steady_vector plan) ≡ false → has_small_numbers (steady_vector plan) ≡ false
 heavy_unless_fit plan ordered none unfit =

@@ -1,5 +1,5 @@
 -- The properties of a plan that do not depend on its cores and queues, so that the plan's shape has them too.
-use Rattle.std.proofs.Common.{◌≡◌, ℕ, ◌+◌, ◌*◌, zero, suc, Bool, true, false, cond, ◌&&◌, List, [], ◌∷◌, ◌++◌, length, get_or, map, flat_map, sum_by, Option, Some, None, refl, ap, ap₂, ◌∙◌}
+use Rattle.std.proofs.Common.{◌≡◌, ℕ, ◌+◌, ◌*◌, zero, suc, Bool, cond, ◌&&◌, List, [], ◌∷◌, ◌++◌, length, get_or, map, flat_map, sum_by, Option, Some, None, refl, ap, ap₂, ◌∙◌}
 use Rattle.std.specs.Prelude.{◌==◌}
 use Rattle.std.specs.List.{enumerate_from, list_all}
 use Rattle.support.proofs.Sums.{sum_by-map}

@@ -1,23 +1,27 @@
 -- If no cause holds, sizes above the steady total are enough.
-use Rattle.std.proofs.Common.{◌≡◌, ℕ, zero, suc, ◌+◌, ◌-◌, ◌*◌, ◌<◌, ◌≤◌, max, Bool, true, false, ◌&&◌, List, [], ◌∷◌, ◌++◌, length, map, get_or, sum_by, IsTrue, refl, ap, ap₂, ◌∙◌, arith}
+use Rattle.std.proofs.Common.{◌≡◌, ℕ, zero, suc, ◌+◌, ◌-◌, ◌*◌, ◌<◌, ◌≤◌, max, Bool, true, false, ◌&&◌, List, [], ◌∷◌, ◌++◌, length, map, get_or, sum_by, IsTrue, inl, inr, refl, sym, ap, ap₂, ◌∙◌, arith}
 use Rattle.std.specs.List.{list_all, enumerate_from}
-use Rattle.std.proofs.lemmas.Bool.{and_parts, and_from, le-leb}
-use Rattle.std.proofs.lemmas.List.{length-map, get_or-map}
+use Rattle.std.proofs.lemmas.Bool.{and_parts, and_from, or_left, le-leb, cases_lt}
+use Rattle.std.proofs.lemmas.List.{length-map, get_or-map, get_or_past}
 use Rattle.std.proofs.lemmas.List.Sums.{sum_by-cons}
 use Rattle.job_bodies.specs.declared.action.Action.{Action}
 use Rattle.job_bodies.specs.declared.action.Action.TheVariants.{Work, Submit, Get}
 use Rattle.job_bodies.specs.declared.limits.TheConstants.{MAX_SIZE}
-use Rattle.job_bodies.specs.Plan.{Pool, Class, Client, Plan, no_pool, pool_at, class_at, client_at, submitted_class}
-use Rattle.job_bodies.specs.WellFormed.{least_queue, has_valid_sizes, IsWellFormed}
+use Rattle.job_bodies.specs.Plan.{Pool, Class, Client, Plan, no_pool, pool_at, class_at, client_at, needs_no_bound, submitted_class}
+use Rattle.job_bodies.specs.WellFormed.{is_within, least_queue, has_no_max, has_valid_sizes, IsWellFormed}
 use Rattle.weights.specs.Vector.{Vector, queued_weight, done_weight, workers_weight, has_small_numbers, is_small}
 use Rattle.size_search.specs.Widened.{outline}
 use Rattle.size_search.proofs.Numbered.{map-twice}
 use Rattle.size_search.proofs.Changes.{nameplate, at_least_queue, well_formed_changed}
-use Rattle.size_search.specs.Submitted.{IsAllGot, IsWithoutCause, LosesWithoutBound, by_client, by_job, goes_without_bound, repeated_bodies}
+use Rattle.size_search.specs.Submitted.{IsAllGot, LosesWithoutBound, by_client, by_job, goes_without_bound, repeated_bodies}
+use Rattle.size_search.specs.Waiting.{IsSteady}
+use Rattle.size_search.specs.Causes.{IsWithoutCause}
 use Rattle.size_search.specs.Steady.{weight_at, weights_from, job_end, class_row, client_end, client_row, jobs_within, jobs, steady_vector, steady_total, steady_cert}
 use Rattle.size_search.proofs.Accepting.{accepting}
 use Rattle.size_search.specs.NoSizesHelp.{HasSizes, SizesExist}
 use Rattle.size_search.proofs.Circles.{submitted_in}
+use Rattle.size_search.specs.ByClients.{client_bodies}
+use Rattle.size_search.proofs.LastThreads.{HasSameWaits, itself_in}
 use Rattle.size_search.proofs.BeyondSizes.{no_sizes_help}
 
 abbrev pub with_pools : Plan → List Pool → Plan
@@ -98,6 +102,42 @@ free-pools plan pools free = record {
   jobs_get = λ k i cause. free.jobs_get k i (record { submitted = submitted_in (with_pools plan pools) plan (repeated_bodies plan) refl cause.submitted; never_got = cause.never_got });
 }
 
+-- as many pools as the plan has, of which the same need a bound, and the same have core threads that may time out
+pub record HaveSameFlags (plan : Plan) (pools : List Pool) : Type 0 where
+  pub as_many : length pools ≡ length plan.pools
+  pub boundless : (p : ℕ) → p < length pools → needs_no_bound (get_or pools p no_pool) ≡ needs_no_bound (pool_at plan p)
+  pub timeout : (p : ℕ) → p < length pools → (get_or pools p no_pool).core_timeout ≡ (pool_at plan p).core_timeout
+
+pub flags_of_map : (plan : Plan) (f : Pool → Pool) → ((pool : Pool) → needs_no_bound (f pool) ≡ needs_no_bound pool) → ((pool : Pool) → (f pool).core_timeout ≡ pool.core_timeout) → HaveSameFlags plan (map f plan.pools)
+flags_of_map plan f boundless timeout = record {
+  as_many = length-map plan.pools f;
+  boundless = λ p inside. ap needs_no_bound (at p inside) ∙ boundless (pool_at plan p);
+  timeout = λ p inside. ap (λ (pool : Pool). pool.core_timeout) (at p inside) ∙ timeout (pool_at plan p);
+}
+  where
+    at : (p : ℕ) → p < length (map f plan.pools) → get_or (map f plan.pools) p no_pool ≡ f (pool_at plan p)
+    at p inside = get_or-map f plan.pools p no_pool no_pool (omega (arith, inside, length-map plan.pools f))
+
+same_waits : (plan : Plan) (pools : List Pool) → HaveSameFlags plan pools → HasSameWaits (with_pools plan pools) plan
+same_waits plan pools flags = record { classes = refl; clients = refl; timeouts = λ p. sym (at p) }
+  where
+    at : (p : ℕ) → (get_or pools p no_pool).core_timeout ≡ (pool_at plan p).core_timeout
+    at p = elim (cases_lt p (length pools)) [
+      | inl inside ↦ flags.timeout p inside
+      | inr past ↦
+          ap (λ (pool : Pool). pool.core_timeout) (get_or_past pools p no_pool past)
+          ∙ ap (λ (pool : Pool). pool.core_timeout) (sym (get_or_past plan.pools p no_pool (omega (arith, past, flags.as_many))))
+    ]
+
+pub steady-pools : (plan : Plan) (pools : List Pool) → HaveSameFlags plan pools → IsSteady plan → IsSteady (with_pools plan pools)
+steady-pools plan pools flags steady =
+    let alike = same_waits plan pools flags in
+    record {
+      all_got = free-pools plan pools steady.all_got;
+      none_waits = λ p waits. steady.none_waits p (itself_in (with_pools plan pools) plan p alike waits);
+      used = λ k j may_lose gets. submitted_in plan (with_pools plan pools) (client_bodies plan) refl (steady.used k j (alike.timeouts (class_at plan k).pool ∙ may_lose) gets);
+    }
+
 -- a job is of a pool that needs no bound, or of one that needs a bound
 either_pool : (b : Bool) → (b ≡ false → ⊥) → (b ≡ true → ⊥) → ⊥
 either_pool true needs none = none refl
@@ -122,16 +162,17 @@ all_valid : (n : ℕ) (pools : List Pool) → 1 ≤ n → n ≤ MAX_SIZE → lis
 all_valid n [] low high = refl
 all_valid n (pool ∷ pools) low high =
     let same : n ≤ n = omega arith in
-    and_from _ _ (and_from _ _ (and_from _ _ (and_from _ _ (le-leb 1 n low) (le-leb n MAX_SIZE high)) (and_from _ _ (le-leb n n same) (le-leb n MAX_SIZE high))) (and_from _ _ (le-leb (least_queue pool) n (at_least_queue pool n low)) (le-leb n MAX_SIZE high))) (all_valid n pools low high)
+    let max = or_left (is_within n MAX_SIZE n) (has_no_max (sized n pool)) (and_from _ _ (le-leb n n same) (le-leb n MAX_SIZE high)) in
+    and_from _ _ (and_from _ _ (and_from _ _ (and_from _ _ (le-leb 1 n low) (le-leb n MAX_SIZE high)) max) (and_from _ _ (le-leb (least_queue pool) n (at_least_queue pool n low)) (le-leb n MAX_SIZE high))) (all_valid n pools low high)
 
-sizes_where_free : (plan : Plan) → IsWellFormed plan → IsTrue (has_small_numbers (steady_vector plan)) → steady_total plan < MAX_SIZE → IsAllGot plan → HasSizes plan
+sizes_where_free : (plan : Plan) → IsWellFormed plan → IsTrue (has_small_numbers (steady_vector plan)) → steady_total plan < MAX_SIZE → IsSteady plan → HasSizes plan
 sizes_where_free plan well small low free =
     let n = steady_total plan + 1 in
     let pools = map (sized n) plan.pools in
     let other = with_pools plan pools in
     let same : outline other ≡ outline plan = ap (with_pools plan) (map-twice nameplate (sized n) plan.pools) in
     let well' = well_formed_changed plan other well same (all_valid n plan.pools (omega arith) (omega (arith, low))) in
-    let steady = accepting other well' (free-pools plan pools free) (small-pools plan pools small) in
+    let steady = accepting other well' (steady-pools plan pools (flags_of_map plan (sized n) (λ pool. refl) (λ pool. refl)) free) (small-pools plan pools small) in
     record {
       other = other;
       cert = steady_cert other;
@@ -142,7 +183,7 @@ sizes_where_free plan well small low free =
           let pool : pool_at other p ≡ sized n (pool_at plan p) = get_or-map (sized n) plan.pools p no_pool no_pool known in
           let queue = ap (λ (any : Pool). any.queue) pool in
           let core = ap (λ (any : Pool). any.core) pool in
-          (λ needs. omega (arith, queue, total-pools plan pools), omega (arith, core, total-pools plan pools)));
+          (λ needs. omega (arith, queue, total-pools plan pools), λ never. omega (arith, core, total-pools plan pools)));
     }
 
 pub free_where_sizes : (plan : Plan) → HasSizes plan → IsWithoutCause plan
@@ -150,7 +191,8 @@ free_where_sizes plan sizes = record {
   no_circle = λ k cause. no_sizes_help.circle plan k cause sizes.other sizes.cert sizes.well_formed sizes.same_outline sizes.accepts;
   clients_get = λ c i cause. no_sizes_help.client_never_gets plan c i cause sizes.other sizes.cert sizes.well_formed sizes.same_outline sizes.accepts;
   jobs_get = λ k i cause. no_sizes_help.class_never_gets plan k i cause sizes.other sizes.cert sizes.well_formed sizes.same_outline sizes.accepts;
+  none_waits = λ p cause. no_sizes_help.pool_waits_for_itself plan p cause sizes.other sizes.cert sizes.well_formed sizes.same_outline sizes.accepts;
 }
 
 pub sizes_exist : SizesExist
-sizes_exist plan well small low none = (free_where_sizes plan, λ free. sizes_where_free plan well small low (all_got plan free none))
+sizes_exist plan well small low none used = (free_where_sizes plan, λ free. sizes_where_free plan well small low (record { all_got = all_got plan free none; none_waits = free.none_waits; used = used }))

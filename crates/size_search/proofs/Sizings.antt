@@ -1,5 +1,5 @@
 -- A widened and fitted plan is the plan with the least sizes for a certificate.
-use Rattle.std.proofs.Common.{◌≡◌, ◌≤◌, ◌<◌, ℕ, inl, inr, List, length, refl, ap, sym, ◌∙◌, arith}
+use Rattle.std.proofs.Common.{◌≡◌, ◌≤◌, ◌<◌, ℕ, Bool, true, false, cond, inl, inr, List, length, refl, ap, sym, ◌∙◌, arith}
 use Rattle.std.specs.Prelude.{IsTrue}
 use Rattle.std.proofs.lemmas.Bool.{cases_lt}
 use Rattle.std.proofs.lemmas.List.{get_or_past}
@@ -13,7 +13,7 @@ use Rattle.size_search.proofs.Numbered.{map-twice}
 use Rattle.size_search.proofs.Shapes.{get_or-changed}
 use Rattle.size_search.proofs.TotalRows.{totals_where_accepted}
 use Rattle.size_search.proofs.Changes.{nameplate, outline_of_shape, sizes_at}
-use Rattle.size_search.proofs.LeastSizes.{has_shape}
+use Rattle.size_search.proofs.RaisedPlans.{has_shape}
 use Rattle.size_search.proofs.LeastMaxes.{total-grows, maxless}
 use Rattle.size_search.specs.Sized.{IsSized}
 
@@ -59,6 +59,11 @@ widened_again plan wide wider cert first second = record {
 
 -- ---- sizes
 
+-- a pool is sure to have at most core threads
+few_threads : (timeout : Bool) (core : ℕ) → 1 ≤ core → cond timeout 1 core ≤ core
+few_threads true core some = some
+few_threads false core some = omega arith
+
 -- the plan fitted to a widened plan has the least sizes
 pub sized_where_fitted : (plan wide fit : Plan) (cert : Cert) → IsLeastWide plan cert wide → IsLeastFit wide cert fit → HasLeastCores wide cert fit → IsSized plan cert fit
 sized_where_fitted plan wide fit cert widest found cores = record {
@@ -80,6 +85,10 @@ sized_where_fitted plan wide fit cert widest found cores = record {
       keeps_queues = record {
         same_queue = λ p none.
             resized.keeps_queues.same_queue p ((has_shape wide fit found.fits.resized.same_shape).boundless p ∙ none) ∙ found.fits.resized.keeps_queues.same_queue p none;
+      };
+      keeps_cores = record {
+        same_core = λ p may_lose.
+            resized.keeps_cores.same_core p ((has_shape wide fit found.fits.resized.same_shape).timeout p ∙ may_lose) ∙ found.fits.resized.keeps_cores.same_core p may_lose;
       };
     };
     no_smaller = no_smaller_than_wider plan wide other widest.wider larger;
@@ -106,7 +115,8 @@ sized_where_fitted plan wide fit cert widest found cores = record {
           let needed = widest.needed p (omega (arith, maxes p)) in
           let total = (has_shape wide fit found.fits.resized.same_shape).total blocked in
           let sizes = sizes_at fit p found.fits.resized.well_formed inside in
-          omega (arith, needed, maxes p, total, (totals_where_accepted fit cert found.fits.accepts).blocked p inside, sizes.core, sizes.max)
+          let threads = few_threads (pool_at fit p).core_timeout (pool_at fit p).core sizes.core in
+          omega (arith, needed, maxes p, total, threads, (totals_where_accepted fit cert found.fits.accepts).blocked p inside, sizes.core, sizes.max)
       | inr past ↦ let none = ap (λ (pool : Pool). pool.max) (get_or_past fit.pools p no_pool past) in absurd (omega arith)
     ]
 

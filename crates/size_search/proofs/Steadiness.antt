@@ -16,7 +16,8 @@ use Rattle.size_search.specs.Submitted.{IsSubmitted, begins, follows, IsNeverGot
 use Rattle.size_search.specs.Steady.{most, weight_before, weight_at, job_end, client_end, steady_vector, steady_levels}
 use Rattle.size_search.proofs.Opened.{rest_at}
 use Rattle.size_search.proofs.Balance.{GivesAllBack, least-le, begins_as_it_ends}
-use Rattle.size_search.proofs.Depths.{get_or-changed, levels_sink}
+use Rattle.size_search.proofs.Depths.{levels_sink}
+use Rattle.size_search.proofs.Shapes.{get_or-changed}
 use Rattle.size_search.proofs.SteadyRows.{class_is, client_is, IsClassRow, class_numbers, client_numbers}
 
 -- ---- one action

@@ -8,7 +8,7 @@ use Rattle.support.specs.In.{In, here}
 use Rattle.support.proofs.Members.{not_In_nil, In-append_left, In-append_right, In-append_cases, In-cons_cases, In-push_cases, In-map, In-map_from, In-flat_map_from, In-filter, In-filter_from, list_all_at_In, list_all_from_In}
 use Rattle.job_bodies.specs.declared.action.Action.{Action}
 use Rattle.job_bodies.specs.declared.action.Action.TheVariants.{Work, Submit, Get}
-use Rattle.job_bodies.specs.Plan.{Pool, Class, Client, Plan, pool_at}
+use Rattle.job_bodies.specs.Plan.{Pool, Class, Client, Plan, pool_at, least_threads}
 use Rattle.weights.specs.declared.get_return.GetReturn.{GetReturn}
 use Rattle.weights.specs.declared.get_return.GetReturn.TheVariants.{DoneWeight, NoWeight}
 use Rattle.weights.specs.declared.bound.Bound.{Bound}
@@ -164,7 +164,7 @@ total_holds plan p (Standing v) within = within
 total_holds plan p (Lifetime v) within = within
 
 abbrev blocked_total : Plan → ℕ → Vector → Row
-blocked_total plan p v = row B2 place.Total (total plan v) ((pool_at plan p).core - 1)
+blocked_total plan p v = row B2 place.Total (total plan v) (least_threads (pool_at plan p) - 1)
 
 -- ---- all conditions except the totals, and the totals
 
@@ -176,7 +176,7 @@ pub record HoldButTotals (plan : Plan) (cert : Cert) : Type 0 where
 
 pub record TotalsHold (plan : Plan) (cert : Cert) : Type 0 where
   pub bounds : (p : ℕ) → p < length plan.pools → (pool_at plan p).unbounded ≡ false → total_of plan (pool_cert_at cert p).bound ≤ limit_of plan p (pool_cert_at cert p).bound
-  pub blocked : (p : ℕ) → p < length plan.pools → total plan (pool_cert_at cert p).blocked ≤ (pool_at plan p).core - 1
+  pub blocked : (p : ℕ) → p < length plan.pools → total plan (pool_cert_at cert p).blocked ≤ least_threads (pool_at plan p) - 1
 
 -- ---- conditions of which only totals fail
 

@@ -1,5 +1,5 @@
 -- A plan without pools has no jobs, so its steady certificate is never too large.
-use Rattle.std.proofs.Common.{◌≡◌, ◌⊎◌, inl, inr, ℕ, zero, suc, ◌+◌, ◌-◌, ◌*◌, ◌<◌, ◌≤◌, max, Bool, true, false, ◌&&◌, cond, List, [], ◌∷◌, length, map, drop, get_or, sum_by, slice_get, Option, Some, None, IsTrue, ⊎_elim, refl, sym, ap, subst, ◌∙◌, arith}
+use Rattle.std.proofs.Common.{◌&&◌, ◌≡◌, inl, inr, ℕ, zero, suc, ◌+◌, ◌-◌, ◌*◌, ◌<◌, ◌≤◌, max, Bool, true, false, cond, List, [], ◌∷◌, length, map, drop, get_or, sum_by, slice_get, Option, Some, None, IsTrue, ⊎_elim, refl, sym, ap, subst, ◌∙◌, arith}
 use Rattle.std.specs.List.{list_all, enumerate_from}
 use Rattle.std.proofs.lemmas.Bool.{and_parts, and_from, cases_lt, false≢true}
 use Rattle.std.proofs.lemmas.List.{get_or-map, get_or_past, nil_from_length, length-map}
@@ -16,9 +16,11 @@ use Rattle.cert_text.specs.Cert.{PoolCert, no_vector, no_pool_cert, cert_fits}
 use Rattle.cert_text.proofs.Fitting.{parts_fit}
 use Rattle.soundness.specs.Conditions.{failing}
 use Rattle.soundness.specs.Accepted.{accepted, is_nil}
-use Rattle.size_search.specs.Steady.{sum_below, greatest_upto, submitted_weight, awaited_weight, open_weight, most, weight_at, weights_from, client_end, client_row, steady_vector, steady_total, steady_pool, steady_cert}
+use Rattle.size_search.specs.Steady.{sum_below, greatest_upto, submitted_weight, awaited_weight, open_weight, most, weight_at, weights_from, client_end, client_row, blocked_of, steady_vector, steady_total, steady_pool, steady_cert}
 use Rattle.size_search.specs.Submitted.{IsNeverGot, LosesWithoutBound, by_client, by_job}
+use Rattle.size_search.specs.Waiting.{HasUnusedGet}
 use Rattle.size_search.specs.Sized.{IsSteadyTooLarge, IsTooLarge}
+use Rattle.size_search.proofs.JobGraphs.{getter_inside}
 use Rattle.size_search.proofs.Losses.{class_submitted}
 
 -- ---- vectors in which jobs have no weight
@@ -157,8 +159,12 @@ steady_too_large_for_a_pool plan well large =
           large
     ]
 
+-- if a class has a get, the plan has a pool
+unused_of_a_pool : (plan : Plan) → IsWellFormed plan → HasUnusedGet plan → 0 < length plan.pools
+unused_of_a_pool plan well unused = let of_class = (ordered plan well).pools unused.class (getter_inside plan unused.class unused.got unused.gets) in omega (arith, of_class)
+
 pub too_large_for_a_pool : (plan : Plan) → IsWellFormed plan → IsTooLarge plan → 0 < length plan.pools
-too_large_for_a_pool plan well large = ⊎_elim (λ steady. steady_too_large_for_a_pool plan well steady) (λ lost. lost_to_a_pool plan well lost) large
+too_large_for_a_pool plan well large = ⊎_elim (λ steady. steady_too_large_for_a_pool plan well steady) (λ other. ⊎_elim (λ lost. lost_to_a_pool plan well lost) (λ unused. unused_of_a_pool plan well unused) other) large
 
 -- if the steady certificate of a plan is accepted, its weights are within the limit
 pub small_where_accepted : (plan : Plan) → IsWellFormed plan → IsTrue (accepted plan (steady_cert plan)) → has_small_numbers (steady_vector plan) ≡ true
@@ -168,7 +174,11 @@ small_where_accepted plan well is_accepted =
           let cert = steady_cert plan in
           let fits = (and_parts (cert_fits plan cert) (is_nil (failing plan cert)) is_accepted).0 in
           let first : get_or cert.pools 0 no_pool_cert ≡ steady_pool plan (pool_at plan 0) = get_or-map (steady_pool plan) plan.pools 0 no_pool no_pool_cert some in
-          let of_first : vector_fits plan (steady_vector plan) ≡ true = subst (λ (part : PoolCert). vector_fits plan part.blocked ≡ true) first ((parts_fit plan cert fits).pools 0 some).blocked in
-          (and_parts (has_shape plan (steady_vector plan)) (has_small_numbers (steady_vector plan)) of_first).1
+          in_blocked ((pool_at plan 0).core_timeout && has_small_numbers (steady_vector plan)) refl
+          (subst (λ (part : PoolCert). vector_fits plan part.blocked ≡ true) first ((parts_fit plan cert fits).pools 0 some).blocked)
       | inr past ↦ ap (λ (any : Plan). has_small_numbers (steady_vector any)) (bare_plan plan well (omega (arith, past))) ∙ small_without plan.clients
     ]
+  where
+    in_blocked : (uncounted : Bool) → ((pool_at plan 0).core_timeout && has_small_numbers (steady_vector plan)) ≡ uncounted → vector_fits plan (blocked_of (steady_vector plan) uncounted) ≡ true → has_small_numbers (steady_vector plan) ≡ true
+    in_blocked true is fits = (and_parts (pool_at plan 0).core_timeout (has_small_numbers (steady_vector plan)) is).1
+    in_blocked false is fits = (and_parts (has_shape plan (steady_vector plan)) (has_small_numbers (steady_vector plan)) fits).1

@@ -1,6 +1,6 @@
 -- The fitted plans of small examples, computed from the definitions.
-use Rattle.std.proofs.Common.{◌≡◌, ℕ, [], ◌∷◌, Some, None, true, false, refl}
-use Rattle.job_bodies.specs.Plan.{Plan}
+use Rattle.std.proofs.Common.{◌≡◌, ℕ, [], ◌∷◌, map, Some, None, true, false, refl}
+use Rattle.job_bodies.specs.Plan.{Pool, Plan}
 use Rattle.weights.specs.declared.bound.Bound.TheVariants.{Lifetime}
 use Rattle.weights.specs.declared.row.Rule.TheVariants.{V7, B2}
 use Rattle.weights.specs.declared.row.Place.TheVariants as place
@@ -9,7 +9,7 @@ use Rattle.cert_text.specs.Cert.{Cert}
 use Rattle.soundness.specs.declared.note.Section.TheVariants as section
 use Rattle.soundness.specs.Conditions.{note, failing}
 use Rattle.cert_check.proofs.WorkedPlans.{a_pool, a_class, clients, asks, works, one_pool, one_pool_once, rejecting, forgetting, unbounded_queue, nested, nested_rejecting, nested_unbounded, fan_out, two_pools, weighing, pool_cert, pair_of_ones, one_of_ones, one_of_zeros, standing_cert, cert_without_bound, lifetime_cert, forgetting_cert, lends, nested_ranks, nested_cert, nested_cert_without_bound, fan_out_cert, two_pools_cert}
-use Rattle.size_search.specs.declared.unfit.Unfit.TheVariants.{Shape, Condition, Core, Queue}
+use Rattle.size_search.specs.declared.unfit.Unfit.TheVariants.{Shape, Condition, Core, Queue, CoreTimeout}
 use Rattle.size_search.specs.Fitted.{fitted, smallest}
 use Rattle.size_search.specs.Widened.{widened}
 use Rattle.size_search.specs.Unfit.{why_unfit, why_not_widened}
@@ -134,6 +134,34 @@ lifetime_prestarted = refl
 -- with a core of one, a job starts the second thread, and a queue of two is enough
 pub lifetime_prestarted_smallest : fitted (smallest (one_pool_once 2 2 1 3 true)) lifetime_cert ≡ Some (one_pool_once 1 2 2 3 true)
 lifetime_prestarted_smallest = refl
+
+-- ---- pools whose core threads may time out
+
+-- the plan, but the core threads of all pools may time out
+abbrev losing : Plan → Plan
+losing plan = record plan { pools = map (λ (pool : Pool). record pool { core_timeout = true }) plan.pools }
+
+-- an outer job and its inner job need two threads, but one may be left
+pub nested_last_thread : why_unfit (losing (nested 2 8 false)) nested_cert ≡ Some (CoreTimeout 0)
+nested_last_thread = refl
+
+pub nested_last_thread_fitted : fitted (losing (nested 2 8 false)) nested_cert ≡ None
+nested_last_thread_fitted = refl
+
+-- a larger maximum does not help either
+pub nested_last_thread_widened : widened (losing (nested 1 1 false)) nested_cert ≡ losing (nested 1 1 false)
+nested_last_thread_widened = refl
+
+-- without gets the queue alone is raised, and the core stays unchanged
+pub losing_queue : fitted (losing (one_pool 3 3 1 2)) (standing_cert 1) ≡ Some (losing (one_pool 3 3 2 2))
+losing_queue = refl
+
+pub losing_smallest : fitted (smallest (losing (one_pool 3 3 9 2))) (standing_cert 1) ≡ Some (losing (one_pool 3 3 2 2))
+losing_smallest = refl
+
+-- threads can start without a job, so the queue must have room for all four jobs
+pub losing_lifetime : fitted (losing (one_pool_once 2 2 1 4 false)) lifetime_cert ≡ Some (losing (one_pool_once 2 2 4 4 false))
+losing_lifetime = refl
 
 -- ---- one failing condition and two numbers to change
 

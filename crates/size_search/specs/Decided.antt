@@ -1,6 +1,6 @@
 -- The search for sizes is a decision: sizes exist exactly when no cause holds, unless the steady certificate is too large (`IsTooLarge`).
 use Rattle.job_bodies.specs.Plan.{Plan}
-use Rattle.size_search.specs.Submitted.{IsWithoutCause}
+use Rattle.size_search.specs.Causes.{IsWithoutCause}
 use Rattle.size_search.specs.NoSizesHelp.{IsBeyondSizes, HasSizes}
 use Rattle.size_search.specs.declared.found.SizesFound.{SizesFound}
 use Rattle.size_search.specs.declared.found.SizesFound.TheVariants.{Found, NotFound}

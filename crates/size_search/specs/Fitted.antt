@@ -1,7 +1,7 @@
 -- The least cores and queues with which a certificate accepts a plan.
 use Rattle.std.specs.Prelude.{◌≡◌, ◌≤◌, ℕ, ◌+◌, ◌-◌, max, Bool, true, false, ◌&&◌, not, nat_lt, if◌then◌else◌, map, Option, Some, None, IsTrue, IsFalse}
 use Rattle.std.specs.List.{list_all, enumerate_from}
-use Rattle.job_bodies.specs.Plan.{Pool, Plan, pool_at, needs_no_bound, first_workers}
+use Rattle.job_bodies.specs.Plan.{Pool, Plan, pool_at, least_threads, needs_no_bound, first_workers}
 use Rattle.job_bodies.specs.WellFormed.{IsWellFormed, has_valid_sizes}
 use Rattle.weights.specs.declared.row.Place.{Place}
 use Rattle.weights.specs.declared.row.Place.TheVariants.{Total}
@@ -19,10 +19,15 @@ use Rattle.soundness.specs.Accepted.{accepted}
 abbrev pub core_needed : Plan → Vector → ℕ
 core_needed plan v = total plan v + 1
 
--- the queue that rule S2 or L3 requires: the total or, for a lifetime bound, the total minus the number of threads that are not prestarted
+-- the number of threads that start with a job, which needs no place in the queue: those that are not prestarted; none if core threads may
+-- time out, because Java then starts threads without a job
+abbrev pub threads_with_job : Pool → ℕ
+threads_with_job pool = if pool.core_timeout then 0 else pool.max - first_workers pool
+
+-- the queue that rule S2 or L3 requires: the total or, for a lifetime bound, the total minus the number of threads that start with a job
 abbrev pub queue_of_bound : Plan → Bound → Pool → ℕ
 queue_of_bound plan (Standing v) pool = total plan v
-queue_of_bound plan (Lifetime v) pool = total plan v + first_workers pool - pool.max
+queue_of_bound plan (Lifetime v) pool = total plan v - threads_with_job pool
 
 -- the queue that the bound of a pool requires; 0 if there is no bound, or if the queue is unbounded
 abbrev pub queue_needed : Plan → Option Bound → Pool → ℕ
@@ -31,8 +36,9 @@ queue_needed plan (Some bound) pool = if pool.unbounded then 0 else queue_of_bou
 
 -- ---- the plan with raised sizes
 
+-- a core whose threads may time out stays unchanged
 abbrev pub with_core : Plan → Vector → Pool → Pool
-with_core plan v pool = record pool { core = max pool.core (core_needed plan v) }
+with_core plan v pool = record pool { core = if pool.core_timeout then pool.core else max pool.core (core_needed plan v) }
 
 -- the queue of a pool that needs no bound, because it may reject jobs or its queue is unbounded, stays unchanged
 abbrev pub with_queue : Plan → Option Bound → Pool → Pool
@@ -43,7 +49,7 @@ abbrev pub raised_pool : Plan → PoolCert → Pool → Pool
 raised_pool plan cert pool = with_queue plan cert.bound (with_core plan cert.blocked pool)
 
 -- the plan with each core and each queue raised to what the certificate needs, unless it is already that large; the queue of a pool that
--- needs no bound stays unchanged
+-- needs no bound stays unchanged, and so does a core whose threads may time out
 abbrev pub raised : Plan → Cert → Plan
 raised plan cert = record plan { pools = map (λ entry. raised_pool plan (pool_cert_at cert entry.0) entry.1) (enumerate_from 0 plan.pools) }
 
@@ -64,11 +70,21 @@ has_queue plan bound pool = not (nat_lt pool.queue (queue_needed plan bound pool
 abbrev pub have_queues : Plan → Cert → Bool
 have_queues plan cert = list_all (λ entry. has_queue plan (pool_cert_at cert entry.0).bound entry.1) (enumerate_from 0 (raised plan cert).pools)
 
+-- a pool with a job in its queue has as many threads as the blocked vector requires
+abbrev pub has_threads : Plan → Vector → Pool → Bool
+has_threads plan v pool = not (nat_lt (least_threads pool) (core_needed plan v))
+
+-- each pool of the raised plan has as many threads as its blocked vector requires; only a pool whose core threads may time out can have
+-- fewer
+abbrev pub have_threads : Plan → Cert → Bool
+have_threads plan cert = list_all (λ entry. has_threads plan (pool_cert_at cert entry.0).blocked entry.1) (enumerate_from 0 (raised plan cert).pools)
+
 -- the raised plan, or None if a condition fails that does not depend on cores and queues, if a raised core is above its pool's maximum, if
--- a raised queue is above the limit, or if the unchanged queue of a pool that may reject jobs is smaller than its bound requires
+-- a raised queue is above the limit, if the unchanged queue of a pool that may reject jobs is smaller than its bound requires, or if a job
+-- of a pool whose core threads may time out can be blocked
 abbrev pub fitted : Plan → Cert → Option Plan
 fitted plan cert =
-    if fails_only_at_totals plan cert && list_all has_valid_sizes (raised plan cert).pools && have_queues plan cert
+    if fails_only_at_totals plan cert && list_all has_valid_sizes (raised plan cert).pools && have_queues plan cert && have_threads plan cert
     then Some (raised plan cert)
     else None
 
@@ -82,16 +98,21 @@ shape plan = record plan { pools = map (λ (pool : Pool). record pool { core = 0
 pub record KeepsQueues (plan other : Plan) : Type 0 where
   pub same_queue : (p : ℕ) → IsTrue (needs_no_bound (pool_at plan p)) → (pool_at other p).queue ≡ (pool_at plan p).queue
 
+-- each core whose threads may time out is the same in the other plan
+pub record KeepsCores (plan other : Plan) : Type 0 where
+  pub same_core : (p : ℕ) → IsTrue (pool_at plan p).core_timeout → (pool_at other p).core ≡ (pool_at plan p).core
+
 -- no core and no queue of the other plan is smaller than in this one
 pub record IsNoSmaller (other plan : Plan) : Type 0 where
   pub core : (p : ℕ) → (pool_at plan p).core ≤ (pool_at other p).core
   pub queue : (p : ℕ) → (pool_at plan p).queue ≤ (pool_at other p).queue
 
--- the other plan differs from this one only in cores and in the queues of pools that need a bound
+-- the other plan differs from this one only in cores whose threads never time out, and in the queues of pools that need a bound
 pub record IsResized (plan other : Plan) : Type 0 where
   pub well_formed : IsWellFormed other
   pub same_shape : shape other ≡ shape plan
   pub keeps_queues : KeepsQueues plan other
+  pub keeps_cores : KeepsCores plan other
 
 -- the certificate accepts the other plan, which differs from this one only in larger cores and larger queues of pools that need a bound
 pub record IsFit (plan : Plan) (cert : Cert) (other : Plan) : Type 0 where
@@ -132,11 +153,12 @@ LargerSizesAreAccepted = (plan other : Plan) (cert : Cert) → shape other ≡ s
 
 -- ---- the least sizes, whatever sizes the plan declares
 
--- the pool with a core of 1, and a queue of 1 unless it needs no bound
+-- the pool with a core of 1 unless core threads may time out, and a queue of 1 unless it needs no bound
 abbrev pub smallest_pool : Pool → Pool
-smallest_pool pool = record pool { core = 1; queue = if needs_no_bound pool then pool.queue else 1 }
+smallest_pool pool = record pool { core = if pool.core_timeout then pool.core else 1; queue = if needs_no_bound pool then pool.queue else 1 }
 
--- the plan with cores and queues of 1; the queue of a pool that needs no bound stays unchanged
+-- the plan with cores and queues of 1; the queue of a pool that needs no bound stays unchanged, and so does a core whose threads may time
+-- out
 abbrev pub smallest : Plan → Plan
 smallest plan = record plan { pools = map smallest_pool plan.pools }
 

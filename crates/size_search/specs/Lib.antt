@@ -1,10 +1,11 @@
 pub mod Submitted
+pub mod ByClients
+pub mod Waiting
+pub mod JobGraphs
 pub mod Steady
 pub mod Small
 pub mod ComputedRows
 pub mod SteadyLaws
-pub mod Reaching
-pub mod ByClients
 pub mod Causes
 pub mod Fitted
 pub mod Widened

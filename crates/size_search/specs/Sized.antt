@@ -9,6 +9,7 @@ use Rattle.size_search.specs.Fitted.{KeepsQueues, IsResized, IsNoSmaller}
 use Rattle.size_search.specs.Widened.{IsWideFit, HasLeastCores}
 use Rattle.size_search.specs.Steady.{steady_vector, steady_total}
 use Rattle.size_search.specs.Submitted.{LosesWithoutBound}
+use Rattle.size_search.specs.Waiting.{HasUnusedGet}
 use Rattle.size_search.specs.Causes.{IsCause}
 use Rattle.size_search.specs.declared.found.NoSizes.TheVariants.{Cause, TooLarge}
 use Rattle.size_search.specs.declared.found.SizesFound.{SizesFound}
@@ -32,10 +33,10 @@ pub record IsSized (plan : Plan) (cert : Cert) (fit : Plan) : Type 0 where
 abbrev pub IsSteadyTooLarge : Plan → Type 0
 IsSteadyTooLarge plan = (has_small_numbers (steady_vector plan) ≡ false) ⊎ (MAX_SIZE ≤ steady_total plan)
 
--- the steady certificate is too large, or no size is enough for it, because a submit to a pool that needs no bound is made forever and
--- never got
+-- the steady certificate is too large, or no size need be enough for it: a submit to a pool that needs no bound is made forever and never
+-- got, or no client submits a class that has a get and whose pool's core threads may time out
 abbrev pub IsTooLarge : Plan → Type 0
-IsTooLarge plan = IsSteadyTooLarge plan ⊎ LosesWithoutBound plan
+IsTooLarge plan = IsSteadyTooLarge plan ⊎ (LosesWithoutBound plan ⊎ HasUnusedGet plan)
 
 -- the result is true of the plan: the sizes that were found are `IsSized`, the cause that was found holds, or `IsTooLarge` holds and the
 -- pool that is named exists

@@ -1,15 +1,20 @@
 -- The steady certificate of a plan: one vector, which is the standing and the blocked vector of every pool. A pool that may reject jobs or
--- has an unbounded queue has no standing vector, since it needs none. In this vector an actor ends with enough weight for all jobs that it
--- has open at once, and a get returns the weight of the done job.
-use Rattle.std.specs.Prelude.{ℕ, zero, suc, ◌+◌, ◌-◌, max, Bool, true, false, if◌then◌else◌, List, [], ◌∷◌, ◌++◌, length, map, drop, Option, Some, None, slice_get, slice_index}
+-- has an unbounded queue has no standing vector, since it needs none. If the core threads of a pool may time out, its blocked vector is 0,
+-- and the ranks are such that none of its gets is counted. (If a weight is above the limit, all have the one vector, so that the certificate
+-- accepts no plan with a pool.) In the vector an actor ends with enough weight for all jobs that it has open at
+-- once, and a get returns the weight of the done job.
+use Rattle.std.specs.Prelude.{ℕ, zero, suc, ◌+◌, ◌-◌, max, ◌&&◌, Bool, true, false, if◌then◌else◌, List, [], ◌∷◌, ◌++◌, length, map, take, drop, replicate, Option, Some, None, slice_get}
+use Rattle.std.specs.List.{list_any}
 use Rattle.job_bodies.specs.declared.action.Action.{Action}
 use Rattle.job_bodies.specs.declared.action.Action.TheVariants.{Work, Submit, Get}
 use Rattle.job_bodies.specs.Plan.{Pool, Class, Client, Plan, needs_no_bound, has_get_of, submitted_class}
 use Rattle.weights.specs.declared.bound.Bound.{Bound}
 use Rattle.weights.specs.declared.bound.Bound.TheVariants.{Standing}
-use Rattle.weights.specs.Vector.{Vector, queued_weight, done_weight, total}
+use Rattle.weights.specs.Vector.{Vector, queued_weight, done_weight, total, has_small_numbers}
 use Rattle.weights.specs.Ranks.{Ranks}
 use Rattle.cert_text.specs.Cert.{PoolCert, Cert}
+use Rattle.graphs.specs.Levels.{levels_of}
+use Rattle.size_search.specs.JobGraphs.{submit_graph, all_marks, wait_graph}
 
 -- ---- open jobs of a body
 
@@ -98,39 +103,61 @@ steady_vector plan = record {
 abbrev pub steady_total : Plan → ℕ
 steady_total plan = total plan (steady_vector plan)
 
--- ---- levels
-
--- the least level above those of the classes that the body submits
-abbrev pub level_above : List ℕ → List Action → ℕ
-level_above levels [] = 0
-level_above levels (Work u ∷ rest) = level_above levels rest
-level_above levels (Submit k ∷ rest) = max (slice_index levels k + 1) (level_above levels rest)
-level_above levels (Get t ∷ rest) = level_above levels rest
-
--- the levels of the classes, computed by following submits n steps
-abbrev pub levels_within : Plan → ℕ → List ℕ
-levels_within plan zero = []
-levels_within plan (suc n) = map (λ (class : Class). level_above (levels_within plan n) class.body) plan.classes
+-- ---- levels, ranks and reaches
 
 abbrev pub steady_levels : Plan → List ℕ
-steady_levels plan = levels_within plan (length plan.classes)
+steady_levels plan = levels_of (submit_graph plan)
+
+-- whether the core threads of some pool may time out
+abbrev pub has_core_timeouts : Plan → Bool
+has_core_timeouts plan = list_any (λ (pool : Pool). pool.core_timeout) plan.pools
+
+-- the levels of the graph of waits in which each class is marked
+abbrev pub levels_of_waits : Plan → List ℕ
+levels_of_waits plan = levels_of (wait_graph plan (all_marks plan))
+
+-- the reach of each class, and then the rank of each pool: their levels in the graph of waits, or all 0 if no pool's core threads may time
+-- out
+abbrev pub wait_levels : Plan → List ℕ
+wait_levels plan = if has_core_timeouts plan then levels_of_waits plan else replicate (length plan.classes + length plan.pools) 0
+
+abbrev pub steady_ranks : Plan → Ranks
+steady_ranks plan = record {
+  pools = drop (length plan.classes) (wait_levels plan);
+  reach = take (length plan.classes) (wait_levels plan);
+  levels = steady_levels plan;
+}
 
 -- ---- the certificate
+
+-- the list with each number replaced by 0
+abbrev pub zeros : List ℕ → List ℕ
+zeros numbers = replicate (length numbers) 0
+
+-- the vector with each weight replaced by 0
+abbrev pub zero_vector : Vector → Vector
+zero_vector v = record { workers = zeros v.workers; classes = map zeros v.classes; clients = map zeros v.clients }
+
+-- the blocked vector of a pool: all 0 if none of its gets is counted
+abbrev pub blocked_of : Vector → Bool → Vector
+blocked_of v true = zero_vector v
+blocked_of v false = v
 
 -- the vector as the bound of a pool that needs a bound; none for another pool
 abbrev pub bound_of : Vector → Bool → Option Bound
 bound_of v true = None
 bound_of v false = Some (Standing v)
 
--- the part of a pool, in which the vector is both the bound and the blocked vector
+-- the part of a pool that needs no bound or needs one, and whose gets are counted or not
+abbrev pub part_of : Vector → Bool → Bool → PoolCert
+part_of v boundless uncounted = record { bound = bound_of v boundless; blocked = blocked_of v uncounted }
+
+-- the part of a pool, in which the vector is the bound and, unless core threads may time out, the blocked vector
 abbrev pub pool_of : Vector → Pool → PoolCert
-pool_of v pool = record { bound = bound_of v (needs_no_bound pool); blocked = v }
+pool_of v pool = part_of v (needs_no_bound pool) (pool.core_timeout && has_small_numbers v)
 
 abbrev pub steady_pool : Plan → Pool → PoolCert
 steady_pool plan pool = pool_of (steady_vector plan) pool
-
-abbrev pub steady_ranks : Plan → Ranks
-steady_ranks plan = record { pools = map (λ (pool : Pool). 0) plan.pools; reach = map (λ (class : Class). 0) plan.classes; levels = steady_levels plan }
 
 abbrev pub steady_cert : Plan → Cert
 steady_cert plan = record { pools = map (steady_pool plan) plan.pools; ranks = steady_ranks plan }

@@ -60,12 +60,6 @@ pub record LostByJobs (plan : Plan) (without_bound : Bool) (k i : ℕ) : Type 0 
   pub never_got : NeverGotByJobs plan k i
   pub of_pool : goes_without_bound plan (class_at plan k).body i ≡ without_bound
 
--- no class submits itself, and no repeating client causes a submit that is never got, to a pool that needs a bound
-pub record IsWithoutCause (plan : Plan) : Type 0 where
-  pub no_circle : NoCircle plan
-  pub clients_get : (c i : ℕ) → ¬ LostByClients plan false c i
-  pub jobs_get : (k i : ℕ) → ¬ LostByJobs plan false k i
-
 -- a repeating client causes a submit that is never got, to a pool that needs no bound
 pub data LosesWithoutBound (plan : Plan) : Type 0 where
   by_client : {c i : ℕ} → LostByClients plan true c i → LosesWithoutBound plan

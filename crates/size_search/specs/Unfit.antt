@@ -1,5 +1,5 @@
 -- The reasons why no choice of cores and queues, or of maximums, makes a certificate accept a plan.
-use Rattle.std.specs.Prelude.{◌≡◌, ◌<◌, ℕ, not, ◌||◌, nat_lt, if◌then◌else◌, List, [], ◌∷◌, Option, Some, None}
+use Rattle.std.specs.Prelude.{◌≡◌, ◌<◌, ℕ, not, ◌||◌, ◌&&◌, nat_lt, if◌then◌else◌, List, [], ◌∷◌, Option, Some, None}
 use Rattle.std.specs.List.{enumerate_from, find}
 use Rattle.std.specs.Option.{option_or, option_map}
 use Rattle.job_bodies.specs.declared.limits.TheConstants.{MAX_SIZE}
@@ -9,8 +9,8 @@ use Rattle.cert_text.specs.Cert.{Cert, pool_cert_at, cert_fits}
 use Rattle.soundness.specs.declared.note.Note.{Note}
 use Rattle.soundness.specs.Conditions.{failing}
 use Rattle.size_search.specs.declared.unfit.Unfit.{Unfit}
-use Rattle.size_search.specs.declared.unfit.Unfit.TheVariants.{Shape, Condition, Core, Queue}
-use Rattle.size_search.specs.Fitted.{is_total, has_queue, raised}
+use Rattle.size_search.specs.declared.unfit.Unfit.TheVariants.{Shape, Condition, Core, Queue, CoreTimeout}
+use Rattle.size_search.specs.Fitted.{is_total, has_queue, has_threads, raised}
 use Rattle.size_search.specs.Widened.{widened, IsWideFit}
 
 -- the first failing condition that does not depend on cores and queues
@@ -18,9 +18,10 @@ abbrev pub failing_elsewhere : Plan → Cert → Option Note
 failing_elsewhere plan cert = find (λ note. not (is_total note.place)) (failing plan cert)
 
 -- the reason why the raised sizes of a pool are invalid, or None if they are valid: `Core` if the core is above the maximum, or if the
--- maximum, which was raised for a core, is above the limit; `Queue` if the queue is above the limit
+-- maximum, which was raised for a core, is above the limit; `Queue` if the queue is above the limit. The maximum of a pool whose core
+-- threads may time out is not raised.
 abbrev pub unfit_pool : ℕ → Pool → Option Unfit
-unfit_pool p pool = if nat_lt pool.max pool.core || nat_lt MAX_SIZE pool.max then Some (Core p) else (if nat_lt MAX_SIZE pool.queue then Some (Queue p) else None)
+unfit_pool p pool = if nat_lt pool.max pool.core || nat_lt MAX_SIZE pool.max && not pool.core_timeout then Some (Core p) else (if nat_lt MAX_SIZE pool.queue then Some (Queue p) else None)
 
 -- the reason for the first pool of the list whose sizes are invalid, or None
 abbrev pub first_unfit : List (ℕ × Pool) → Option Unfit
@@ -32,9 +33,17 @@ abbrev pub first_tight : Plan → Cert → List (ℕ × Pool) → Option Unfit
 first_tight plan cert [] = None
 first_tight plan cert (entry ∷ entries) = if has_queue plan (pool_cert_at cert entry.0).bound entry.1 then first_tight plan cert entries else Some (Queue entry.0)
 
--- the reason why the sizes of the raised plan are not enough, or None; an invalid size takes precedence over a queue that is too small
+-- the reason for the first pool of the list that has fewer threads than its blocked vector requires, or None
+abbrev pub first_short : Plan → Cert → List (ℕ × Pool) → Option Unfit
+first_short plan cert [] = None
+first_short plan cert (entry ∷ entries) = if has_threads plan (pool_cert_at cert entry.0).blocked entry.1 then first_short plan cert entries else Some (CoreTimeout entry.0)
+
+-- the reason why the sizes of the raised plan are not enough, or None; an invalid size takes precedence over a queue that is too small, and
+-- this over too few threads
 abbrev pub unfit_sizes : Plan → Cert → Option Unfit
-unfit_sizes plan cert = option_or (first_unfit (enumerate_from 0 (raised plan cert).pools)) (first_tight plan cert (enumerate_from 0 (raised plan cert).pools))
+unfit_sizes plan cert =
+    option_or (first_unfit (enumerate_from 0 (raised plan cert).pools))
+    (option_or (first_tight plan cert (enumerate_from 0 (raised plan cert).pools)) (first_short plan cert (enumerate_from 0 (raised plan cert).pools)))
 
 -- the reason why the plan has no fitted plan, or None; a failing condition that no size changes takes precedence over the sizes
 abbrev pub why_unfit : Plan → Cert → Option Unfit

@@ -1,5 +1,5 @@
 -- Maximums that leave room for the cores that a certificate needs, if a core would be above its maximum.
-use Rattle.std.specs.Prelude.{◌≡◌, ◌≤◌, ◌<◌, ℕ, max, map, length, IsTrue}
+use Rattle.std.specs.Prelude.{◌≡◌, ◌≤◌, ◌<◌, ℕ, max, if◌then◌else◌, map, length, IsTrue, IsFalse}
 use Rattle.std.specs.List.{enumerate_from}
 use Rattle.job_bodies.specs.Plan.{Pool, Plan, pool_at}
 use Rattle.job_bodies.specs.WellFormed.{IsWellFormed}
@@ -8,10 +8,12 @@ use Rattle.cert_text.specs.Cert.{Cert, pool_cert_at}
 use Rattle.soundness.specs.Accepted.{accepted}
 use Rattle.size_search.specs.Fitted.{core_needed, IsNoSmaller}
 
+-- the maximum of a pool whose core threads may time out stays unchanged
 abbrev pub with_max : Plan → Vector → Pool → Pool
-with_max plan v pool = record pool { max = max pool.max (core_needed plan v) }
+with_max plan v pool = record pool { max = if pool.core_timeout then pool.max else max pool.max (core_needed plan v) }
 
--- the plan with each maximum raised to the core that the certificate needs; if that increases totals, still larger maximums can be needed
+-- the plan with each maximum raised to the core that the certificate needs, unless core threads may time out; if that increases totals,
+-- still larger maximums can be needed
 abbrev pub widened : Plan → Cert → Plan
 widened plan cert = record plan { pools = map (λ entry. with_max plan (pool_cert_at cert entry.0).blocked entry.1) (enumerate_from 0 plan.pools) }
 
@@ -53,12 +55,12 @@ pub record IsLeastWide (plan : Plan) (cert : Cert) (wide : Plan) : Type 0 where
   pub least : (other : Plan) → IsWideFit plan cert other → IsWideFit wide cert other
   pub needed : (p : ℕ) → (pool_at plan p).max < (pool_at wide p).max → (pool_at wide p).max ≤ core_needed wide (pool_cert_at cert p).blocked
 
--- each maximum of `wide` is at least the core that the certificate needs with the maximums of `plan`
+-- each maximum of `wide` is at least the core that the certificate needs with the maximums of `plan`, unless core threads may time out
 abbrev pub LeavesRoom : Plan → Cert → Plan → Type 0
-LeavesRoom plan cert wide = (p : ℕ) → p < length plan.pools → core_needed plan (pool_cert_at cert p).blocked ≤ (pool_at wide p).max
+LeavesRoom plan cert wide = (p : ℕ) → p < length plan.pools → IsFalse (pool_at plan p).core_timeout → core_needed plan (pool_cert_at cert p).blocked ≤ (pool_at wide p).max
 
--- each plan that satisfies `IsWideFit` has at least the cores that the certificate needs with this plan's maximums, and at least the
--- maximums of the widened plan: a larger maximum never allows a smaller core
+-- each plan that satisfies `IsWideFit` has at least the cores that the certificate needs with this plan's maximums, except those whose
+-- threads may time out, and at least the maximums of the widened plan: a larger maximum never allows a smaller core
 pub record WidenedMaxesAreLeast : Type 0 where
-  pub cores : (plan other : Plan) (cert : Cert) (p : ℕ) → p < length plan.pools → IsWideFit plan cert other → core_needed plan (pool_cert_at cert p).blocked ≤ (pool_at other p).core
+  pub cores : (plan other : Plan) (cert : Cert) (p : ℕ) → p < length plan.pools → IsFalse (pool_at plan p).core_timeout → IsWideFit plan cert other → core_needed plan (pool_cert_at cert p).blocked ≤ (pool_at other p).core
   pub maxes : (plan other : Plan) (cert : Cert) → IsWideFit plan cert other → IsWideFit (widened plan cert) cert other

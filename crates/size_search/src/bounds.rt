@@ -124,9 +124,13 @@ fn least_bound(
     )
 }
 
-/// Returns the queue capacity that the pool needs to accept `jobs` jobs in its lifetime. Each
-/// thread that is not prestarted starts with a job, and this job needs no place in the queue.
+/// Returns the queue capacity that the pool needs to accept this number of jobs in its lifetime.
+/// Each thread that is not prestarted starts with a job, which needs no place in the queue, unless
+/// core threads may time out.
 fn lifetime_queue(pool: &Pool, pool_threads: PoolThreads, jobs: u64) -> u64 {
+    if pool.core_timeout {
+        return jobs;
+    }
     let first_workers = if pool.prestart { pool_threads.core } else { 0 };
     jobs.saturating_add(first_workers)
         .saturating_sub(pool_threads.max)

@@ -13,4 +13,8 @@ pub enum Cause {
     /// get the submitted job, which goes to a pool that must not reject jobs and has a bounded
     /// queue. Repeating clients submit jobs of this class, directly or through other jobs.
     ClassNeverGets(usize, usize),
+    /// The core threads of the pool with this number may time out. If one thread is left, a job that
+    /// it executes can wait at a get until another job of the pool ends. It can wait through jobs of
+    /// other pools, of which those whose core threads may time out have one thread left too.
+    PoolWaitsForItself(usize),
 }

@@ -1,15 +1,16 @@
 //! The search for a cause: a reason why no certificate accepts a plan, whatever its sizes.
 
-ghost use Rattle.std.specs.Prelude.{◌≡◌, ◌<◌, ◌↔◌, ℕ, [], ◌∷◌, false, true, IfOk, IfSome, IfNone, length};
+ghost use Rattle.std.specs.Prelude.{◌≡◌, ◌<◌, ◌↔◌, ◌⊎◌, ℕ, false, true, IfOk, IfSome, IfNone, length, slice_index_or};
 ghost use Rattle.job_bodies.specs.Plan.{class_at, needs_no_bound, pool_at};
 ghost use Rattle.job_bodies.specs.WellFormed.{IsWellFormed};
-ghost use Rattle.size_search.specs.Submitted.{IsSubmitted, IsNeverGot, NoCircle, LostByClients, LostByJobs, IsAllGot, IsWithoutCause, LosesWithoutBound, goes_without_bound, repeated_bodies};
-ghost use Rattle.size_search.specs.Reaching.{Has};
-ghost use Rattle.size_search.specs.Causes.{IsCause};
+ghost use Rattle.size_search.specs.Submitted.{IsNeverGot, NoCircle, LostByClients, LostByJobs, IsAllGot, LosesWithoutBound, goes_without_bound};
+ghost use Rattle.size_search.specs.ByClients.{MarksRepeated, MarksSubmitted};
+ghost use Rattle.size_search.specs.Waiting.{GetsClass, GetsAreUsed, HasUnusedGet, IsSteady, MayLoseThreads, NoneWaitsForItself};
+ghost use Rattle.size_search.specs.Causes.{IsCause, IsWithoutCause};
 
 use crate::cause::Cause;
-use crate::submitted::submitted_by_repeating_clients;
-use crate::submitted_classes::SubmittedClasses;
+use crate::job_graphs::{submit_graph, wait_graph};
+use crate::submitted::{submitted_by_clients, submitted_repeatedly};
 use job_bodies::{Action, Plan, has_get_of};
 use std::alloc::{AllocError, Global};
 use weights::submitted_class;
@@ -31,22 +32,34 @@ pub fn cause_of(alloc: Global, plan: &Plan) -> Result<Option<Cause>, AllocError>
     if let Some((client, action)) = lost_by_clients(plan, false) {
         return Ok(Some(Cause::ClientNeverGets(client, action)));
     }
-    let submitted_classes = submitted_by_repeating_clients(alloc, plan)?;
-    if let Some((class, action)) = lost_by_jobs(plan, &submitted_classes, false) {
+    let repeated = submitted_repeatedly(alloc, plan)?;
+    if let Some((class, action)) = lost_by_jobs(plan, &repeated, false) {
         return Ok(Some(Cause::ClassNeverGets(class, action)));
     }
-    Ok(None)
+    pool_circle(alloc, plan)
 }
 
-/// Returns whether the plan has a submit without a get that meets two conditions:
-///
-/// - The submit goes to a pool that needs no bound.
-/// - It is in the body of a repeating client kind, or of a class that repeating clients submit,
-///   directly or through other jobs.
-///
-/// If so, no sizes are enough for the plan's steady certificate. [`cause_of`] must have found no
-/// cause for the plan.
-pub(crate) fn loses_without_bound(alloc: Global, plan: &Plan) -> Result<bool, AllocError>
+/// Returns whether the plan loses jobs without a bound, or has a get that is not used. Neither is a
+/// cause, but then no sizes need to be enough for the plan's steady certificate: a repeating client
+/// causes a submit that is never got, to a pool that needs no bound, or no client submits a class
+/// that has a get and whose pool's core threads may time out. [`cause_of`] must have found no
+/// cause.
+pub(crate) fn is_unsteady(alloc: Global, plan: &Plan) -> Result<bool, AllocError>
+    requires { IsWithoutCause plan.now }
+    ensures unsteady { IfOk result
+        (λ unsteady. unsteady ≡ true → LosesWithoutBound plan.now ⊎ HasUnusedGet plan.now) }
+    ensures steady { IfOk result (λ unsteady. unsteady ≡ false → IsSteady plan.now) }
+{
+    if loses_without_bound(alloc, plan)? {
+        return Ok(true);
+    }
+    let submitted = submitted_by_clients(alloc, plan)?;
+    Ok(has_unused_get(plan, &submitted))
+}
+
+/// Returns whether a repeating client causes a submit that is never got, to a pool that needs no
+/// bound. [`cause_of`] must have found no cause.
+fn loses_without_bound(alloc: Global, plan: &Plan) -> Result<bool, AllocError>
     requires { IsWithoutCause plan.now }
     ensures loses { IfOk result (λ loses. loses ≡ true → LosesWithoutBound plan.now) }
     ensures none { IfOk result (λ loses. loses ≡ false → IsAllGot plan.now) }
@@ -54,8 +67,8 @@ pub(crate) fn loses_without_bound(alloc: Global, plan: &Plan) -> Result<bool, Al
     if let Some(_lost) = lost_by_clients(plan, true) {
         return Ok(true);
     }
-    let submitted_classes = submitted_by_repeating_clients(alloc, plan)?;
-    match lost_by_jobs(plan, &submitted_classes, true) {
+    let repeated = submitted_repeatedly(alloc, plan)?;
+    match lost_by_jobs(plan, &repeated, true) {
         Some(_lost) => Ok(true),
         None => Ok(false),
     }
@@ -68,25 +81,77 @@ fn circle(alloc: Global, plan: &Plan) -> Result<Option<Cause>, AllocError>
     ensures none { IfOk result (λ found. IfNone found (NoCircle plan.now)) }
     ensures well_formed { IsWellFormed plan.now }
 {
-    for number in 0..plan.classes().len() {
-        if submits_itself(alloc, plan, number)? {
-            return Ok(Some(Cause::Circle(number)));
-        }
+    let graph = submit_graph(alloc, plan)?;
+    let found = graph.circle_from(alloc, 0)?;
+    match found {
+        Some(class) => Ok(Some(Cause::Circle(class))),
+        None => Ok(None),
     }
-    Ok(None)
 }
 
-/// Returns whether the class submits itself, directly or through other classes.
-fn submits_itself(alloc: Global, plan: &Plan, number: usize) -> Result<bool, AllocError>
+/// Returns, as a cause, the first pool whose last thread can wait until a job of the pool ends.
+/// Returns `None` if there is none.
+fn pool_circle(alloc: Global, plan: &Plan) -> Result<Option<Cause>, AllocError>
+    ensures cause { IfOk result (λ found. IfSome found (IsCause plan.now)) }
+    ensures none { IfOk result (λ found. IfNone found (NoneWaitsForItself plan.now)) }
+{
+    let submitted = submitted_by_clients(alloc, plan)?;
+    let graph = wait_graph(alloc, plan, &submitted)?;
+    let classes = plan.classes().len();
+    let found = graph.circle_from(alloc, classes)?;
+    match found {
+        Some(node) => Ok(Some(Cause::PoolWaitsForItself(node - classes))),
+        None => Ok(None),
+    }
+}
+
+/// Returns whether some class has a get and is not marked, and the core threads of its pool may time
+/// out. The marks must be those of the classes that clients submit, directly or through other jobs.
+fn has_unused_get(plan: &Plan, submitted: &[bool]) -> bool
+    requires { MarksSubmitted plan.now submitted.now }
+    ensures unused { result ≡ true → HasUnusedGet plan.now }
+    ensures used { result ≡ false → GetsAreUsed plan.now }
+{
+    for number in 0..plan.classes().len() {
+        if !submitted[number] && has_get_in_pool(plan, number) {
+            return true;
+        }
+    }
+    false
+}
+
+/// Returns whether the class has a get, and the core threads of its pool may time out.
+fn has_get_in_pool(plan: &Plan, number: usize) -> bool
     requires { number < length plan.now.classes }
-    ensures { IfOk result
-        (λ yes. (yes ≡ true) ↔ IsSubmitted plan.now ((class_at plan.now number).body ∷ []) number) }
+    ensures has { result ≡ true
+        → MayLoseThreads plan.now number × ((j : ℕ) × GetsClass (class_at plan.now number).body j) }
+    ensures none { result ≡ false
+        → MayLoseThreads plan.now number → (j : ℕ) → ¬ GetsClass (class_at plan.now number).body j }
 {
     let class = &plan.classes()[number];
-    let mut submitted_classes = SubmittedClasses::empty(alloc, plan)?;
-    submitted_classes.add_body(&class.body)?;
-    submitted_classes.add_all(plan)?;
-    Ok(submitted_classes.has(number))
+    may_lose_threads(plan, class.pool) && has_get(&class.body)
+}
+
+/// Returns whether the body has a get.
+fn has_get(body: &[Action]) -> bool
+    ensures has { result ≡ true → (j : ℕ) × GetsClass body.now j }
+    ensures none { result ≡ false → (j : ℕ) → ¬ GetsClass body.now j }
+{
+    for action in body {
+        if let Action::Get(_) = *action {
+            return true;
+        }
+    }
+    false
+}
+
+fn may_lose_threads(plan: &Plan, pool: usize) -> bool
+    ensures { result ≡ (pool_at plan.now pool).core_timeout }
+{
+    match plan.pool_at(pool) {
+        Some(pool) => pool.core_timeout,
+        None => false,
+    }
 }
 
 /// Returns the first submit without a get in the bodies of the repeating client kinds: the number
@@ -107,22 +172,19 @@ fn lost_by_clients(plan: &Plan, without_bound: bool) -> Option<(usize, usize)>
     None
 }
 
-/// Returns the first submit without a get in the bodies of the classes in `submitted_classes`: the
-/// number of the class and the position of the submit. `submitted_classes` must have exactly the
-/// classes that repeating clients submit, directly or through other jobs. `without_bound` is as in
-/// [`lost_by_clients`].
-fn lost_by_jobs(
-    plan: &Plan,
-    submitted_classes: &SubmittedClasses,
-    without_bound: bool,
-) -> Option<(usize, usize)>
-    requires { (k : ℕ) → Has submitted_classes.now k ↔ IsSubmitted plan.now (repeated_bodies plan.now) k }
+/// Returns the first submit without a get in the body of a marked class, as the number of the class
+/// and the position of the submit. The marks must be those of the classes that repeating clients
+/// submit, directly or through other jobs. If `without_bound` is true, considers only submits to
+/// pools that need no bound, and otherwise only submits to the other pools. Returns `None` if there
+/// is none.
+fn lost_by_jobs(plan: &Plan, repeated: &[bool], without_bound: bool) -> Option<(usize, usize)>
+    requires { MarksRepeated plan.now repeated.now }
     ensures lost { IfSome result (λ found. LostByJobs plan.now without_bound found.0 found.1) }
     ensures none { IfNone result ((k i : ℕ) → ¬ LostByJobs plan.now without_bound k i) }
 {
     for number in 0..plan.classes().len() {
         let class = &plan.classes()[number];
-        if submitted_classes.has(number) {
+        if repeated[number] {
             if let Some(action) = submit_without_get(plan, &class.body, without_bound) {
                 return Some((number, action));
             }

@@ -1,13 +1,14 @@
 //! The steady certificate of a plan: a certificate in which one vector is the blocked vector of
-//! every pool, and also the standing vector of every pool that needs a bound. A pool needs none if
-//! it may reject jobs or its queue is unbounded.
+//! every pool whose core threads never time out, and also the standing vector of every pool that
+//! needs a bound. A pool needs none if it may reject jobs or its queue is unbounded. The other
+//! blocked vectors are 0, and the ranks are such that no get of their pools is counted.
 
-ghost use Rattle.std.specs.Prelude.{◌≡◌, IfOk, IfSome, IfNone, true, false, map};
+ghost use Rattle.std.specs.Prelude.{◌≡◌, ◌≤◌, take, drop, length, IfOk, IfSome, IfNone, true, false, map};
 ghost use Rattle.weights.specs.Vector.{has_small_numbers};
 ghost use Rattle.size_search.specs.Submitted.{NoCircle};
 ghost use Rattle.size_search.specs.Steady as spec;
 
-use crate::levels::steady_levels;
+use crate::levels::{steady_levels, wait_levels};
 use crate::rows::{clients_of, jobs_of};
 use cert_text::{Cert, PoolCert};
 use job_bodies::{Plan, Pool};
@@ -80,18 +81,64 @@ fn bound_of(
     Ok(Some(Bound::Standing(vector)))
 }
 
-/// Returns the part of the steady certificate for one pool. The vector is the blocked vector of the
-/// pool and, if the pool needs a bound, also the bound of its queue.
+fn zeros(alloc: Global, numbers: &[u64]) -> Result<Vec<u64>, AllocError>
+    ensures { IfOk result (λ zeros. zeros.items ≡ spec.zeros numbers.now) }
+{
+    let zeros = vec![in alloc; 0; numbers.len()]?;
+    Ok(zeros)
+}
+
+fn zero_rows(alloc: Global, rows: &[Vec<u64>]) -> Result<Vec<Vec<u64>>, AllocError>
+    ensures { IfOk result (λ made.
+        map (λ row. row.items) made.items ≡ map spec.zeros (map (λ row. row.items) rows.now)) }
+{
+    let mut made = Vec::with_capacity(alloc, rows.len())?;
+    for row in rows {
+        made.push(zeros(alloc, row)?)?;
+    }
+    Ok(made)
+}
+
+/// Returns a vector of the same shape, whose weights are 0.
+fn zero_vector(alloc: Global, vector: &Vector) -> Result<Vector, AllocError>
+    ensures { IfOk result (λ made. made ≡ spec.zero_vector vector.now) }
+{
+    let workers = zeros(alloc, &vector.workers)?;
+    let classes = zero_rows(alloc, &vector.classes)?;
+    let clients = zero_rows(alloc, &vector.clients)?;
+    Ok(Vector {
+        workers,
+        classes,
+        clients,
+    })
+}
+
+/// Returns the blocked vector of a pool: the vector, or zeros if none of the pool's gets is counted.
+fn blocked_of(alloc: Global, vector: &Vector, uncounted: bool) -> Result<Vector, AllocError>
+    ensures { IfOk result (λ blocked. blocked ≡ spec.blocked_of vector.now uncounted) }
+{
+    if uncounted {
+        let zeros = zero_vector(alloc, vector)?;
+        return Ok(zeros);
+    }
+    let vector = copied(alloc, vector)?;
+    Ok(vector)
+}
+
+/// Returns the part of the steady certificate for one pool: the vector is its bound and, unless its
+/// core threads may time out, its blocked vector.
 fn pool_of(alloc: Global, vector: &Vector, pool: &Pool) -> Result<PoolCert, AllocError>
+    requires { has_small_numbers vector.now ≡ true }
     ensures { IfOk result (λ part. part ≡ spec.pool_of vector.now pool.now) }
 {
     let bound = bound_of(alloc, vector, pool.needs_no_bound())?;
-    let blocked = copied(alloc, vector)?;
+    let blocked = blocked_of(alloc, vector, pool.core_timeout)?;
     Ok(PoolCert { bound, blocked })
 }
 
 /// Returns the parts of the steady certificate for all pools.
 fn pools_of(alloc: Global, plan: &Plan, vector: &Vector) -> Result<Vec<PoolCert>, AllocError>
+    requires { has_small_numbers vector.now ≡ true }
     ensures { IfOk result (λ pools. pools.items ≡ map (spec.pool_of vector.now) plan.now.pools) }
 {
     let mut pools = Vec::with_capacity(alloc, plan.pools().len())?;
@@ -101,17 +148,42 @@ fn pools_of(alloc: Global, plan: &Plan, vector: &Vector) -> Result<Vec<PoolCert>
     Ok(pools)
 }
 
-/// Returns the steady certificate of the plan, or `None` if it has a weight above
+/// Returns the ranks of the steady certificate. `levels` has its levels.
+fn ranks_of(alloc: Global, plan: &Plan, levels: Vec<u64>) -> Result<Ranks, AllocError>
+    requires { levels.items ≡ spec.steady_levels plan.now }
+    ensures { IfOk result (λ ranks. ranks ≡ spec.steady_ranks plan.now) }
+{
+    let waits = wait_levels(alloc, plan)?;
+    let (reaches, pools) = halves_of(alloc, &waits, plan.classes().len())?;
+    Ok(Ranks {
+        pools,
+        reach: reaches,
+        levels,
+    })
+}
+
+/// Returns the first `count` numbers, and the others.
+fn halves_of(
+    alloc: Global,
+    numbers: &[u64],
+    count: usize,
+) -> Result<(Vec<u64>, Vec<u64>), AllocError>
+    requires { count ≤ length numbers.now }
+    ensures { IfOk result (λ halves. (halves.0.items ≡ take count numbers.now) × (halves.1.items ≡ drop count numbers.now)) }
+{
+    let front = Vec::from_slice(alloc, &numbers[..count])?;
+    let rest = Vec::from_slice(alloc, &numbers[count..])?;
+    Ok((front, rest))
+}
+
+/// Returns the steady certificate of the plan, or `None` if a weight of its vector is above
 /// [`MAX_WEIGHT`](job_bodies::MAX_WEIGHT). No class of the plan may submit itself, directly or
 /// through other classes.
 ///
-/// The steady certificate has one vector, which is the blocked vector of every pool and the bound
-/// of every pool that needs a bound. A pool needs no bound if it may reject jobs or its queue is
-/// unbounded.
-///
-/// Assume that each job that repeating clients submit, directly or through other jobs, is also got.
-/// Then the certificate accepts the plan with large enough sizes. A pool that needs no bound can
-/// keep its queue.
+/// With large enough sizes, this certificate accepts the plan if no repeating client causes a
+/// submit that is never got, no pool whose core threads may time out waits for itself, and clients
+/// submit each class of such a pool that has a get. The queues of pools that may reject jobs need
+/// not be large.
 ///
 /// # Errors
 ///
@@ -133,10 +205,6 @@ pub fn steady(alloc: Global, plan: &Plan) -> Result<Option<Cert>, AllocError>
         return Ok(None);
     }
     let pools = pools_of(alloc, plan, &vector)?;
-    let ranks = Ranks {
-        pools: vec![in alloc; 0; plan.pools().len()]?,
-        reach: vec![in alloc; 0; plan.classes().len()]?,
-        levels,
-    };
+    let ranks = ranks_of(alloc, plan, levels)?;
     Ok(Some(Cert { pools, ranks }))
 }

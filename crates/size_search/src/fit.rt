@@ -1,6 +1,6 @@
 //! The least cores and queues with which a certificate accepts a plan.
 
-ghost use Rattle.std.specs.Prelude.{◌≡◌, ◌<◌, ◌^◌, if◌then◌else◌, IfOk, IfErr, IsTrue, None, Some, length, max, not, slice_index_or};
+ghost use Rattle.std.specs.Prelude.{◌≡◌, ◌<◌, if◌then◌else◌, IfOk, IfErr, IsTrue, None, Some, length, max, not, slice_index_or};
 ghost use Rattle.std.specs.List.{enumerate_from, find};
 ghost use Rattle.job_bodies.specs.Plan.{needs_no_bound, no_pool, pool_at};
 ghost use Rattle.job_bodies.specs.WellFormed.{IsWellFormed};
@@ -9,7 +9,7 @@ ghost use Rattle.weights.specs.Bound.{bound_vector};
 ghost use Rattle.cert_text.specs.Cert.{bound_fits, cert_fits, pool_cert_at};
 ghost use Rattle.size_search.specs.Fitted as spec;
 ghost use Rattle.size_search.specs.Widened.{HasLeastCores};
-ghost use Rattle.size_search.specs.Unfit.{failing_elsewhere, first_tight, unfit_sizes, why_unfit};
+ghost use Rattle.size_search.specs.Unfit.{failing_elsewhere, first_short, first_tight, unfit_sizes, why_unfit};
 
 use crate::Unfit;
 use crate::unfit::unfit_pools;
@@ -30,21 +30,27 @@ pub(crate) fn core_needed(plan: &Plan, blocked: &Vector) -> u64
     blocked.total(plan) + 1
 }
 
-/// Returns the queue capacity that this bound requires of a pool with the core and maximum of
-/// `pool`. This is the total of the vector. For a lifetime vector, it is smaller by the number of
-/// threads that are not prestarted, because each of them starts with a job.
+/// Returns the number of threads that start with a job, which needs no place in the queue: those
+/// that are not prestarted, or none if core threads may time out.
+fn threads_with_job(pool: &Pool) -> u64
+    ensures { result ≡ spec.threads_with_job pool.now }
+{
+    if pool.core_timeout {
+        0
+    } else {
+        pool.max.saturating_sub(pool.first_workers())
+    }
+}
+
+/// Returns the queue capacity that a pool with this core and maximum needs for this bound.
 fn queue_of_bound(plan: &Plan, bound: &Bound, pool: &Pool) -> u64
     requires well_formed { IsWellFormed plan.now }
     requires fits { IsTrue (vector_fits plan.now (bound_vector bound.now)) }
-    // No certificate needs a core of 2^63 or more.
-    requires core { pool.now.core < 2 ^ 63 }
     ensures { result ≡ spec.queue_of_bound plan.now bound.now pool.now }
 {
     match bound {
         Bound::Standing(vector) => vector.total(plan),
-        Bound::Lifetime(vector) => {
-            (vector.total(plan) + pool.first_workers()).saturating_sub(pool.max)
-        }
+        Bound::Lifetime(vector) => vector.total(plan).saturating_sub(threads_with_job(pool)),
     }
 }
 
@@ -53,7 +59,6 @@ fn queue_of_bound(plan: &Plan, bound: &Bound, pool: &Pool) -> u64
 fn queue_needed(plan: &Plan, bound: &Option<Bound>, number: usize, pool: &Pool) -> u64
     requires well_formed { IsWellFormed plan.now }
     requires fits { IsTrue (bound_fits plan.now number bound.now) }
-    requires core { pool.now.core < 2 ^ 63 }
     ensures { result ≡ spec.queue_needed plan.now bound.now pool.now }
 {
     match bound {
@@ -75,9 +80,22 @@ fn raised_queue(pool: &Pool, needed: u64) -> u64
     }
 }
 
+/// Returns the core of the pool, raised to `needed`. A core whose threads may time out stays
+/// unchanged.
+fn raised_core(pool: &Pool, needed: u64) -> u64
+    ensures { result
+        ≡ (if pool.now.core_timeout then pool.now.core else max pool.now.core needed) }
+{
+    if pool.core_timeout {
+        pool.core
+    } else {
+        pool.core.max(needed)
+    }
+}
+
 /// Returns the pool with this number, with its core and then its queue raised to what the
-/// certificate needs. With a larger core, a prestarted pool can need a larger queue. If the pool
-/// needs no bound, its queue stays unchanged.
+/// certificate needs. A prestarted pool with a larger core can need a larger queue. The queue of a
+/// pool that needs no bound stays unchanged, and so does a core whose threads may time out.
 fn raised_pool(alloc: Global, plan: &Plan, cert: &Cert, number: usize) -> Result<Pool, AllocError>
     requires fits { IsTrue (cert_fits plan.now cert.now) }
     requires number { number < length plan.now.pools }
@@ -87,7 +105,7 @@ fn raised_pool(alloc: Global, plan: &Plan, cert: &Cert, number: usize) -> Result
 {
     let needs = cert.pool_at(number);
     let mut raised = plan.pools()[number].try_clone(alloc)?;
-    raised.core = raised.core.max(core_needed(plan, &needs.blocked));
+    raised.core = raised_core(&raised, core_needed(plan, &needs.blocked));
     let needed = queue_needed(plan, &needs.bound, number, &raised);
     raised.queue = raised_queue(&raised, needed);
     Ok(raised)
@@ -168,17 +186,51 @@ fn tight_queue(plan: &Plan, cert: &Cert, raised: &[Pool]) -> Option<Unfit>
     None
 }
 
-/// Returns the reason why the pools cannot have the sizes that the certificate needs, or `None` if
-/// they can. `raised` has the plan's pools with these sizes.
+/// Returns whether the raised pool with this number has fewer threads than the certificate needs.
+/// This is possible only if its core threads may time out, so that its core stays unchanged.
+fn is_short(plan: &Plan, cert: &Cert, raised: &[Pool], number: usize) -> bool
+    requires well_formed { IsWellFormed plan.now }
+    requires fits { IsTrue (cert_fits plan.now cert.now) }
+    requires raised { raised.now ≡ (spec.raised plan.now cert.now).pools }
+    requires number { number < length raised.now }
+    ensures { result
+        ≡ not (spec.has_threads plan.now (pool_cert_at cert.now number).blocked (slice_index_or raised.now number no_pool)) }
+{
+    let needs = cert.pool_at(number);
+    let pool = &raised[number];
+    pool.least_threads() < core_needed(plan, &needs.blocked)
+}
+
+/// Returns, as the reason, the first raised pool that has fewer threads than the certificate needs,
+/// or `None` if there is none.
+fn short_pool(plan: &Plan, cert: &Cert, raised: &[Pool]) -> Option<Unfit>
+    requires well_formed { IsWellFormed plan.now }
+    requires fits { IsTrue (cert_fits plan.now cert.now) }
+    requires raised { raised.now ≡ (spec.raised plan.now cert.now).pools }
+    ensures { result ≡ first_short plan.now cert.now (enumerate_from 0 raised.now) }
+{
+    for number in 0..raised.len() {
+        if is_short(plan, cert, raised, number) {
+            return Some(Unfit::CoreTimeout(number));
+        }
+    }
+    None
+}
+
+/// Returns the reason why the sizes that the certificate needs are not possible, or `None` if they
+/// are. `raised` has the plan's pools with these sizes.
 fn unfit_sizes(plan: &Plan, cert: &Cert, raised: &[Pool]) -> Option<Unfit>
     requires well_formed { IsWellFormed plan.now }
     requires fits { IsTrue (cert_fits plan.now cert.now) }
     requires raised { raised.now ≡ (spec.raised plan.now cert.now).pools }
     ensures { result ≡ unfit_sizes plan.now cert.now }
 {
-    match unfit_pools(raised) {
+    if let Some(unfit) = unfit_pools(raised) {
+        return Some(unfit);
+    }
+    match tight_queue(plan, cert, raised) {
         Some(unfit) => Some(unfit),
-        None => tight_queue(plan, cert, raised),
+        None => short_pool(plan, cert, raised),
     }
 }
 
@@ -206,11 +258,10 @@ fn unfit(
 /// core or a queue is only raised, never made smaller. Larger maximums would not allow smaller
 /// cores.
 ///
-/// The queue of a pool is never raised if the pool may reject jobs or the queue is unbounded. If
-/// the pool may reject jobs, its queue is bounded, and the certificate has a bound for this queue,
-/// the capacity must already be large enough.
-///
-/// If no such cores and queues exist, returns the given plan and the reason as the inner error.
+/// The queue of a pool that may reject jobs or has an unbounded queue stays unchanged. If the
+/// certificate bounds the queue of a pool that may reject jobs, this queue must already be as large
+/// as the bound requires, unless the queue is unbounded. A core whose threads may time out stays
+/// unchanged too, and the total of the pool's blocked vector must be 0.
 ///
 /// # Errors
 ///
@@ -248,11 +299,17 @@ fn smallest_queue(pool: &Pool) -> u64
     if pool.needs_no_bound() { pool.queue } else { 1 }
 }
 
+fn smallest_core(pool: &Pool) -> u64
+    ensures { result ≡ (if pool.now.core_timeout then pool.now.core else 1) }
+{
+    if pool.core_timeout { pool.core } else { 1 }
+}
+
 fn smallest_pool(alloc: Global, pool: &Pool) -> Result<Pool, AllocError>
     ensures { IfOk result (λ small. small ≡ spec.smallest_pool pool.now) }
 {
     let mut small = pool.try_clone(alloc)?;
-    small.core = 1;
+    small.core = smallest_core(pool);
     small.queue = smallest_queue(pool);
     Ok(small)
 }
@@ -268,11 +325,10 @@ fn smallest_pools(alloc: Global, plan: &Plan) -> Result<Vec<Pool>, AllocError>
     Ok(small)
 }
 
-/// Returns the plan with each core and each queue set to 1. The queue of a pool stays unchanged if
-/// the pool may reject jobs or the queue is unbounded.
-///
-/// [`fitted`] raises the sizes of the returned plan to the least cores and queues with which a
-/// certificate accepts the plan. These can be smaller than the declared cores and queues.
+/// Returns the plan with each core and each queue set to 1, except the cores whose threads may time
+/// out, the queues of pools that may reject jobs and the unbounded queues, which stay unchanged. [`fitted`] raises the sizes of that
+/// plan to the least cores and queues with which the certificate accepts the plan. These sizes can
+/// be smaller than the declared sizes.
 ///
 /// # Errors
 ///

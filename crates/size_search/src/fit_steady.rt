@@ -1,6 +1,7 @@
 //! The least sizes for the steady certificate, which are used if the rounds find no sizes. In that
-//! certificate, one vector is the blocked vector of every pool, and also the bound of every pool
-//! that needs one. A pool needs none if it may reject jobs or has an unbounded queue.
+//! certificate, one vector is the blocked vector of every pool whose core threads never time out, and
+//! also the bound of every pool that needs one. A pool needs none if it may reject jobs or has an
+//! unbounded queue. The other blocked vectors are 0.
 
 ghost use Rattle.std.specs.Prelude.{◌≡◌, ◌≤◌, IfOk, IfSome, IfNone, IsTrue};
 ghost use Rattle.job_bodies.specs.WellFormed.{IsWellFormed};
@@ -8,11 +9,12 @@ ghost use Rattle.job_bodies.specs.declared.limits.TheConstants.{MAX_SIZE};
 ghost use Rattle.weights.specs.Vector.{has_small_numbers};
 ghost use Rattle.size_search.specs.Widened.{IsLeastWide};
 ghost use Rattle.size_search.specs.Widened as spec;
-ghost use Rattle.size_search.specs.Submitted.{IsAllGot, IsWithoutCause};
+ghost use Rattle.size_search.specs.Waiting.{IsSteady};
+ghost use Rattle.size_search.specs.Causes.{IsWithoutCause};
 ghost use Rattle.size_search.specs.Steady.{steady_vector, steady_total, steady_cert};
 ghost use Rattle.size_search.specs.Sized.{IsSized, IsFound, IsTooLarge};
 
-use crate::causes::loses_without_bound;
+use crate::causes::is_unsteady;
 use crate::found::{NoSizes, Obstacle, SizesFound};
 use crate::{fitted, steady, widened};
 use cert_text::Cert;
@@ -31,22 +33,17 @@ pub(crate) fn fit_steady(
     requires well_formed { IsWellFormed plan.now }
     ensures found { IfOk result (IsFound plan.now) }
 {
-    let is_lost = loses_without_bound(alloc, plan)?;
-    if is_lost {
+    let unsteady = is_unsteady(alloc, plan)?;
+    if unsteady {
         return Ok(too_large(plan, obstacle));
     }
-    fit_steady_where_got(alloc, plan, obstacle)
+    fit_steady_plan(alloc, plan, obstacle)
 }
 
-/// Returns the plan with the least sizes that its steady certificate needs. Returns
-/// [`NoSizes::TooLarge`] with the pool of `obstacle` if the steady certificate is too large. Each
-/// job that repeating clients submit, directly or through other jobs, must be got.
-fn fit_steady_where_got(
-    alloc: Global,
-    plan: &Plan,
-    obstacle: Obstacle,
-) -> Result<SizesFound, AllocError>
-    requires free { IsAllGot plan.now }
+/// Returns the plan with the least sizes that its steady certificate needs, or
+/// [`NoSizes::TooLarge`] with the pool of `obstacle` if they are too large.
+fn fit_steady_plan(alloc: Global, plan: &Plan, obstacle: Obstacle) -> Result<SizesFound, AllocError>
+    requires steady_plan { IsSteady plan.now }
     requires well_formed { IsWellFormed plan.now }
     ensures found { IfOk result (IsFound plan.now) }
 {
@@ -64,7 +61,7 @@ fn fit_steady_cert(
     cert: Cert,
     obstacle: Obstacle,
 ) -> Result<SizesFound, AllocError>
-    requires free { IsAllGot plan.now }
+    requires steady_plan { IsSteady plan.now }
     requires well_formed { IsWellFormed plan.now }
     requires steady { cert ≡ steady_cert plan.now }
     requires small { IsTrue (has_small_numbers (steady_vector plan.now)) }
@@ -87,7 +84,7 @@ fn too_large(plan: &Plan, obstacle: Obstacle) -> SizesFound
 /// Returns the plan with the least sizes for its steady certificate, or `None` if the total of the
 /// certificate's vector is at least `MAX_SIZE`.
 fn least_steady_sizes(alloc: Global, plan: &Plan, cert: &Cert) -> Result<Option<Plan>, AllocError>
-    requires free { IsAllGot plan.now }
+    requires steady_plan { IsSteady plan.now }
     requires well_formed { IsWellFormed plan.now }
     requires steady { cert.now ≡ steady_cert plan.now }
     requires small { IsTrue (has_small_numbers (steady_vector plan.now)) }
@@ -110,7 +107,7 @@ fn least_wide(
     wide: Plan,
     cert: &Cert,
 ) -> Result<Option<Plan>, AllocError>
-    requires free { IsAllGot plan.now }
+    requires steady_plan { IsSteady plan.now }
     requires well_formed { IsWellFormed plan.now }
     requires steady { cert.now ≡ steady_cert plan.now }
     requires small { IsTrue (has_small_numbers (steady_vector plan.now)) }

@@ -23,16 +23,12 @@ pub enum NoSizes {
     /// A cause: a reason why no certificate accepts the plan with any sizes. The plan can still be
     /// safe.
     Cause(Cause),
-    /// The plan's steady certificate is too large to be used. Other sizes can exist. The
-    /// certificate is too large in these cases:
-    ///
-    /// - It needs a size above 1,000,000.
-    /// - It has a weight above [`MAX_WEIGHT`](job_bodies::MAX_WEIGHT).
-    /// - Repeating clients cause a submit that is never got, and that goes to a pool that may
-    ///   reject jobs or has an unbounded queue. No size is enough for the certificate then.
-    ///
-    /// The number is that of the pool at which the first attempt failed. It is 0 if that attempt
-    /// failed at no particular pool.
+    /// The plan's steady certificate is too large: it needs sizes above 1,000,000, or it has a
+    /// weight above [`MAX_WEIGHT`](job_bodies::MAX_WEIGHT). The reason can also be that no size need
+    /// be enough for it, because a submit that is made forever and never got goes to a pool that may
+    /// reject jobs or has an unbounded queue, or because no client submits a class that has a get
+    /// and whose pool's core threads may time out. The first attempt failed at the pool with this
+    /// number. The number is 0 if that attempt failed at no particular pool. Other sizes can exist.
     TooLarge(usize),
 }
 

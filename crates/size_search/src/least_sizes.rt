@@ -66,7 +66,9 @@ fn have_same_maxes(plan: &Plan, other: &Plan) -> bool {
 fn obstacle_of_wide(unfit: Unfit) -> Obstacle {
     match unfit {
         Unfit::Core(pool) => Obstacle::Pool(pool),
-        Unfit::Shape | Unfit::Condition(_) | Unfit::Queue(_) => Obstacle::Unknown,
+        Unfit::Shape | Unfit::Condition(_) | Unfit::Queue(_) | Unfit::CoreTimeout(_) => {
+            Obstacle::Unknown
+        }
     }
 }
 
@@ -75,7 +77,7 @@ fn obstacle_of_wide(unfit: Unfit) -> Obstacle {
 /// above `MAX_SIZE`.
 fn obstacle_of_fit(unfit: Unfit) -> Obstacle {
     match unfit {
-        Unfit::Queue(pool) => Obstacle::Pool(pool),
+        Unfit::Queue(pool) | Unfit::CoreTimeout(pool) => Obstacle::Pool(pool),
         Unfit::Shape | Unfit::Condition(_) | Unfit::Core(_) => Obstacle::Unknown,
     }
 }

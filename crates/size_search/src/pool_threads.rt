@@ -10,6 +10,8 @@ pub(crate) struct PoolThreads {
     pub(crate) max: u64,
     /// Whether the queue of the pool is unbounded. The maximum of such a pool has no effect.
     pub(crate) unbounded: bool,
+    /// Whether core threads may time out, so that a larger core or maximum does not help.
+    pub(crate) core_timeout: bool,
 }
 
 impl PoolThreads {
@@ -19,13 +21,27 @@ impl PoolThreads {
             core: pool.core,
             max: pool.max,
             unbounded: pool.unbounded,
+            core_timeout: pool.core_timeout,
         }
     }
 
-    /// Returns the sum of the increases that the core and the maximum need to be at least `core`.
-    /// If the queue is unbounded, the increase of the maximum does not count.
+    /// Returns the number of threads that the pool has at least while a job is in its queue.
+    pub(crate) fn least_threads(self) -> u64 {
+        if self.core_timeout { 1 } else { self.core }
+    }
+
+    /// Returns the amount by which `core` exceeds the current core, plus the amount by which `core`
+    /// exceeds the maximum. Each amount is 0 if `core` is not larger. If the queue is unbounded,
+    /// the second amount is left out. If core threads may time out and `core` is above 1, no size is
+    /// enough, and the result is `u64::MAX`.
     pub(crate) fn shortfall(self, core: u64) -> u64 {
-        self.raised(core).growth(self)
+        if core <= self.least_threads() {
+            0
+        } else if self.core_timeout {
+            u64::MAX
+        } else {
+            self.raised(core).growth(self)
+        }
     }
 
     /// Returns the amount by which this core exceeds the core of `other`, plus the amount by which
@@ -40,12 +56,16 @@ impl PoolThreads {
         }
     }
 
-    /// Returns the sizes with the core and the maximum each raised to at least `core`.
+    /// Returns the core and the maximum, each raised to `core` if it is smaller, unless core threads
+    /// may time out.
     pub(crate) fn raised(self, core: u64) -> PoolThreads {
+        if self.core_timeout {
+            return self;
+        }
         PoolThreads {
             core: self.core.max(core),
             max: self.max.max(core),
-            unbounded: self.unbounded,
+            ..self
         }
     }
 }

@@ -70,7 +70,7 @@ impl RankAssignment {
             .enumerate()
         {
             if assigned.is_none() {
-                let enough = pool_threads.core.saturating_sub(1);
+                let enough = pool_threads.least_threads().saturating_sub(1);
                 let hit = cache.lightest(alloc, pool, kind, &maxes, enough)?;
                 hits.push(hit).map_err(AllocError::from)?;
             }
@@ -116,9 +116,17 @@ impl RankAssignment {
         Ok(())
     }
 
-    /// Returns the obstacle of a round in which each pool without a rank needs a core above
-    /// `MAX_SIZE`. The obstacle names the pool that needs the smallest increase of its core and
-    /// maximum.
+    /// Returns the cache hits of the pools for which a core of at most `MAX_SIZE` is enough. If core
+    /// threads may time out, no larger core is.
+    fn within_limit(&self, alloc: Global, hits: &[CacheHit]) -> Result<Vec<CacheHit>, AllocError> {
+        hits.iter()
+            .filter(|hit| core_for(hit) <= MAX_SIZE && self.shortfall(hit) < u64::MAX)
+            .copied()
+            .collect(alloc)
+    }
+
+    /// Returns the obstacle of a round in which no core of at most `MAX_SIZE` is enough for a pool
+    /// without a rank. The obstacle names the pool among them with the smallest shortfall.
     fn obstacle_of(&self, hits: &[CacheHit]) -> Obstacle {
         match self.choice_of(hits, 0) {
             Some(hit) => Obstacle::Pool(hit.pool),
@@ -167,31 +175,15 @@ fn core_for(hit: &CacheHit) -> u64 {
     hit.total.saturating_add(1)
 }
 
-/// Returns the hits of the pools that need a core of at most `MAX_SIZE`.
-fn within_limit(alloc: Global, hits: &[CacheHit]) -> Result<Vec<CacheHit>, AllocError> {
-    hits.iter()
-        .filter(|hit| core_for(hit) <= MAX_SIZE)
-        .copied()
-        .collect(alloc)
-}
-
-/// Gives each pool a rank and a blocked vector, and raises cores and maximums if the vectors need
-/// it. The rounds start with the cores and maximums in `threads`. If `lending` is `false`, workers
-/// have no weight in the vectors. A round consists of these steps:
-///
-/// 1. The round searches for the blocked vector of each pool without a rank.
-/// 2. If a core is large enough for the vector of its pool, this pool gets the round's number as
-///    its rank.
-/// 3. If there is no such pool, the round raises the core, and if necessary the maximum, of the
-///    pool that needs the smallest increase. This pool gets the rank.
-///
-/// The first round that reaches step 3 skips `passed_over` pools. A pool that needs a core above
-/// `MAX_SIZE` is never raised.
-///
-/// # Errors
-///
-/// Returns an obstacle if step 3 finds no pool, or if the search has already computed as many
-/// vectors as it may.
+/// Gives each pool a rank and a blocked vector, starting with these cores and maximums. If
+/// `lending` is `false`, no workers have weight in the vectors. In each round, all pools whose core
+/// is large enough get the number of the round as their rank. If there are none, raises the core of
+/// the pool with the smallest shortfall (the increase of its core plus the increase of its
+/// maximum), and gives the rank to this pool. The first time that this happens, skips the
+/// `passed_over` pools with the smallest shortfalls, and raises the core of the next pool. The core
+/// of a pool whose core threads may time out is never raised. Returns an obstacle as the error if no
+/// core of at most `MAX_SIZE` is enough for a pool without a rank, or if there are at most
+/// `passed_over` pools to choose from.
 pub(crate) fn assign_ranks(
     alloc: Global,
     cache: &mut VectorCache,
@@ -206,7 +198,7 @@ pub(crate) fn assign_ranks(
             break;
         }
         if !assignment.assign_all(&hits, rank) {
-            let choices = within_limit(alloc, &hits)?;
+            let choices = assignment.within_limit(alloc, &hits)?;
             if choices.is_empty() {
                 return Err(AttemptError::Obstacle(assignment.obstacle_of(&hits)));
             }

@@ -3,7 +3,7 @@
 ghost use Rattle.std.specs.Prelude.{◌≡◌, IfOk, IfSome, IsTrue};
 ghost use Rattle.soundness.specs.Accepted.{accepted};
 ghost use Rattle.job_bodies.specs.WellFormed.{IsWellFormed};
-ghost use Rattle.size_search.specs.Submitted.{IsWithoutCause};
+ghost use Rattle.size_search.specs.Causes.{IsWithoutCause};
 ghost use Rattle.size_search.specs.Sized.{IsSized, IsFound};
 ghost use Rattle.size_search.specs.Decided.{IsDecided};
 ghost use Rattle.size_search.specs.declared.found.SizesFound.TheVariants.{Found};
@@ -45,24 +45,25 @@ const FEW_POOLS: usize = 8;
 ///
 /// The queue of a pool stays unchanged if the pool may reject jobs or the queue is unbounded. The
 /// certificate has a bound of such a pool only if the search finds a vector for which the queue is
-/// large enough. An unbounded queue is large enough for each standing vector.
+/// large enough. An unbounded queue is large enough for each standing vector. The core and the
+/// maximum of a pool whose core threads may time out stay unchanged too.
 ///
-/// If no attempt succeeds, the result is the *steady certificate* of the plan with the least sizes
-/// for it, unless this certificate is too large. The steady certificate has one vector, which is
-/// the blocked vector of every pool, and the bound of every pool that needs a bound. A pool needs
-/// no bound if it may reject jobs or has an unbounded queue. The steady certificate is too large in
-/// these cases:
-///
-/// - It needs a size above 1,000,000.
-/// - It has a weight above [`MAX_WEIGHT`](job_bodies::MAX_WEIGHT).
-/// - A repeating client causes a submit that is never got, and that goes to a pool that needs no
-///   bound. No size is enough for the certificate then.
+/// The *steady certificate* of a plan has one vector, which is the blocked vector of every pool
+/// whose core threads never time out, and also the bound of every pool that needs one. A pool needs
+/// no bound if it may reject jobs or has an unbounded queue. The other blocked vectors are 0. The
+/// steady certificate is too large if it needs sizes above 1,000,000 or has a weight above
+/// [`MAX_WEIGHT`](job_bodies::MAX_WEIGHT). It also counts as too large if a submit to a pool that
+/// needs no bound is made forever and never got, or if no client submits a class that has a get and
+/// whose pool's core threads may time out, because no size need be enough then. If no attempt
+/// succeeds, the result is the steady certificate with the least sizes for it, unless it is too
+/// large.
 ///
 /// If no sizes are found, one of these is the reason:
 ///
-/// - A class submits itself, directly or through other classes. No sizes are enough then.
-/// - A repeating client causes a submit that is never got, and that goes to a pool that needs a
-///   bound. No sizes are enough then.
+/// - The plan has a cause, so no sizes are enough: a class submits itself, directly or through
+///   other classes, a repeating client causes a submit that is never got, to a pool that needs a
+///   bound, or the last thread of a pool whose core threads may time out can wait until a job of the
+///   pool ends.
 /// - The steady certificate is too large. Other sizes can exist.
 ///
 /// If none of these reasons holds, sizes are found. Unless the certificate is `first`, a new search

@@ -1,7 +1,7 @@
 //! Sizes with which a new search finds a certificate again.
 
 ghost use Rattle.std.specs.Prelude.{IfOk};
-ghost use Rattle.size_search.specs.Submitted.{IsWithoutCause};
+ghost use Rattle.size_search.specs.Causes.{IsWithoutCause};
 ghost use Rattle.job_bodies.specs.WellFormed.{IsWellFormed};
 ghost use Rattle.size_search.specs.Sized.{IsSized, IsFound};
 

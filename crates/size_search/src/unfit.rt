@@ -23,14 +23,18 @@ pub enum Unfit {
     /// small, and is not raised because the pool may reject jobs. An unbounded queue is never the
     /// reason.
     Queue(usize),
+    /// Jobs of the pool with this number can wait at counted gets, but one thread of the pool may be
+    /// left, since its core threads may time out.
+    CoreTimeout(usize),
 }
 
 /// Returns the reason why a pool with raised sizes is invalid, or `None` if it is valid. If the
-/// maximum is above 1,000,000, the reason is the core, because the maximum was raised for the core.
+/// maximum is above 1,000,000, it was raised for the core, so the core is the reason. The maximum of
+/// a pool whose core threads may time out is not raised.
 fn unfit_pool(number: usize, pool: &Pool) -> Option<Unfit>
     ensures { result ≡ spec.unfit_pool number pool.now }
 {
-    if pool.core > pool.max || pool.max > MAX_SIZE {
+    if pool.core > pool.max || pool.max > MAX_SIZE && !pool.core_timeout {
         Some(Unfit::Core(number))
     } else if pool.queue > MAX_SIZE {
         Some(Unfit::Queue(number))

@@ -1,6 +1,6 @@
 //! The plan with each maximum raised to the core that a certificate needs.
 
-ghost use Rattle.std.specs.Prelude.{◌≡◌, ◌<◌, IfOk, IfErr, IsTrue, Some, length};
+ghost use Rattle.std.specs.Prelude.{◌≡◌, ◌<◌, if◌then◌else◌, IfOk, IfErr, IsTrue, Some, length, max};
 ghost use Rattle.job_bodies.specs.Plan.{pool_at};
 ghost use Rattle.job_bodies.specs.WellFormed.{IsWellFormed};
 ghost use Rattle.cert_text.specs.Cert.{cert_fits, pool_cert_at};
@@ -14,8 +14,20 @@ use cert_text::Cert;
 use job_bodies::{Plan, Pool};
 use std::alloc::{AllocError, Global};
 
-/// Returns the pool with this number. If the certificate needs a core above the pool's maximum, the
-/// maximum is raised to this core.
+/// Returns the maximum of the pool, raised to `core` if it is smaller. The maximum of a pool whose
+/// core threads may time out stays unchanged.
+fn raised_max(pool: &Pool, core: u64) -> u64
+    ensures { result ≡ (if pool.now.core_timeout then pool.now.max else max pool.now.max core) }
+{
+    if pool.core_timeout {
+        pool.max
+    } else {
+        pool.max.max(core)
+    }
+}
+
+/// Returns the pool with this number, with its maximum raised to the core that the certificate
+/// needs, if the core is larger and its threads never time out.
 fn widened_pool(alloc: Global, plan: &Plan, cert: &Cert, number: usize) -> Result<Pool, AllocError>
     requires fits { IsTrue (cert_fits plan.now cert.now) }
     requires number { number < length plan.now.pools }
@@ -25,7 +37,7 @@ fn widened_pool(alloc: Global, plan: &Plan, cert: &Cert, number: usize) -> Resul
 {
     let needs = cert.pool_at(number);
     let mut wide = plan.pools()[number].try_clone(alloc)?;
-    wide.max = wide.max.max(core_needed(plan, &needs.blocked));
+    wide.max = raised_max(&wide, core_needed(plan, &needs.blocked));
     Ok(wide)
 }
 
@@ -41,12 +53,10 @@ fn widened_pools(alloc: Global, plan: &Plan, cert: &Cert) -> Result<Vec<Pool>, A
     Ok(pools)
 }
 
-/// Returns the plan with each maximum raised to the core that the certificate needs, if this core
-/// is larger. If the raises increase totals, the certificate can need still larger cores.
-///
-/// Each raise is necessary. Let the certificate accept the plan with other sizes, and let no
-/// maximum be smaller than in the plan. Then each maximum of these sizes is at least as large as in
-/// the returned plan.
+/// Returns the plan with each maximum raised to the core that the certificate needs. The maximum of
+/// a pool whose core threads may time out stays unchanged. Each raise is necessary: all sizes with which the certificate accepts the plan, and whose maximums are no
+/// smaller than the plan's, have at least these maximums. If the raises increase totals, the
+/// certificate can need still larger cores.
 ///
 /// If the certificate does not fit the plan, or needs a core above 1,000,000, there are no such
 /// sizes. The inner result is then the reason.

@@ -5,7 +5,7 @@ use Rattle.std.proofs.lemmas.Bool.{eqb-true, cases_lt}
 use Rattle.std.proofs.lemmas.List.{length-append}
 use Rattle.job_bodies.specs.Plan.{Pool, Plan, pool_at}
 use Rattle.job_bodies.proofs.Bodies.{ordered}
-use Rattle.size_search.proofs.Changes.{length-outline, pool_at-outline}
+use Rattle.size_search.proofs.Changes.{length-outline, pool_at-outline, same_timeout}
 use Rattle.job_bodies.specs.declared.fault.PlanFault.{PlanFault}
 use Rattle.plan_text.specs.PlanOf.{plan_of}
 use Rattle.plan_text.specs.EffectivePlan.{effective_plan}
@@ -43,10 +43,13 @@ fit_is_effective plan fit cert same sized = effective_by_sizes fit (λ p inside 
     let as_many : length fit.pools ≡ length plan.pools = sym (length-outline fit) ∙ ap (λ (q : Plan). length q.pools) sized.fits.same_outline ∙ length-outline plan in
     let declared = sizes_of_effective plan same p (omega (arith, as_many, inside)) was in
     let sizes = ordered fit sized.fits.well_formed in
-    let max : (pool_at fit p).max ≡ (pool_at fit p).core = elim (cases_lt (pool_at plan p).max (pool_at fit p).max) [
+    let max : (pool_at fit p).core_timeout ≡ false → (pool_at fit p).max ≡ (pool_at fit p).core = λ never.
+    let declared_max : (pool_at plan p).max ≡ (pool_at plan p).core = declared.0 (sym (same_timeout plan fit p sized.fits.same_outline) ∙ never) in
+    elim (cases_lt (pool_at plan p).max (pool_at fit p).max) [
       | inl above ↦ sized.max_is_core p above
-      | inr past ↦ omega (arith, past, sizes.max p inside, sized.no_smaller.core p, declared.0)
-    ] in
+      | inr past ↦ omega (arith, past, sizes.max p inside, sized.no_smaller.core p, declared_max)
+    ]
+    in
     (max, sized.keeps_queues.same_queue p (either_true (pool_at plan p).may_reject (pool_at plan p).unbounded was) ∙ declared.1))
 
 -- an answer with the status Refused does not have the status Done

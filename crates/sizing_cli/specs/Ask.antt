@@ -139,7 +139,8 @@ needed_of plan (Safe cert rejections) = needed_places plan cert
 needed_of plan (NotSafe witness sizes) = needed_by_sizes sizes
 needed_of plan (NotDecided sizes) = needed_by_sizes sizes
 
--- the lowered plan is the plan with each maximum lowered to the core size of its pool, its certificate accepts it, and the plan can be lowered
+-- the lowered plan is the plan with each maximum lowered to the core size of its pool, unless core threads may time out; its certificate
+-- accepts it, and the plan can be lowered
 pub record IsAcceptedAtCore (plan : Plan) (lowered : LoweredPlan) : Type 0 where
   pub can_be : can_be_lowered plan ≡ true
   pub is_at_core : lowered.plan ≡ at_core plan

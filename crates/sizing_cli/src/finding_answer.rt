@@ -32,8 +32,9 @@ use std::alloc::{AllocError, Global};
 
 /// Returns the answer for this finding.
 ///
-/// - `lowered` has the plan with each maximum lowered to the core size, and a certificate that
-///   accepts this plan, or is `None` without such a certificate.
+/// - `lowered` has the plan with its maximums lowered to the core sizes, except in pools whose core
+///   threads may time out, and a certificate that accepts this plan. It is `None` without such a
+///   certificate.
 /// - `file` is the name that messages use for the plan's file.
 /// - `is_stale` says whether a certificate was given that does not accept the plan.
 pub(crate) fn answer_of(
@@ -102,8 +103,8 @@ fn plan_warnings(
     }
 }
 
-/// Returns the warnings about a plan that a certificate accepts even with each maximum lowered to
-/// the core size. `lowered` has the same meaning as in [`answer_of`].
+/// Returns the warnings about a plan that a certificate accepts even with its maximums lowered.
+/// `lowered` has the same meaning as in [`answer_of`].
 fn lowered_warnings(
     alloc: Global,
     text: &[u8],

@@ -1,4 +1,5 @@
-//! The plan with each maximum lowered to the core size of its pool.
+//! The plan with each maximum lowered to the core size of its pool, unless core threads of the pool
+//! may time out.
 
 ghost use Rattle.std.specs.Prelude.{IfOk, IfErr, IfSome, IsTrue};
 ghost use Rattle.sizing_cli.specs.Ask as spec;
@@ -16,8 +17,8 @@ use std::alloc::Global;
 use std::sync::Wait;
 use std::thread::Threads;
 
-/// A plan with each maximum lowered to the core size of its pool, and a certificate that accepts
-/// this plan.
+/// A plan with each maximum lowered to the core size of its pool, unless core threads of the pool
+/// may time out, and a certificate that accepts this plan.
 #[derive(Drop)]
 pub(crate) struct LoweredPlan {
     pub(crate) plan: Plan,
@@ -25,11 +26,13 @@ pub(crate) struct LoweredPlan {
 }
 
 /// Searches for a certificate of the lowered plan, which is the plan with each maximum lowered to
-/// the core size of its pool. Returns `None` if the search finds no certificate.
+/// the core size of its pool. The maximum of a pool whose core threads may time out stays unchanged,
+/// because such a pool can start threads above its core size even if its queue is never full.
+/// Returns `None` if the search finds no certificate.
 ///
 /// Returns `None` without a search if one of these holds:
 ///
-/// - No maximum is above the core size of its pool.
+/// - No maximum that would be lowered is above the core size of its pool.
 /// - A pool whose maximum is above its core size may reject jobs.
 /// - `finding` already says whether the plan is safe. A plan that is not safe needs no search: both
 ///   plans behave alike until the lowered plan refuses a submit, so it is not safe either.

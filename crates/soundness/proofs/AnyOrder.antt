@@ -5,7 +5,7 @@ use Rattle.written_machine.specs.declared.parent.Parent.{Parent}
 use Rattle.written_machine.specs.declared.parent.Parent.TheVariants as parent
 use Rattle.written_machine.specs.State.{State}
 use Rattle.written_machine.specs.Step.{point, got, got_child, step_action, step_at_point, step}
-use Rattle.soundness.specs.Execute.{JavaState, submission_at, submission_of, submission, as_atomic, java_stepped}
+use Rattle.soundness.specs.Execute.{JavaState, submission_at, submission_of, submission, as_atomic, other_step, java_stepped}
 use Rattle.soundness.specs.Exchange.{after_exchange}
 use Rattle.soundness.specs.Skipping.{choices_replay, event_of_actor, AlikeJobsAreGotInAnyOrder}
 use Rattle.soundness.specs.Skipping.Choice.{Acts}
@@ -19,6 +19,11 @@ submission_of_actor plan s (parent.Job j) = refl
 step_of_actor : (plan : Plan) (s : State) (a : Parent) → step plan s (event_of_actor a) ≡ step_at_point plan s a (point plan s a)
 step_of_actor plan s (parent.Client c) = refl
 step_of_actor plan s (parent.Job j) = refl
+
+-- the event of an actor that is at no submit is the event of the machine
+pub acts_alone : (plan : Plan) (s : JavaState) (a : Parent) → other_step plan s (event_of_actor a) ≡ as_atomic s (step plan s.machine (event_of_actor a))
+acts_alone plan s (parent.Client c) = refl
+acts_alone plan s (parent.Job j) = refl
 
 -- the law that an actor can get alike jobs in any order: after the exchange its get finds the job that is done
 pub alike_jobs_are_got_in_any_order : AlikeJobsAreGotInAnyOrder
@@ -36,4 +41,5 @@ alike_jobs_are_got_in_any_order plan s a body i t u j stands is_get alike is_chi
     ∙ ap (got machine a i j) (stage-exchanged s.machine a t u j ∙ done) in
     ap (λ (both : Bool). choices_replay plan (cond both (Some after) None) (Acts (event_of_actor a) ∷ [])) alike
     ∙ ap (java_stepped plan after (event_of_actor a)) no_submit
+    ∙ acts_alone plan after a
     ∙ ap (as_atomic after) gets

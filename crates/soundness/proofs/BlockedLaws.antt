@@ -4,7 +4,7 @@ use Rattle.support.specs.In.{here}
 use Rattle.support.proofs.Members.{In-append_left, In-append_right, In-map, In-flat_map, In-filter, In-enumerate_from}
 use Rattle.job_bodies.specs.declared.action.Action.{Action}
 use Rattle.job_bodies.specs.declared.action.Action.TheVariants as action
-use Rattle.job_bodies.specs.Plan.{Class, Plan, pool_at, class_at}
+use Rattle.job_bodies.specs.Plan.{Class, Plan, pool_at, class_at, least_threads}
 use Rattle.weights.specs.declared.get_return.GetReturn.TheVariants.{DoneWeight}
 use Rattle.weights.specs.declared.row.Rule.TheVariants.{B1, B2}
 use Rattle.weights.specs.declared.row.Place.TheVariants as place
@@ -18,14 +18,14 @@ use Rattle.soundness.proofs.VectorLaws.{VectorLaws, vector_laws, numbered_class_
 pub record BlockedLaws (plan : Plan) (counted : ℕ → ℕ → Bool) (p : ℕ) (v : Vector) : Type 0 where
   pub laws : VectorLaws DoneWeight plan v
   pub blocked : (k i t : ℕ) → (class_at plan k).pool ≡ p → slice_get (class_at plan k).body i ≡ Some (action.Get t) → counted k i ≡ true → 1 ≤ job_weight v k i
-  pub within : total plan v ≤ (pool_at plan p).core - 1
+  pub within : total plan v ≤ least_threads (pool_at plan p) - 1
 
 -- if the rows of a blocked vector hold, the inequalities of the vector hold
 pub blocked_laws : (plan : Plan) (counted : ℕ → ℕ → Bool) (p : ℕ) (v : Vector) → AllHold (blocked_rows plan p counted v) → BlockedLaws plan counted p v
 blocked_laws plan counted p v hold =
     let of_class = λ (entry : ℕ × Class). counted_rows counted v entry.0 entry.1 in
     let of_classes = flat_map of_class (classes_of plan p) in
-    let last = row B2 place.Total (total plan v) ((pool_at plan p).core - 1) in
+    let last = row B2 place.Total (total plan v) (least_threads (pool_at plan p) - 1) in
     record {
       laws = vector_laws DoneWeight plan v (λ x i. hold x (In-append_left (last ∷ []) (In-append_left of_classes i)));
       blocked = λ k i t of_pool is_there is_counted.

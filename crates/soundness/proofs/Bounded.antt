@@ -26,6 +26,9 @@ use Rattle.soundness.proofs.BoundLaws.{BoundLaws, bound_laws, bound_vector_laws}
 use Rattle.soundness.specs.WeightLaws.{RejectedAreLight}
 use Rattle.soundness.proofs.NeverRises.{IsBalanced, balanced_start, never_rises, balanced_step}
 use Rattle.soundness.proofs.NoRefusal.{not_refused}
+use Rattle.soundness.proofs.ThreadChanges.{IsLasting}
+use Rattle.soundness.proofs.JavaEvents.{with_spare_thread}
+use Rattle.soundness.proofs.SpareThreads.{kept_spares, have_jobs_spares}
 use Rattle.soundness.specs.Headline.{HasBound, KeepsSizes, BoundedPlansRefuseNothing}
 
 -- the vector of the bound is balanced, if there is a bound
@@ -37,7 +40,7 @@ IsBoundBalanced plan (Some bound) s = IsBalanced (bound_get_return bound) plan (
 -- balanced, and no submit was refused
 pub record Bounded (plan : Plan) (bounds : ℕ → Option Bound) (s : State) : Type 0 where
   pub kept : StateInvariant plan s
-  pub have_jobs : HaveJobs plan s
+  pub have_jobs : HaveJobs plan (IsLasting plan) s
   pub balanced : (p : ℕ) → p < length plan.pools → IsBoundBalanced plan (bounds p) s
   pub none_refused : s.refusals ≡ 0
 
@@ -71,7 +74,7 @@ pub needs_a_bound : (pool : Pool) → pool.may_reject ≡ false → pool.unbound
 needs_a_bound pool must bounded none = false≢true (sym (ap₂ (λ (a b : Bool). a || b) must bounded) ∙ none)
 
 -- no submit to a pool that must not reject jobs finds a bounded queue without room while the pool has max threads
-must_not_refuse : (plan : Plan) (bound : Option Bound) (s : State) (a : Parent) (body : List Action) (i k : ℕ) → HasValidBodies plan → BoundHolds plan (pool_of plan k) bound → StateInvariant plan s → HaveJobs plan s → IsBoundBalanced plan bound s
+must_not_refuse : (plan : Plan) (bound : Option Bound) (s : State) (a : Parent) (body : List Action) (i k : ℕ) → HasValidBodies plan → BoundHolds plan (pool_of plan k) bound → StateInvariant plan s → HaveJobs plan (IsLasting plan) s → IsBoundBalanced plan bound s
     → IsAtAction plan s a body i (Some (action.Submit k)) → (pool_at plan (pool_of plan k)).may_reject ≡ false
     → HasNoRoom plan s (pool_of plan k) → (pool_at plan (pool_of plan k)).max ≤ threads plan s (pool_of plan k) → ⊥
 must_not_refuse plan None s a body i k ordered holds kept have balanced at must no_room all_started = needs_a_bound (pool_at plan (pool_of plan k)) must no_room.0 holds
@@ -81,7 +84,7 @@ must_not_refuse plan (Some bound) s a body i k ordered holds kept have balanced 
 pub bounded_start : (plan : Plan) (bounds : ℕ → Option Bound) → HasValidBodies plan → Bounded plan bounds (start plan)
 bounded_start plan bounds ordered = record {
   kept = kept_start plan ordered;
-  have_jobs = have_jobs_start plan;
+  have_jobs = have_jobs_start plan (IsLasting plan);
   balanced = λ p inside. bound_balanced_start plan (bounds p);
   none_refused = refl;
 }
@@ -90,7 +93,7 @@ bounded_start plan bounds ordered = record {
 refuses_nothing : (plan : Plan) (bounds : ℕ → Option Bound) (s s' : State) (o : Outcome) {e : Event} → HasValidBodies plan → BoundsHold plan bounds → Bounded plan bounds s → Happens plan s e s' o → s'.refusals ≡ 0
 refuses_nothing plan bounds s s' o ordered laws bounded (works a body i u at) = bounded.none_refused
 refuses_nothing plan bounds s s' o ordered laws bounded (starts a body i k at below) = bounded.none_refused
-refuses_nothing plan bounds s s' o ordered laws bounded (queues a body i k at at_core room) = bounded.none_refused
+refuses_nothing plan bounds s s' o ordered laws bounded (queues a body i k at room) = bounded.none_refused
 refuses_nothing plan bounds s s' o ordered laws bounded (is_refused a body i k at must no_room all_started) =
     let p = pool_of plan k in
     let inside = ordered.pools k (class_exists plan s a body i k ordered at) in
@@ -100,15 +103,29 @@ refuses_nothing plan bounds s s' o ordered laws bounded (gets a body i t j at is
 refuses_nothing plan bounds s s' o ordered laws bounded (finishes j body i at) = bounded.none_refused
 refuses_nothing plan bounds s s' o ordered laws bounded (loops c client body i at is_client repeats) = bounded.none_refused
 refuses_nothing plan bounds s s' o ordered laws bounded (takes p j queue idle is_queue is_idle) = bounded.none_refused
-refuses_nothing plan bounds s s' o ordered laws bounded (retires p idle is_idle above_core not_handed) = bounded.none_refused
+refuses_nothing plan bounds s s' o ordered laws bounded (retires p idle is_idle not_handed) = bounded.none_refused
 
 -- each event preserves the invariants
 pub bounded_step : (plan : Plan) (bounds : ℕ → Option Bound) (s s' : State) (o : Outcome) {e : Event} → HasValidBodies plan → BoundsHold plan bounds → Bounded plan bounds s → Happens plan s e s' o → Bounded plan bounds s'
 bounded_step plan bounds s s' o ordered laws bounded happened = record {
   kept = kept_step plan s s' o ordered bounded.kept happened;
-  have_jobs = have_jobs_step plan s s' o bounded.kept bounded.have_jobs happened;
+  have_jobs = have_jobs_step plan (IsLasting plan) s s' o bounded.kept bounded.have_jobs happened;
   balanced = λ p inside. bound_balanced_step plan p (bounds p) s s' o ordered (laws p inside) bounded.kept happened (bounded.balanced p inside);
   none_refused = refuses_nothing plan bounds s s' o ordered laws bounded happened;
+}
+
+-- the balance of the bound does not depend on idle workers
+bound_balanced_spares : (plan : Plan) (bound : Option Bound) (s : State) (p : ℕ) → IsBoundBalanced plan bound s → IsBoundBalanced plan bound (with_spare_thread p s)
+bound_balanced_spares plan None s p balanced = tt
+bound_balanced_spares plan (Some bound) s p balanced = balanced
+
+-- a thread that starts without a job, in a pool whose core threads may time out, preserves the invariants
+pub bounded_spares : (plan : Plan) (bounds : ℕ → Option Bound) (s : State) (p : ℕ) → Bounded plan bounds s → (pool_at plan p).core_timeout ≡ true → threads plan s p < (pool_at plan p).max → Bounded plan bounds (with_spare_thread p s)
+bounded_spares plan bounds s p bounded timeout below = record {
+  kept = kept_spares plan s p bounded.kept below;
+  have_jobs = have_jobs_spares plan s p bounded.kept timeout bounded.have_jobs;
+  balanced = λ q inside. bound_balanced_spares plan (bounds q) s p (bounded.balanced q inside);
+  none_refused = bounded.none_refused;
 }
 
 -- if the invariants hold, no submit was refused, and each pool is within its maximum and its queue's capacity

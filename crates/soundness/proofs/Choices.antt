@@ -10,7 +10,7 @@ use Rattle.written_machine.specs.declared.event.Event.{Event}
 use Rattle.written_machine.specs.State.{pool_of}
 use Rattle.written_machine.specs.Step.{skipped}
 use Rattle.written_machine.proofs.Events.{IsAtAction, event_of}
-use Rattle.soundness.specs.Execute.{JavaState, Submission, is_calling, offer_fails, submission}
+use Rattle.soundness.specs.Execute.{JavaState, JavaEvent, Submission, is_calling, offer_fails, submission}
 use Rattle.soundness.proofs.JavaEvents.{JavaHappens, finds_full, is_submission}
 use Rattle.soundness.specs.Skipping.{Choice, after_skip, has_begun, skip_submit, miss_thread, choice_step, choices_replay, has_no_queue}
 use Rattle.soundness.specs.Skipping.Choice.{Skips, Misses}
@@ -42,7 +42,7 @@ is_skipped plan s e s' is_after = found_skips plan s e (submission plan s.machin
 -- an offer that finds no thread at a queue of capacity 0 is one of the possible events
 offer_missed : (plan : Plan) (s : JavaState) (e : Event) (x : Submission) (requesting here : Bool) (s' : JavaState) → submission plan s.machine e ≡ Some x → is_calling s.requesting x.actor (pool_of plan x.class) ≡ requesting
     → is_calling s.offering x.actor (pool_of plan x.class) && has_no_queue (pool_at plan (pool_of plan x.class)) ≡ here
-    → cond requesting None (cond here (Some (offer_fails plan s x.actor x.class)) None) ≡ Some s' → JavaHappens plan s e s'
+    → cond requesting None (cond here (Some (offer_fails plan s x.actor x.class)) None) ≡ Some s' → JavaHappens plan s (JavaEvent.Acts e) s'
 offer_missed plan s e x true here s' is_found is_requesting is_here is_after = absurd (none-some s' is_after)
 offer_missed plan s e x false false s' is_found is_requesting is_here is_after = absurd (none-some s' is_after)
 offer_missed plan s e x false true s' is_found is_requesting is_here is_after =
@@ -51,16 +51,16 @@ offer_missed plan s e x false true s' is_found is_requesting is_here is_after =
     let parts = and_parts (not (pool_at plan p).unbounded) (eqb (pool_at plan p).queue 0) (and_parts (is_calling s.offering x.actor p) (has_no_queue (pool_at plan p)) is_here).1 in
     let none : (pool_at plan p).queue ≡ 0 = eqb-true (pool_at plan p).queue 0 parts.1 in
     let after = offer_fails plan s x.actor x.class in
-    let happened : JavaHappens plan s (event_of x.actor) after = finds_full x.actor submitting.body x.position x.class submitting.at is_requesting (not-true (pool_at plan p).unbounded parts.0, omega arith) in
-    subst (JavaHappens plan s e) (same_Some after s' is_after) (subst (λ (event : Event). JavaHappens plan s event after) submitting.same happened)
+    let happened : JavaHappens plan s (JavaEvent.Acts (event_of x.actor)) after = finds_full x.actor submitting.body x.position x.class submitting.at is_requesting (not-true (pool_at plan p).unbounded parts.0, omega arith) in
+    subst (JavaHappens plan s (JavaEvent.Acts e)) (same_Some after s' is_after) (subst (λ (event : Event). JavaHappens plan s (JavaEvent.Acts event) after) submitting.same happened)
 
-found_missed : (plan : Plan) (s : JavaState) (e : Event) (found : Option Submission) (s' : JavaState) → submission plan s.machine e ≡ found → miss_thread plan s found ≡ Some s' → JavaHappens plan s e s'
+found_missed : (plan : Plan) (s : JavaState) (e : Event) (found : Option Submission) (s' : JavaState) → submission plan s.machine e ≡ found → miss_thread plan s found ≡ Some s' → JavaHappens plan s (JavaEvent.Acts e) s'
 found_missed plan s e None s' is_found is_after = absurd (none-some s' is_after)
 found_missed plan s e (Some x) s' is_found is_after =
     let p = pool_of plan x.class in
     offer_missed plan s e x (is_calling s.requesting x.actor p) (is_calling s.offering x.actor p && has_no_queue (pool_at plan p)) s' is_found refl refl is_after
 
-pub is_missed : (plan : Plan) (s : JavaState) (e : Event) (s' : JavaState) → choice_step plan s (Misses e) ≡ Some s' → JavaHappens plan s e s'
+pub is_missed : (plan : Plan) (s : JavaState) (e : Event) (s' : JavaState) → choice_step plan s (Misses e) ≡ Some s' → JavaHappens plan s (JavaEvent.Acts e) s'
 is_missed plan s e s' is_after = found_missed plan s e (submission plan s.machine e) s' refl is_after
 
 -- ---- lists of choices

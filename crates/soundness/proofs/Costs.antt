@@ -1,5 +1,5 @@
 -- The cost of a job event or a take: three times the remaining work, minus the completed steps of calls, falls by at least one.
-use Rattle.std.proofs.Common.{◌≡◌, ◌≢◌, ℕ, ◌+◌, ◌*◌, ◌<◌, ◌≤◌, ⊎_elim, Bool, true, false, List, ◌∷◌, length, get_or, slice_get, Some, refl, sym, ap, ap₂, subst, ◌∙◌, arith, zero-add}
+use Rattle.std.proofs.Common.{◌≡◌, ◌≢◌, ℕ, ◌+◌, ◌*◌, ◌<◌, ◌≤◌, ⊎_elim, Bool, true, false, List, ◌∷◌, length, get_or, slice_get, Some, refl, sym, ap, ap₂, subst, ◌∙◌, arith, zero-add, ◌⊎◌, inr}
 use Rattle.std.specs.List.{enumerate_from}
 use Rattle.std.proofs.lemmas.Bool.{false≢true, false_from_ne_true, cases_eq, ne_eqb}
 use Rattle.std.proofs.lemmas.List.{length_push, get_or_default}
@@ -15,16 +15,16 @@ use Rattle.written_machine.specs.declared.event.Event.TheVariants as event
 use Rattle.written_machine.specs.declared.event.Outcome.{Outcome}
 use Rattle.written_machine.specs.State.{Stage, State, CreatedJob, no_job, job_at, pool_of}
 use Rattle.written_machine.specs.Step.{moved_jobs, new_job}
-use Rattle.written_machine.specs.Safe.{is_of_job_or_pool}
 use Rattle.written_machine.proofs.Events.{IsAtAction, Happens, works, starts, queues, is_refused, is_rejected, gets, finishes, loops, takes, retires}
 use Rattle.written_machine.proofs.Positions.{standing_made}
 use Rattle.written_machine.proofs.StateInvariant.{StateInvariant}
 use Rattle.written_machine.proofs.Stages.{length-staged, length-moved}
 use Rattle.soundness.specs.Drain.{stage_todo, todo}
 use Rattle.soundness.proofs.RankLaws.{RankLaws}
-use Rattle.soundness.proofs.Draining.{lowers, ends_thread, no_actor, same_jobs, same_todo}
-use Rattle.soundness.specs.Execute.{Call, JavaState, is_calling, without_calls_of}
-use Rattle.soundness.proofs.JavaEvents.{JavaHappens, is_atomic, ends, finds_core, finds_full, finds_all}
+use Rattle.soundness.proofs.Draining.{lowers, ends_thread, no_client_cases, not_counted, no_actor, same_jobs, same_todo}
+use Rattle.soundness.specs.Execute.{Call, JavaState, JavaEvent, is_calling, without_calls_of}
+use Rattle.soundness.specs.JavaSafe.{is_java_job_or_take, is_of_no_java_client}
+use Rattle.soundness.proofs.JavaEvents.{JavaHappens, is_atomic, ends, finds_core, finds_full, finds_all, is_enough, starts_spare}
 use Rattle.soundness.proofs.JobCalls.{StandsBefore, stands_before, JobCalls}
 use Rattle.soundness.proofs.CompletedSteps.{has_call, steps_done, mark, steps_done-le, mark-le, mark-le_two, has_call_to, others_have_call, more_has_call, new_has_call, by_place, by_place-longer, by_place-more, by_place-but_one, sum_of_elements}
 
@@ -34,14 +34,14 @@ use Rattle.soundness.proofs.CompletedSteps.{has_call, steps_done, mark, steps_do
 no_fewer_jobs : (plan : Plan) (s s' : State) (o : Outcome) {e : Event} → Happens plan s e s' o → length s.jobs ≤ length s'.jobs
 no_fewer_jobs plan s s' o (works a body i u at) = omega (arith, length-moved s a (i + 1))
 no_fewer_jobs plan s s' o (starts a body i k at below) = omega (arith, length-moved s a (i + 1), length_push (moved_jobs a (i + 1) s) (new_job k a i (Stage.At 0)))
-no_fewer_jobs plan s s' o (queues a body i k at at_core room) = omega (arith, length-moved s a (i + 1), length_push (moved_jobs a (i + 1) s) (new_job k a i Stage.Queued))
+no_fewer_jobs plan s s' o (queues a body i k at room) = omega (arith, length-moved s a (i + 1), length_push (moved_jobs a (i + 1) s) (new_job k a i Stage.Queued))
 no_fewer_jobs plan s s' o (is_refused a body i k at must no_room all_started) = omega arith
 no_fewer_jobs plan s s' o (is_rejected a body i k at may) = omega (arith, length-moved s a (i + 1), length_push (moved_jobs a (i + 1) s) (new_job k a i Stage.Done))
 no_fewer_jobs plan s s' o (gets a body i t j at is_child done) = omega (arith, length-moved s a (i + 1), length-staged (moved_jobs a (i + 1) s) j Stage.Claimed)
 no_fewer_jobs plan s s' o (finishes j body i at) = omega (arith, length-staged s.jobs j Stage.Done)
 no_fewer_jobs plan s s' o (loops c client body i at is_client repeats) = omega arith
 no_fewer_jobs plan s s' o (takes p j queue idle is_queue is_idle) = omega (arith, length-staged s.jobs j (Stage.At 0))
-no_fewer_jobs plan s s' o (retires p idle is_idle above_core not_handed) = omega arith
+no_fewer_jobs plan s s' o (retires p idle is_idle not_handed) = omega arith
 
 -- ---- the completed steps of the calls in progress
 
@@ -119,30 +119,51 @@ abbrev pub Costs : Plan → Ranks → JavaState → JavaState → Type 0
 Costs plan ranks s s' = 3 * todo plan ranks s'.machine + calls_done s + 1 ≤ 3 * todo plan ranks s.machine + calls_done s'
 
 -- each job event and each take costs at least one
-pub costs : (plan : Plan) (ranks : Ranks) (s s' : JavaState) (e : Event) → RankLaws plan ranks → StateInvariant plan s.machine → s.machine.refusals ≡ 0 → s'.machine.refusals ≡ 0 → JobCalls plan s → is_of_job_or_pool e ≡ true → JavaHappens plan s e s' → Costs plan ranks s s'
-costs plan ranks s s' e laws kept none none' calls of_job_or_pool (is_atomic f after o no_submit happened) =
+pub costs : (plan : Plan) (ranks : Ranks) (s s' : JavaState) (e : JavaEvent) → RankLaws plan ranks → StateInvariant plan s.machine → s.machine.refusals ≡ 0 → s'.machine.refusals ≡ 0 → JobCalls plan s → is_java_job_or_take e ≡ true → JavaHappens plan s e s' → Costs plan ranks s s'
+costs plan ranks s s' e laws kept none none' calls of_job_or_pool (is_atomic f after o looking no_submit happened looks) =
     omega (arith, lowers plan ranks s.machine after o f laws kept none none' of_job_or_pool happened, by_place-longer (mark s) 0 s.machine.jobs after.jobs (no_fewer_jobs plan s.machine after o happened))
-costs plan ranks s s' e laws kept none none' calls of_job_or_pool (ends (parent.Client c) body i k after o at happened) = absurd cc
-costs plan ranks s s' e laws kept none none' calls of_job_or_pool (ends (parent.Job n) body i k after o at happened) =
+costs plan ranks s s' e laws kept none none' calls of_job_or_pool (ends (parent.Client c) body i k after o looking at happened looks) = absurd cc
+costs plan ranks s s' e laws kept none none' calls of_job_or_pool (ends (parent.Job n) body i k after o looking at happened looks) =
     omega (arith, lowers plan ranks s.machine after o (event.Job n) laws kept none none' of_job_or_pool happened, calls_done-ended s s' n refl refl (no_fewer_jobs plan s.machine after o happened))
 costs plan ranks s s' e laws kept none none' calls of_job_or_pool (finds_core (parent.Client c) body i k at not_requesting not_offering at_core) = absurd cc
 costs plan ranks s s' e laws kept none none' calls of_job_or_pool (finds_core (parent.Job n) body i k at not_requesting not_offering at_core) = omega (arith, core_found plan s n body i k calls at not_requesting not_offering)
 costs plan ranks s s' e laws kept none none' calls of_job_or_pool (finds_full (parent.Client c) body i k at not_requesting no_room) = absurd cc
 costs plan ranks s s' e laws kept none none' calls of_job_or_pool (finds_full (parent.Job n) body i k at not_requesting no_room) = omega (arith, full_found plan s n body i k calls at not_requesting)
 costs plan ranks s s' e laws kept none none' calls of_job_or_pool (finds_all a body i k at must requesting all_started) = absurd (omega arith)
+costs plan ranks s s' e laws kept none none' calls of_job_or_pool (is_enough p is_there enough) = absurd cc
+costs plan ranks s s' e laws kept none none' calls of_job_or_pool (starts_spare p is_there below) = absurd cc
 
--- ---- the end of a thread
+-- ---- the end of a thread, and a look at a pool
 
--- the end of a thread changes neither the remaining work nor the completed steps, so it costs nothing
-pub costs_nothing : (plan : Plan) (ranks : Ranks) (s s' : JavaState) (e : Event) → ends_thread e ≡ true → JavaHappens plan s e s' → 3 * todo plan ranks s'.machine + calls_done s ≤ 3 * todo plan ranks s.machine + calls_done s'
-costs_nothing plan ranks s s' e is_end (is_atomic f after o no_submit happened) =
+-- whether the event is the end of a thread or a look at a pool
+abbrev pub is_of_threads : JavaEvent → Bool
+is_of_threads (JavaEvent.Acts e) = ends_thread e
+is_of_threads _ = true
+
+-- each event of no client is a job event, a take, the end of a thread or a look at a pool
+pub java_cases : (e : JavaEvent) → is_of_no_java_client e ≡ true → (is_java_job_or_take e ≡ true) ⊎ (is_of_threads e ≡ true)
+java_cases (JavaEvent.Acts e) of_no_client = no_client_cases e of_no_client
+java_cases (JavaEvent.Leaves p) of_no_client = inr refl
+java_cases (JavaEvent.Spares p) of_no_client = inr refl
+
+-- the end of a thread and a look at a pool are neither job events nor takes
+pub java_not_counted : (e : JavaEvent) → is_of_threads e ≡ true → is_java_job_or_take e ≡ false
+java_not_counted (JavaEvent.Acts e) is_end = not_counted e is_end
+java_not_counted (JavaEvent.Leaves p) is_end = refl
+java_not_counted (JavaEvent.Spares p) is_end = refl
+
+-- the end of a thread and a look at a pool change neither the remaining work nor the completed steps, so they cost nothing
+pub costs_nothing : (plan : Plan) (ranks : Ranks) (s s' : JavaState) (e : JavaEvent) → is_of_threads e ≡ true → JavaHappens plan s e s' → 3 * todo plan ranks s'.machine + calls_done s ≤ 3 * todo plan ranks s.machine + calls_done s'
+costs_nothing plan ranks s s' e is_end (is_atomic f after o looking no_submit happened looks) =
     let todo_is = same_todo plan ranks s.machine after o is_end happened in
     let done_is : calls_done (record s { machine = after }) ≡ calls_done s = ap (λ (jobs : List CreatedJob). by_place (mark s) 0 jobs) (same_jobs plan s.machine after o is_end happened) in
     omega arith
-costs_nothing plan ranks s s' e is_end (ends a body i k after o at happened) = absurd (no_actor a is_end)
+costs_nothing plan ranks s s' e is_end (ends a body i k after o looking at happened looks) = absurd (no_actor a is_end)
 costs_nothing plan ranks s s' e is_end (finds_core a body i k at not_requesting not_offering at_core) = absurd (no_actor a is_end)
 costs_nothing plan ranks s s' e is_end (finds_full a body i k at not_requesting no_room) = absurd (no_actor a is_end)
 costs_nothing plan ranks s s' e is_end (finds_all a body i k at must requesting all_started) = absurd (no_actor a is_end)
+costs_nothing plan ranks s s' e is_end (is_enough p is_there enough) = omega arith
+costs_nothing plan ranks s s' e is_end (starts_spare p is_there below) = omega arith
 
 -- ---- a job in a call has remaining work
 

@@ -7,8 +7,8 @@ use Rattle.std.proofs.lemmas.List.{get_or_default}
 use Rattle.support.proofs.Sums.{sum_by-add, sum_by-le-within}
 use Rattle.job_bodies.specs.declared.action.Action.{Action}
 use Rattle.job_bodies.specs.declared.action.Action.TheVariants as action
-use Rattle.job_bodies.specs.Plan.{Plan, pool_at, class_at, submitted_class}
-use Rattle.job_bodies.proofs.Bodies.{HasValidBodies, ordered}
+use Rattle.job_bodies.specs.Plan.{Plan, pool_at, class_at, least_threads, submitted_class}
+use Rattle.job_bodies.proofs.Bodies.{HasValidBodies, ordered, some_threads}
 use Rattle.written_machine.specs.declared.parent.Parent.TheVariants as parent
 use Rattle.written_machine.specs.State.{Stage, State, CreatedJob, no_job, job_at, pool_of}
 use Rattle.written_machine.specs.Step.{point_of_job}
@@ -184,15 +184,15 @@ module _ (plan : Plan) (ranks : Ranks) (v : Vector) (p : ℕ) (s : State) (order
   pub may_block-le-total : IsBalanced DoneWeight plan v s → may_block plan ranks s p ≤ total plan v
   may_block-le-total balanced = omega (arith, may_block-le-weight, actors_weight-le-total DoneWeight plan v s ordered kept balanced)
 
-  -- the number of jobs of the pool that may block is below core
-  pub may_block-below_core : p < length plan.pools → IsBalanced DoneWeight plan v s → may_block plan ranks s p < (pool_at plan p).core
-  may_block-below_core inside balanced =
-      let some_core = ordered.core p inside in
+  -- the number of jobs of the pool that may block is below the number of threads that it has while a job is queued
+  pub may_block-below_threads : p < length plan.pools → IsBalanced DoneWeight plan v s → may_block plan ranks s p < least_threads (pool_at plan p)
+  may_block-below_threads inside balanced =
+      let some = some_threads plan p ordered inside in
       let limit = laws.within in
       omega (arith, may_block-le-total balanced)
 
 -- the law that in every reachable state the number of jobs of a pool that may block is at most the total of its blocked vector, and below
--- core
+-- the number of threads that the pool has while a job is queued
 pub fewer_than_core_may_block : FewerThanCoreMayBlock
 fewer_than_core_may_block plan ranks p v s well_formed inside ranks_hold hold reached =
     let laws = blocked_laws plan (is_counted plan ranks) p v hold in
@@ -200,4 +200,4 @@ fewer_than_core_may_block plan ranks p v s well_formed inside ranks_hold hold re
     let ranked = rank_laws plan ranks ranks_hold in
     let invariant = kept plan s well_formed reached in
     let is_balanced = balanced DoneWeight plan v s well_formed laws.laws (rejected_are_light DoneWeight plan v ranks is_ordered ranked laws.laws) reached in
-    (may_block-le-total plan ranks v p s is_ordered ranked laws invariant is_balanced, may_block-below_core plan ranks v p s is_ordered ranked laws invariant inside is_balanced)
+    (may_block-le-total plan ranks v p s is_ordered ranked laws invariant is_balanced, may_block-below_threads plan ranks v p s is_ordered ranked laws invariant inside is_balanced)

@@ -5,25 +5,30 @@ use Rattle.std.proofs.lemmas.Bool.{and_parts, and_from, eqb-true, eq-eqb, false_
 use Rattle.std.proofs.lemmas.Option.{slice_get_within}
 use Rattle.support.proofs.PassingPlaces.{passes_without}
 use Rattle.job_bodies.specs.declared.action.Action.TheVariants as action
-use Rattle.job_bodies.specs.Plan.{Plan, pool_at, class_at, submitted_class}
+use Rattle.job_bodies.specs.Plan.{Plan, pool_at, class_at, least_threads, submitted_class}
 use Rattle.job_bodies.proofs.Bodies.{HasValidBodies, ordered}
 use Rattle.written_machine.specs.declared.parent.Parent.{Parent}
-use Rattle.written_machine.specs.State.{Stage, State, CreatedJob, no_job, job_at, pool_of, is_at, is_busy_in}
+use Rattle.written_machine.specs.State.{Stage, State, CreatedJob, no_job, job_at, pool_of, is_at, is_busy_in, threads}
 use Rattle.written_machine.specs.Waiting.{IsMember, WaitsInQueue}
 use Rattle.written_machine.specs.LooseWaiting.{WaitsForChild, WaitsLoosely, IsLooseWaitingSet}
 use Rattle.written_machine.specs.Laws.{HasGreaterNumber}
 use Rattle.written_machine.proofs.Positions.{job_made}
 use Rattle.written_machine.proofs.StateInvariant.{StateInvariant}
 use Rattle.written_machine.proofs.Queues.{Queued≢Claimed, queued_in_queue, pool_of_made}
-use Rattle.written_machine.proofs.Reached.{kept}
+use Rattle.written_machine.proofs.Reached.{kept, have_threads}
+use Rattle.written_machine.proofs.EnoughThreads.{HaveThreads}
 use Rattle.weights.specs.Ranks.{Ranks, rank, reach, is_counted}
 use Rattle.soundness.specs.CountedGets.{passes_from, may_block_at, may_block_in, may_block, NoLooseWaitingSets}
 use Rattle.soundness.proofs.RankLaws.{RankLaws, rank_laws}
 use Rattle.soundness.proofs.CountedGets.{fails_from, uncounted_reach, fewer_than_core_may_block}
 
--- in each pool fewer jobs than its core size may block
+-- in each pool fewer jobs may block than the threads that it has while a job is queued
 abbrev pub FewMayBlock : Plan → Ranks → State → Type 0
-FewMayBlock plan ranks s = (p : ℕ) → p < length plan.pools → may_block plan ranks s p < (pool_at plan p).core
+FewMayBlock plan ranks s = (p : ℕ) → p < length plan.pools → may_block plan ranks s p < least_threads (pool_at plan p)
+
+-- the pool of each queued member has enough threads
+abbrev pub MembersHaveThreads : Plan → State → List ℕ → Type 0
+MembersHaveThreads plan s members = (n : ℕ) → IsMember members n → (job_at s n).stage ≡ Stage.Queued → let p = pool_of plan (job_at s n).class in least_threads (pool_at plan p) ≤ threads plan s p
 
 -- ---- queued and running members
 
@@ -121,7 +126,7 @@ module _ (plan : Plan) (ranks : Ranks) (s : State) (members : List ℕ) (laws : 
       let waits : WaitsForChild plan s members m i = waits_at m (Stage.At i) member at in
       lead_by_child r m i (λ n after member' low. leads r n member' low) waits (child_below m i at free waits)
 
-  module _ (valid : HasValidBodies plan) (few : FewMayBlock plan ranks s) where
+  module _ (valid : HasValidBodies plan) (few : FewMayBlock plan ranks s) (have : MembersHaveThreads plan s members) where
     -- for each queued member there is a queued member in a pool of lower rank, because a running job of its pool is a member that
     -- may not block
     next_below : (n : ℕ) → IsMember members n → (job_at s n).stage ≡ Stage.Queued → QueuedBelow plan ranks s members (rank ranks (pool_of plan (job_at s n).class))
@@ -129,7 +134,7 @@ module _ (plan : Plan) (ranks : Ranks) (s : State) (members : List ℕ) (laws : 
         let p = pool_of plan (job_at s n).class in
         let waits : WaitsInQueue plan s members n = waits_at n Stage.Queued member queued in
         let inside = pool_of_made plan s n valid kept (job_made s n (Queued≢Claimed queued)) in
-        let at_core = (kept.pools p inside).core (queued_in_queue plan s n valid kept queued) in
+        let enough = have n member queued in
         let none_idle = waits.none_idle in
         let few_here = few p inside in
         let found = passes_without (is_busy_in plan p) (may_block_in plan ranks p) s.jobs (omega arith) in
@@ -149,10 +154,18 @@ module _ (plan : Plan) (ranks : Ranks) (s : State) (members : List ℕ) (laws : 
         none_below r r (omega arith) (leads r waiting.first waiting.not_empty (omega arith))
 
 -- no set of unfinished jobs waits only for its own members, now or at later gets
-pub none_waits_loosely : (plan : Plan) (ranks : Ranks) (s : State) (members : List ℕ) → HasValidBodies plan → RankLaws plan ranks → StateInvariant plan s → FewMayBlock plan ranks s → ¬ IsLooseWaitingSet plan s members
-none_waits_loosely plan ranks s members valid laws kept few waiting = impossible plan ranks s members laws kept waiting valid few
+pub none_waits_loosely : (plan : Plan) (ranks : Ranks) (s : State) (members : List ℕ) → HasValidBodies plan → RankLaws plan ranks → StateInvariant plan s → FewMayBlock plan ranks s → MembersHaveThreads plan s members → ¬ IsLooseWaitingSet plan s members
+none_waits_loosely plan ranks s members valid laws kept few have waiting = impossible plan ranks s members laws kept waiting valid few have
+
+-- the pools of queued members have enough threads if each pool with a queued job has
+pub members_have_threads : (plan : Plan) (s : State) (members : List ℕ) → HasValidBodies plan → StateInvariant plan s → HaveThreads plan s → MembersHaveThreads plan s members
+members_have_threads plan s members valid kept have n member queued =
+    have (pool_of plan (job_at s n).class) (pool_of_made plan s n valid kept (job_made s n (Queued≢Claimed queued))) (queued_in_queue plan s n valid kept queued)
 
 -- the law that no reachable state has a loose waiting set
 pub no_loose_waiting_sets : NoLooseWaitingSets
 no_loose_waiting_sets plan ranks vectors s well_formed ranks_hold hold reached members =
-    none_waits_loosely plan ranks s members (ordered plan well_formed) (rank_laws plan ranks ranks_hold) (kept plan s well_formed reached) (λ p inside. (fewer_than_core_may_block plan ranks p (vectors p) s well_formed inside ranks_hold (hold p inside) reached).1)
+    let is_ordered = ordered plan well_formed in
+    let invariant = kept plan s well_formed reached in
+    none_waits_loosely plan ranks s members is_ordered (rank_laws plan ranks ranks_hold) invariant (λ p inside. (fewer_than_core_may_block plan ranks p (vectors p) s well_formed inside ranks_hold (hold p inside) reached).1)
+    (members_have_threads plan s members is_ordered invariant (have_threads plan s well_formed reached))

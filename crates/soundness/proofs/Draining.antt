@@ -164,8 +164,8 @@ lowers plan ranks s s' o e laws kept none none' of_job_or_pool (starts (parent.C
 lowers plan ranks s s' o e laws kept none none' of_job_or_pool (starts (parent.Job j) body i k at below) =
     let moved : State = with_position (parent.Job j) (i + 1) s in
     omega (arith, todo-passed plan ranks s j body i (action.Submit k) at, jobs_todo_push plan ranks moved.jobs (new_job k (parent.Job j) i (Stage.At 0)), todo_taken plan ranks k laws)
-lowers plan ranks s s' o e laws kept none none' of_job_or_pool (queues (parent.Client c) body i k at at_core room) = absurd cc
-lowers plan ranks s s' o e laws kept none none' of_job_or_pool (queues (parent.Job j) body i k at at_core room) =
+lowers plan ranks s s' o e laws kept none none' of_job_or_pool (queues (parent.Client c) body i k at room) = absurd cc
+lowers plan ranks s s' o e laws kept none none' of_job_or_pool (queues (parent.Job j) body i k at room) =
     let moved : State = with_position (parent.Job j) (i + 1) s in
     omega (arith, todo-passed plan ranks s j body i (action.Submit k) at, jobs_todo_push plan ranks moved.jobs (new_job k (parent.Job j) i Stage.Queued))
 lowers plan ranks s s' o e laws kept none none' of_job_or_pool (is_refused a body i k at must no_room all_started) = absurd (omega arith)
@@ -176,7 +176,7 @@ lowers plan ranks s s' o e laws kept none none' of_job_or_pool (gets (parent.Job
 lowers plan ranks s s' o e laws kept none none' of_job_or_pool (finishes j body i at) = lowers_finishes plan ranks s j body i kept at
 lowers plan ranks s s' o e laws kept none none' of_job_or_pool (loops c client body i at is_client repeats) = absurd cc
 lowers plan ranks s s' o e laws kept none none' of_job_or_pool (takes p j queue idle is_queue is_idle) = lowers_takes plan ranks s p j queue idle laws kept is_queue
-lowers plan ranks s s' o e laws kept none none' of_job_or_pool (retires p idle is_idle above_core not_handed) = absurd cc
+lowers plan ranks s s' o e laws kept none none' of_job_or_pool (retires p idle is_idle not_handed) = absurd cc
 
 -- ---- the end of a thread
 
@@ -207,14 +207,14 @@ no_actor (parent.Job j) is_end = cc
 pub same_jobs : (plan : Plan) (s s' : State) (o : Outcome) {e : Event} → ends_thread e ≡ true → Happens plan s e s' o → s'.jobs ≡ s.jobs
 same_jobs plan s s' o is_end (works a body i u at) = absurd (no_actor a is_end)
 same_jobs plan s s' o is_end (starts a body i k at below) = absurd (no_actor a is_end)
-same_jobs plan s s' o is_end (queues a body i k at at_core room) = absurd (no_actor a is_end)
+same_jobs plan s s' o is_end (queues a body i k at room) = absurd (no_actor a is_end)
 same_jobs plan s s' o is_end (is_refused a body i k at must no_room all_started) = absurd (no_actor a is_end)
 same_jobs plan s s' o is_end (is_rejected a body i k at may) = absurd (no_actor a is_end)
 same_jobs plan s s' o is_end (gets a body i t j at is_child done) = absurd (no_actor a is_end)
 same_jobs plan s s' o is_end (finishes j body i at) = absurd cc
 same_jobs plan s s' o is_end (loops c client body i at is_client repeats) = absurd cc
 same_jobs plan s s' o is_end (takes p j queue idle is_queue is_idle) = absurd cc
-same_jobs plan s s' o is_end (retires p idle is_idle above_core not_handed) = refl
+same_jobs plan s s' o is_end (retires p idle is_idle not_handed) = refl
 
 -- the end of a thread leaves the remaining work unchanged
 pub same_todo : (plan : Plan) (ranks : Ranks) (s s' : State) (o : Outcome) {e : Event} → ends_thread e ≡ true → Happens plan s e s' o → todo plan ranks s' ≡ todo plan ranks s

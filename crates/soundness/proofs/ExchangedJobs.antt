@@ -25,6 +25,7 @@ use Rattle.weights.specs.declared.get_return.GetReturn.{GetReturn}
 use Rattle.weights.specs.Vector.{Vector}
 use Rattle.soundness.specs.WeightedSum.{stage_weight}
 use Rattle.soundness.specs.Execute.{JavaState}
+use Rattle.soundness.proofs.ThreadChanges.{IsLasting}
 use Rattle.soundness.specs.Exchange.{exchanged_job, after_exchange, is_claimed, both_alike, ExchangesSwapTwoGets}
 use Rattle.soundness.specs.Skipping.{choice_step}
 use Rattle.soundness.specs.Skipping.Choice.{Exchanges}
@@ -194,9 +195,9 @@ threads-exchanged plan s a t u p = ap (λ (n : ℕ). (pool_part s p).idle + n) (
 pub jobs_made-exchanged : (plan : Plan) (s : State) (a : Parent) (t u p : ℕ) → jobs_made plan (after_exchange a t u s) p ≡ jobs_made plan s p
 jobs_made-exchanged plan s a t u p = count_by-map (is_of_pool plan p) (exchanged_job a t u) s.jobs
 
-pub have_jobs_exchanged : (plan : Plan) (s : State) (a : Parent) (t u : ℕ) → HaveJobs plan s → HaveJobs plan (after_exchange a t u s)
-have_jobs_exchanged plan s a t u have p inside =
-    let had = have p inside in
+pub have_jobs_exchanged : (plan : Plan) (s : State) (a : Parent) (t u : ℕ) → HaveJobs plan (IsLasting plan) s → HaveJobs plan (IsLasting plan) (after_exchange a t u s)
+have_jobs_exchanged plan s a t u have p inside lasting =
+    let had = have p inside lasting in
     omega (arith, threads-exchanged plan s a t u p, jobs_made-exchanged plan s a t u p)
 
 -- ---- weights

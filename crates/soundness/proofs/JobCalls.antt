@@ -18,8 +18,8 @@ use Rattle.written_machine.proofs.StateInvariant.{StateInvariant}
 use Rattle.written_machine.proofs.Stages.{length-moved, get_or-staged_other}
 use Rattle.written_machine.proofs.Queues.{head_of_queue}
 use Rattle.written_machine.proofs.Children.{same_actor_refl}
-use Rattle.soundness.specs.Execute.{Call, JavaState, is_calling, without_calls_of, submission_at, submission_of, submission}
-use Rattle.soundness.proofs.JavaEvents.{JavaHappens, is_atomic, ends, finds_core, finds_full, finds_all, call_of_others, one_more}
+use Rattle.soundness.specs.Execute.{Call, JavaState, JavaEvent, is_calling, without_calls, without_calls_of, submission_at, submission_of, submission}
+use Rattle.soundness.proofs.JavaEvents.{JavaHappens, is_atomic, ends, finds_core, finds_full, finds_all, is_enough, starts_spare, call_of_others, one_more}
 
 -- ---- jobs at a submit
 
@@ -61,7 +61,7 @@ other_actor a n other same = other (ap event_of same)
 leaves : (plan : Plan) (s s' : State) (o : Outcome) (n i : ℕ) {e : Event} → StateInvariant plan s → (job_at s n).stage ≡ Stage.At i → e ≢ event.Job n → Happens plan s e s' o → job_at s' n ≡ job_at s n
 leaves plan s s' o n i kept at other (works a body i' u standing) = moved_leaves s a (i' + 1) n (other_actor a n other)
 leaves plan s s' o n i kept at other (starts a body i' k standing below) = pushed_leaves s a (i' + 1) n (new_job k a i' (Stage.At 0)) (job_made s n (λ claimed. cc)) (other_actor a n other)
-leaves plan s s' o n i kept at other (queues a body i' k standing at_core room) = pushed_leaves s a (i' + 1) n (new_job k a i' Stage.Queued) (job_made s n (λ claimed. cc)) (other_actor a n other)
+leaves plan s s' o n i kept at other (queues a body i' k standing room) = pushed_leaves s a (i' + 1) n (new_job k a i' Stage.Queued) (job_made s n (λ claimed. cc)) (other_actor a n other)
 leaves plan s s' o n i kept at other (is_refused a body i' k standing must no_room all_started) = refl
 leaves plan s s' o n i kept at other (is_rejected a body i' k standing may) = pushed_leaves s a (i' + 1) n (new_job k a i' Stage.Done) (job_made s n (λ claimed. cc)) (other_actor a n other)
 leaves plan s s' o n i kept at other (gets a body i' t j standing is_child done) =
@@ -72,7 +72,7 @@ leaves plan s s' o n i kept at other (loops c client body i' standing is_client 
 leaves plan s s' o n i kept at other (takes p j queue idle is_queue is_idle) =
     get_or-staged_other s.jobs j (Stage.At 0) n no_job
     (λ (same : n ≡ j). let queued : (job_at s n).stage ≡ Stage.Queued = ap (λ (m : ℕ). (job_at s m).stage) same ∙ (head_of_queue plan s p j queue kept is_queue).queued in cc)
-leaves plan s s' o n i kept at other (retires p idle is_idle above_core not_handed) = refl
+leaves plan s s' o n i kept at other (retires p idle is_idle not_handed) = refl
 
 -- a job at a submit is still at it after every event except its own
 still_before : (plan : Plan) (s s' : State) (o : Outcome) (n p : ℕ) {e : Event} → StateInvariant plan s → e ≢ event.Job n → Happens plan s e s' o → StandsBefore plan (job_at s n) p → StandsBefore plan (job_at s' n) p
@@ -89,7 +89,7 @@ abbrev AreBefore : Plan → State → List Call → Type 0
 AreBefore plan s calls = (n p : ℕ) → is_calling calls (parent.Job n) p ≡ true → StandsBefore plan (job_at s n) p
 
 -- a state with no call in progress satisfies `JobCalls`
-pub job_calls_start : (plan : Plan) (s : State) → JobCalls plan (record { machine = s; offering = []; requesting = [] })
+pub job_calls_start : (plan : Plan) (s : State) → JobCalls plan (without_calls s)
 job_calls_start plan s = record { offering = λ n p is_there. absurd (false≢true is_there); requesting = λ n p is_there. absurd (false≢true is_there) }
 
 -- after an event that is not part of a submit, each job with a call in the list is still at its submit
@@ -123,12 +123,12 @@ before_more plan s a body i k calls at before n p is_there =
     (one_more (record { actor = a; pool = pool_of plan k }) calls (parent.Job n) p is_there)
 
 -- after each event in Java's steps, each job with a call is still at its submit
-pub job_calls_step : (plan : Plan) (s s' : JavaState) {e : Event} → StateInvariant plan s.machine → s'.machine.refusals ≡ s.machine.refusals → JobCalls plan s → JavaHappens plan s e s' → JobCalls plan s'
-job_calls_step plan s s' kept as_many calls (is_atomic e after o none happened) = record {
+pub job_calls_step : (plan : Plan) (s s' : JavaState) {e : JavaEvent} → StateInvariant plan s.machine → s'.machine.refusals ≡ s.machine.refusals → JobCalls plan s → JavaHappens plan s e s' → JobCalls plan s'
+job_calls_step plan s s' kept as_many calls (is_atomic e after o looking none happened looks) = record {
   offering = before_atomic plan s.machine after o e s.offering kept none happened calls.offering;
   requesting = before_atomic plan s.machine after o e s.requesting kept none happened calls.requesting;
 }
-job_calls_step plan s s' kept as_many calls (ends a body i k after o at happened) = record {
+job_calls_step plan s s' kept as_many calls (ends a body i k after o looking at happened looks) = record {
   offering = before_end plan s.machine after o a s.offering kept happened calls.offering;
   requesting = before_end plan s.machine after o a s.requesting kept happened calls.requesting;
 }
@@ -141,3 +141,5 @@ job_calls_step plan s s' kept as_many calls (finds_full a body i k at not_reques
   requesting = before_more plan s.machine a body i k s.requesting at calls.requesting;
 }
 job_calls_step plan s s' kept as_many calls (finds_all a body i k at must requesting all_started) = absurd (omega arith)
+job_calls_step plan s s' kept as_many calls (is_enough p is_there enough) = record { offering = calls.offering; requesting = calls.requesting }
+job_calls_step plan s s' kept as_many calls (starts_spare p is_there below) = record { offering = calls.offering; requesting = calls.requesting }

@@ -10,12 +10,15 @@ pub mod RankLaws
 pub mod Draining
 pub mod ThreadChanges
 pub mod JavaEvents
+pub mod SpareThreads
+pub mod Looking
 pub mod JavaReplays
 pub mod AtomicIsJava
 pub mod CompletedSteps
 pub mod JobCalls
 pub mod Costs
 pub mod WorkedJava
+pub mod WorkedTimeouts
 pub mod Walks
 pub mod Debts
 pub mod CountedGets

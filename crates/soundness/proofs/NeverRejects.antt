@@ -15,6 +15,7 @@ use Rattle.soundness.specs.Headline.{bound_of, AcceptedBoundsNeverReject, Accept
 use Rattle.soundness.proofs.NoRefusal.{not_refused}
 use Rattle.soundness.proofs.Bounded.{IsBoundBalanced, BoundHolds}
 use Rattle.soundness.proofs.Rejections.{rejected_when}
+use Rattle.soundness.proofs.ThreadChanges.{IsLasting}
 use Rattle.soundness.proofs.CertLaws.{cert_laws}
 use Rattle.soundness.proofs.Theorem.{bounds_hold, sound}
 use Rattle.soundness.proofs.JavaEvents.{is_submission}
@@ -22,7 +23,7 @@ use Rattle.soundness.proofs.Calls.{QueueWasFull, bound_leaves_room}
 use Rattle.soundness.proofs.Skipping.{choices_sound}
 
 -- if a submit finds a full queue and max threads, its pool has no bound
-no_bound_if_full : (plan : Plan) (bound : Option Bound) (s : State) (a : Parent) (body : List Action) (i k : ℕ) → HasValidBodies plan → BoundHolds plan (pool_of plan k) bound → StateInvariant plan s → HaveJobs plan s → IsBoundBalanced plan bound s
+no_bound_if_full : (plan : Plan) (bound : Option Bound) (s : State) (a : Parent) (body : List Action) (i k : ℕ) → HasValidBodies plan → BoundHolds plan (pool_of plan k) bound → StateInvariant plan s → HaveJobs plan (IsLasting plan) s → IsBoundBalanced plan bound s
     → IsAtAction plan s a body i (Some (action.Submit k))
     → HasNoRoom plan s (pool_of plan k) → (pool_at plan (pool_of plan k)).max ≤ threads plan s (pool_of plan k) → bound ≡ None
 no_bound_if_full plan None s a body i k ordered holds kept have balanced at no_room all_started = refl

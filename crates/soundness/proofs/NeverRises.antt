@@ -269,7 +269,7 @@ no_heavier_skipped get_return plan v s a body i k laws no_more at =
 pub never_rises : (get_return : GetReturn) (plan : Plan) (v : Vector) (s s' : State) (o : Outcome) {e : Event} → HasValidBodies plan → VectorLaws get_return plan v → RejectedAreLight plan v → StateInvariant plan s → Happens plan s e s' o → DoesNotIncrease get_return plan v s s'
 never_rises get_return plan v s s' o ordered laws light kept (works a body i u at) = never_rises_works get_return plan v s a body i u laws at
 never_rises get_return plan v s s' o ordered laws light kept (starts a body i k at below) = never_rises_starts get_return plan v s a body i k (class_exists plan s a body i k ordered at) laws at
-never_rises get_return plan v s s' o ordered laws light kept (queues a body i k at at_core room) = never_rises_queued get_return plan v s a body i k laws at
+never_rises get_return plan v s s' o ordered laws light kept (queues a body i k at room) = never_rises_queued get_return plan v s a body i k laws at
 never_rises get_return plan v s s' o ordered laws light kept (is_refused a body i k at must no_room all_started) = omega arith
 never_rises get_return plan v s s' o ordered laws light kept (is_rejected a body i k at may) =
     no_heavier_skipped get_return plan v s a body i k laws (light k (class_exists plan s a body i k ordered at) may) at
@@ -277,7 +277,7 @@ never_rises get_return plan v s s' o ordered laws light kept (gets a body i t j 
 never_rises get_return plan v s s' o ordered laws light kept (finishes j body i at) = never_rises_finishes get_return plan v s j body i laws kept at
 never_rises get_return plan v s s' o ordered laws light kept (loops c client body i at is_client repeats) = never_rises_loops get_return plan v s c client body i laws kept at is_client repeats
 never_rises get_return plan v s s' o ordered laws light kept (takes p j queue idle is_queue is_idle) = never_rises_takes get_return plan v s p j queue idle laws kept is_queue
-never_rises get_return plan v s s' o ordered laws light kept (retires p idle is_idle above_core not_handed) = omega arith
+never_rises get_return plan v s s' o ordered laws light kept (retires p idle is_idle not_handed) = omega arith
 
 -- a state is balanced if the state before it is balanced and the weight does not rise between them
 pub balanced_step : (get_return : GetReturn) (plan : Plan) (v : Vector) (s s' : State) → DoesNotIncrease get_return plan v s s' → IsBalanced get_return plan v s → IsBalanced get_return plan v s'

@@ -1,5 +1,5 @@
 -- A pool with a standing or a lifetime vector whose rows hold refuses no submit.
-use Rattle.std.proofs.Common.{◌≡◌, ℕ, ◌+◌, ◌<◌, ◌≤◌, inl, inr, eqb, List, length, get_or, Some, refl, sym, ap, subst, ◌∙◌, arith, false}
+use Rattle.std.proofs.Common.{◌≡◌, ℕ, ◌+◌, ◌-◌, ◌<◌, ◌≤◌, Bool, true, cond, inl, inr, eqb, List, length, get_or, Some, refl, sym, ap, subst, ◌∙◌, arith, false}
 use Rattle.std.specs.List.{count_by}
 use Rattle.std.proofs.lemmas.Bool.{and_parts, eqb-true}
 use Rattle.std.proofs.lemmas.Option.{slice_get_within}
@@ -7,7 +7,7 @@ use Rattle.support.proofs.PassingPlaces.{length-places}
 use Rattle.support.proofs.Sums.{count_by-le-sum_by}
 use Rattle.job_bodies.specs.declared.action.Action.{Action}
 use Rattle.job_bodies.specs.declared.action.Action.TheVariants as action
-use Rattle.job_bodies.specs.Plan.{Plan, pool_at, class_at, first_workers}
+use Rattle.job_bodies.specs.Plan.{Pool, Plan, pool_at, class_at, first_workers}
 use Rattle.job_bodies.proofs.Bodies.{HasValidBodies}
 use Rattle.written_machine.specs.declared.parent.Parent.{Parent}
 use Rattle.written_machine.specs.declared.parent.Parent.TheVariants as parent
@@ -22,17 +22,19 @@ use Rattle.written_machine.proofs.Stages.{HaveClasses, classes_moved}
 use Rattle.written_machine.proofs.Queues.{queued_stage, places-moved}
 use Rattle.written_machine.proofs.Actors.{standing-moved}
 use Rattle.written_machine.proofs.InvariantSubmits.{class_exists}
-use Rattle.written_machine.proofs.JobsMade.{made_jobs, made_jobs-moved, HaveJobs}
+use Rattle.written_machine.proofs.JobsMade.{made_jobs, made_jobs-moved, queue-le_made, HaveJobs}
 use Rattle.weights.specs.declared.get_return.GetReturn.{GetReturn}
 use Rattle.weights.specs.declared.get_return.GetReturn.TheVariants.{DoneWeight, NoWeight}
 use Rattle.weights.specs.declared.bound.Bound.{Bound}
 use Rattle.weights.specs.declared.bound.Bound.TheVariants.{Standing, Lifetime}
 use Rattle.weights.specs.Vector.{Vector, queued_weight, total}
+use Rattle.weights.specs.Lifetime.{lifetime_limit}
 use Rattle.weights.specs.Bound.{bound_vector, bound_get_return}
 use Rattle.soundness.specs.WeightedSum.{stage_weight}
 use Rattle.soundness.proofs.VectorLaws.{VectorLaws}
 use Rattle.soundness.proofs.BoundLaws.{StandingLaws, LifetimeLaws, BoundLaws}
 use Rattle.soundness.proofs.Rejections.{IsDeclined}
+use Rattle.soundness.proofs.ThreadChanges.{IsLasting}
 use Rattle.soundness.proofs.NeverRises.{jobs_weight, IsBalanced, busy_workers_weight-with_position, actors_weight-with_job, busy_workers_weight-with_job, never_rises_queued}
 use Rattle.soundness.proofs.WithinTotal.{busy_workers_weight-le, actors_weight-le-total}
 
@@ -111,10 +113,10 @@ made-le-actors_weight plan v p jobs laws bounded classes inside =
     let job = get_or jobs j no_job in
     job_weighs_one plan v p job.class job.stage laws bounded (classes j no_job made) (eqb-true (pool_of plan job.class) p passes) (inside j))
 
--- at a submit to a pool with a lifetime vector, fewer jobs were submitted to the pool than its maximum and its queue's capacity
--- together, minus its prestarted threads; otherwise the jobs would weigh more than the total
+-- at a submit to a pool with a lifetime vector, fewer jobs were submitted to the pool than its lifetime limit; otherwise the jobs would
+-- weigh more than the total
 pub lifetime_leaves_room : (plan : Plan) (v : Vector) (s : State) (a : Parent) (body : List Action) (i k : ℕ) → HasValidBodies plan → LifetimeLaws plan (pool_of plan k) v → (pool_at plan (pool_of plan k)).unbounded ≡ false → StateInvariant plan s → IsBalanced NoWeight plan v s → IsAtAction plan s a body i (Some (action.Submit k))
-    → (pool_at plan (pool_of plan k)).queue + (pool_at plan (pool_of plan k)).max ≤ jobs_made plan s (pool_of plan k) + first_workers (pool_at plan (pool_of plan k)) → ⊥
+    → lifetime_limit (pool_at plan (pool_of plan k)) ≤ jobs_made plan s (pool_of plan k) → ⊥
 lifetime_leaves_room plan v s a body i k ordered laws bounded kept balanced at as_many =
     let p = pool_of plan k in
     let exists = class_exists plan s a body i k ordered at in
@@ -124,14 +126,27 @@ lifetime_leaves_room plan v s a body i k ordered laws bounded kept balanced at a
     let limit = laws.within bounded in
     omega (arith, made_jobs-moved plan s a (i + 1) p)
 
+-- a pool reaches its lifetime limit if its queue was full, and if it has max threads unless its core threads may time out
+pub limit_reached : (pool : Pool) (made : ℕ) → pool.queue ≤ made → (pool.core_timeout ≡ false → pool.queue + pool.max ≤ made + first_workers pool) → lifetime_limit pool ≤ made
+limit_reached pool made queued lasting = by_cases pool.core_timeout lasting
+  where
+    by_cases : (timeout : Bool) → (timeout ≡ false → pool.queue + pool.max ≤ made + first_workers pool) → cond timeout pool.queue (pool.queue + pool.max - first_workers pool) ≤ made
+    by_cases true all = queued
+    by_cases false all =
+        let many = all refl in
+        omega arith
+
 -- no submit to a pool with a lifetime vector finds the queue full while the pool has max threads, because that many jobs cannot
 -- have been submitted before
-lifetime_refuses_nothing : (plan : Plan) (v : Vector) (s : State) (a : Parent) (body : List Action) (i k : ℕ) → HasValidBodies plan → LifetimeLaws plan (pool_of plan k) v → StateInvariant plan s → HaveJobs plan s → IsBalanced NoWeight plan v s → IsAtAction plan s a body i (Some (action.Submit k))
+lifetime_refuses_nothing : (plan : Plan) (v : Vector) (s : State) (a : Parent) (body : List Action) (i k : ℕ) → HasValidBodies plan → LifetimeLaws plan (pool_of plan k) v → StateInvariant plan s → HaveJobs plan (IsLasting plan) s → IsBalanced NoWeight plan v s → IsAtAction plan s a body i (Some (action.Submit k))
     → HasNoRoom plan s (pool_of plan k) → (pool_at plan (pool_of plan k)).max ≤ threads plan s (pool_of plan k) → ⊥
 lifetime_refuses_nothing plan v s a body i k ordered laws kept have balanced at no_room all_started =
-    let made = have (pool_of plan k) (ordered.pools k (class_exists plan s a body i k ordered at)) in
+    let p = pool_of plan k in
+    let inside = ordered.pools k (class_exists plan s a body i k ordered at) in
     let full = no_room.1 in
-    lifetime_leaves_room plan v s a body i k ordered laws no_room.0 kept balanced at (omega arith)
+    let queued : (pool_at plan p).queue ≤ jobs_made plan s p = omega (arith, queue-le_made plan s p kept inside) in
+    lifetime_leaves_room plan v s a body i k ordered laws no_room.0 kept balanced at
+    (limit_reached (pool_at plan p) (jobs_made plan s p) queued (λ lasting. let made = have p inside lasting in omega arith))
 
 -- the number of jobs submitted to a pool is at most the total of its lifetime vector
 pub jobs-le-total : (plan : Plan) (v : Vector) (s : State) (p : ℕ) → HasValidBodies plan → LifetimeLaws plan p v → (pool_at plan p).unbounded ≡ false → StateInvariant plan s → IsBalanced NoWeight plan v s → jobs_made plan s p ≤ total plan v
@@ -141,17 +156,17 @@ jobs-le-total plan v s p ordered laws bounded kept balanced =
 -- ---- a standing or a lifetime vector
 
 -- no submit to a pool with a bound whose rows hold finds the queue full while the pool has max threads
-pub not_refused : (plan : Plan) (bound : Bound) (s : State) (a : Parent) (body : List Action) (i k : ℕ) → HasValidBodies plan → BoundLaws plan (pool_of plan k) bound → StateInvariant plan s → HaveJobs plan s
+pub not_refused : (plan : Plan) (bound : Bound) (s : State) (a : Parent) (body : List Action) (i k : ℕ) → HasValidBodies plan → BoundLaws plan (pool_of plan k) bound → StateInvariant plan s → HaveJobs plan (IsLasting plan) s
     → IsBalanced (bound_get_return bound) plan (bound_vector bound) s → IsAtAction plan s a body i (Some (action.Submit k))
     → HasNoRoom plan s (pool_of plan k) → (pool_at plan (pool_of plan k)).max ≤ threads plan s (pool_of plan k) → ⊥
 not_refused plan (Standing v) s a body i k ordered laws kept have balanced at no_room all_started = standing_refuses_nothing plan v s a body i k ordered laws kept balanced at no_room
 not_refused plan (Lifetime v) s a body i k ordered laws kept have balanced at no_room all_started = lifetime_refuses_nothing plan v s a body i k ordered laws kept have balanced at no_room all_started
 
 -- no event refuses a submit to a pool with a bound whose rows hold
-pub never_refused : (plan : Plan) (bound : Bound) (s s' : State) (p : ℕ) {e : Event} → HasValidBodies plan → BoundLaws plan p bound → StateInvariant plan s → HaveJobs plan s → IsBalanced (bound_get_return bound) plan (bound_vector bound) s → Happens plan s e s' (outcome.Refused p) → ⊥
+pub never_refused : (plan : Plan) (bound : Bound) (s s' : State) (p : ℕ) {e : Event} → HasValidBodies plan → BoundLaws plan p bound → StateInvariant plan s → HaveJobs plan (IsLasting plan) s → IsBalanced (bound_get_return bound) plan (bound_vector bound) s → Happens plan s e s' (outcome.Refused p) → ⊥
 never_refused plan bound s s' p ordered laws kept have balanced (is_refused a body i k at must no_room all_started) = not_refused plan bound s a body i k ordered laws kept have balanced at no_room all_started
 
 -- if the rows of a pool's bound hold, no actor is at a submit to this pool while its queue is full and it has max threads
-pub never_declined : (plan : Plan) (bound : Bound) (s : State) (p : ℕ) → HasValidBodies plan → BoundLaws plan p bound → StateInvariant plan s → HaveJobs plan s → IsBalanced (bound_get_return bound) plan (bound_vector bound) s → IsDeclined plan s p → ⊥
+pub never_declined : (plan : Plan) (bound : Bound) (s : State) (p : ℕ) → HasValidBodies plan → BoundLaws plan p bound → StateInvariant plan s → HaveJobs plan (IsLasting plan) s → IsBalanced (bound_get_return bound) plan (bound_vector bound) s → IsDeclined plan s p → ⊥
 never_declined plan bound s p ordered laws kept have balanced full =
     not_refused plan bound s full.actor full.body full.position full.class ordered (subst (λ (q : ℕ). BoundLaws plan q bound) (sym full.of_pool) laws) kept have balanced full.at full.no_room full.all_started

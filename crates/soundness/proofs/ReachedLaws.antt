@@ -14,6 +14,7 @@ use Rattle.written_machine.proofs.InvariantAtStart.{kept_start}
 use Rattle.written_machine.proofs.InvariantStep.{kept_step}
 use Rattle.written_machine.proofs.Reached.{reached_keeps, kept}
 use Rattle.written_machine.proofs.ReachedLaws.{threads_have_made}
+use Rattle.written_machine.proofs.JobsMade.{HaveJobs}
 use Rattle.weights.specs.declared.get_return.GetReturn.{GetReturn}
 use Rattle.weights.specs.declared.get_return.GetReturn.TheVariants.{DoneWeight, NoWeight}
 use Rattle.weights.specs.Vector.{Vector}
@@ -26,6 +27,7 @@ use Rattle.soundness.proofs.WithinTotal as within
 use Rattle.soundness.proofs.WithinTotal.{actors_weight-le-total}
 use Rattle.soundness.proofs.NoRefusal.{queued-le-actors_weight, never_refused, never_declined, jobs-le-total}
 use Rattle.soundness.proofs.Rejections.{rejected_when}
+use Rattle.soundness.proofs.ThreadChanges.{IsLasting}
 
 -- every reachable state is balanced
 pub balanced : (get_return : GetReturn) (plan : Plan) (v : Vector) (s : State) → IsWellFormed plan → VectorLaws get_return plan v → RejectedAreLight plan v → IsReached plan s → IsBalanced get_return plan v s
@@ -50,7 +52,7 @@ bounds_refuse_nothing plan p bound s s' event well_formed fits hold light reache
     let is_ordered = ordered plan well_formed in
     let laws = bound_laws plan p bound fits hold in
     let invariant = kept plan s well_formed reached in
-    let have = threads_have_made plan s well_formed reached in
+    let have : HaveJobs plan (IsLasting plan) s = λ q inside lasting. threads_have_made plan s well_formed reached q inside in
     let is_balanced = balanced (bound_get_return bound) plan (bound_vector bound) s well_formed (bound_vector_laws plan p bound laws) light reached in (
       λ refused. never_refused plan bound s s' p is_ordered laws invariant have is_balanced (happens plan s event s' (outcome.Refused p) refused),
       λ j rejected. never_declined plan bound s p is_ordered laws invariant have is_balanced (rejected_when plan s s' event p j rejected),

@@ -1,6 +1,6 @@
 -- Accepted plans are safe and make progress if each submit is the separate steps of Java's `execute`, and actors skip submits
 -- together with their gets and exchange alike jobs.
-use Rattle.std.proofs.Common.{◌≡◌, ℕ, List, Option, Some, None, subst, arith}
+use Rattle.std.proofs.Common.{◌≡◌, ℕ, inl, inr, ⊎_elim, List, Option, Some, None, subst, arith}
 use Rattle.job_bodies.specs.declared.action.Action.{Action}
 use Rattle.job_bodies.specs.declared.action.Action.TheVariants as action
 use Rattle.job_bodies.specs.Plan.{Plan}
@@ -8,12 +8,13 @@ use Rattle.job_bodies.proofs.Bodies.{HasValidBodies, ordered}
 use Rattle.weights.specs.Ranks.{Ranks}
 use Rattle.written_machine.specs.declared.parent.Parent.{Parent}
 use Rattle.written_machine.specs.declared.event.Event.{Event}
-use Rattle.written_machine.specs.State.{State}
+use Rattle.written_machine.specs.State.{Stage, State}
 use Rattle.written_machine.specs.Step.{skipped}
 use Rattle.written_machine.specs.Reach.{start}
 use Rattle.written_machine.proofs.Events.{IsAtAction}
 use Rattle.written_machine.proofs.InvariantSubmits.{class_exists, kept_skips}
 use Rattle.written_machine.proofs.JobsMade.{have_jobs_skips}
+use Rattle.written_machine.proofs.EnoughThreads.{enough_submitted}
 use Rattle.weights.specs.declared.get_return.GetReturn.{GetReturn}
 use Rattle.weights.specs.declared.get_return.GetReturn.TheVariants.{DoneWeight}
 use Rattle.weights.specs.declared.bound.Bound.{Bound}
@@ -26,19 +27,19 @@ use Rattle.soundness.proofs.BoundLaws.{PoolBoundLaws, bound_vector_laws}
 use Rattle.soundness.proofs.Bounded.{IsBoundBalanced}
 use Rattle.soundness.proofs.NeverRises.{IsBalanced, no_heavier_skipped, balanced_step}
 use Rattle.soundness.proofs.RankLaws.{RankLaws}
-use Rattle.soundness.specs.Execute.{JavaState, without_calls}
+use Rattle.soundness.specs.Execute.{JavaState, JavaEvent, without_calls}
 use Rattle.soundness.specs.Exchange.{after_exchange}
 use Rattle.soundness.specs.Skipping.{Choice, choice_step, ChoicesReach}
-use Rattle.soundness.specs.Skipping.Choice.{Acts, Skips, Misses, Exchanges}
+use Rattle.soundness.specs.Skipping.Choice.{Acts, Skips, Misses, Exchanges, Leaves, Spares}
 use Rattle.soundness.proofs.Walks.{done-le-queued}
-use Rattle.soundness.proofs.ThreadChanges.{change_skipped}
+use Rattle.soundness.proofs.ThreadChanges.{IsLasting, change_skipped}
 use Rattle.soundness.proofs.ExchangedJobs.{AreAlike, IsExchange, is_exchange, kept_exchanged, threads-exchanged, jobs_made-exchanged, have_jobs_exchanged, no_heavier_exchanged}
 use Rattle.soundness.proofs.Choices.{IsSkipped, leaves, is_skipped, is_missed, choices_keep}
 use Rattle.soundness.specs.Headline.{AcceptedPlansMaySkip, AcceptedPlansMakeProgressWithSkips, bound_of}
 use Rattle.soundness.proofs.CertLaws.{CertLaws, cert_laws}
-use Rattle.soundness.proofs.Theorem.{Sound, sound_safe}
+use Rattle.soundness.proofs.Theorem.{Sound}
 use Rattle.soundness.proofs.Calls.{QueueWasFull, CallsKept}
-use Rattle.soundness.proofs.JavaTheorem.{JavaSound, java_sound_start, java_sound_after, java_sound_step, java_makes_progress}
+use Rattle.soundness.proofs.JavaTheorem.{JavaSound, java_sound_start, java_sound_after, java_sound_step, java_sound_safe, java_makes_progress}
 
 -- ---- a skipped submit
 
@@ -61,7 +62,7 @@ sound_left : (plan : Plan) (cert : Cert) (s : State) (a : Parent) (body : List A
 sound_left plan cert s a body i k ordered laws at held = record {
   bounded = record {
     kept = kept_skips plan s a body i k ordered held.bounded.kept at;
-    have_jobs = have_jobs_skips plan s a body i k held.bounded.have_jobs at;
+    have_jobs = have_jobs_skips plan (IsLasting plan) s a body i k held.bounded.have_jobs at;
     balanced = λ p inside. bound_balanced_left plan p (bound_of cert p) cert.ranks s a body i k ordered laws.ranks (laws.bound p inside) at (held.bounded.balanced p inside);
     none_refused = held.bounded.none_refused;
   };
@@ -73,14 +74,20 @@ full_left : (plan : Plan) (bound : Option Bound) (s : State) (a : Parent) (body 
 full_left plan None s a body i k p at full = full
 full_left plan (Some (Standing v)) s a body i k p at full = full
 full_left plan (Some (Lifetime v)) s a body i k p at full =
-    let by_jobs = (change_skipped plan s a body i k p at.stands).by_jobs in
-    let was = full.1 in
-    (full.0, omega arith)
+    let change = change_skipped plan s a body i k p at.stands in
+    let by_jobs = change.by_jobs in
+    let more = change.no_fewer in
+    let was = full.1.0 in
+    (full.0, (omega arith, λ lasting. let all = full.1.1 lasting in omega arith))
 
 -- after a skip the invariants of the calls in progress still hold
 calls_left : (plan : Plan) (bounds : ℕ → Option Bound) (s : JavaState) (a : Parent) (body : List Action) (i k : ℕ) → IsAtAction plan s.machine a body i (Some (action.Submit k)) → CallsKept plan bounds s → CallsKept plan bounds (record s { machine = skipped s.machine a i k })
 calls_left plan bounds s a body i k at calls = record {
-  offering = λ b p inside is_there. (change_skipped plan s.machine a body i k p at.stands).at_core (calls.offering b p inside is_there);
+  looks = record {
+    timeouts = calls.looks.timeouts;
+    enough = λ p inside. ⊎_elim inl (λ had. inr (enough_submitted plan s.machine a body i k p Stage.Done at.stands had)) (calls.looks.enough p inside);
+  };
+  offering = λ b p inside is_there lasting. (change_skipped plan s.machine a body i k p at.stands).at_core tt lasting (calls.offering b p inside is_there lasting);
   requesting = λ b p inside is_there. full_left plan (bounds p) s.machine a body i k p at (calls.requesting b p inside is_there);
 }
 
@@ -116,13 +123,17 @@ full_exchanged : (plan : Plan) (bound : Option Bound) (s : State) (a : Parent) (
 full_exchanged plan None s a t u p full = full
 full_exchanged plan (Some (Standing v)) s a t u p full = full
 full_exchanged plan (Some (Lifetime v)) s a t u p full =
-    let was = full.1 in
-    (full.0, omega (arith, threads-exchanged plan s a t u p, jobs_made-exchanged plan s a t u p))
+    let was = full.1.0 in
+    (full.0, (omega (arith, jobs_made-exchanged plan s a t u p), λ lasting. let all = full.1.1 lasting in omega (arith, threads-exchanged plan s a t u p, jobs_made-exchanged plan s a t u p)))
 
 -- after an exchange the invariants of the calls in progress still hold
 calls_exchanged : (plan : Plan) (bounds : ℕ → Option Bound) (s : JavaState) (a : Parent) (t u : ℕ) → CallsKept plan bounds s → CallsKept plan bounds (record s { machine = after_exchange a t u s.machine })
 calls_exchanged plan bounds s a t u calls = record {
-  offering = λ b p inside is_there. let at_core = calls.offering b p inside is_there in omega (arith, threads-exchanged plan s.machine a t u p);
+  looks = record {
+    timeouts = calls.looks.timeouts;
+    enough = λ p inside. ⊎_elim inl (λ had. inr (λ some. let enough = had some in omega (arith, threads-exchanged plan s.machine a t u p))) (calls.looks.enough p inside);
+  };
+  offering = λ b p inside is_there lasting. let at_core = calls.offering b p inside is_there lasting in omega (arith, threads-exchanged plan s.machine a t u p);
   requesting = λ b p inside is_there. full_exchanged plan (bounds p) s.machine a t u p (calls.requesting b p inside is_there);
 }
 
@@ -134,10 +145,12 @@ exchange_keeps plan cert s a t u s' held done =
 -- ---- every choice
 
 pub choice_keeps : (plan : Plan) (cert : Cert) → HasValidBodies plan → CertLaws plan cert → (s : JavaState) (x : Choice) (s' : JavaState) → JavaSound plan cert s → choice_step plan s x ≡ Some s' → JavaSound plan cert s'
-choice_keeps plan cert ordered laws s (Acts e) s' held is_step = java_sound_step plan cert ordered laws s e s' held is_step
+choice_keeps plan cert ordered laws s (Acts e) s' held is_step = java_sound_step plan cert ordered laws s (JavaEvent.Acts e) s' held is_step
 choice_keeps plan cert ordered laws s (Skips e) s' held is_step = left_keeps plan cert s e s' ordered laws held (is_skipped plan s e s' is_step)
 choice_keeps plan cert ordered laws s (Misses e) s' held is_step = java_sound_after plan cert s s' ordered laws held (is_missed plan s e s' is_step)
 choice_keeps plan cert ordered laws s (Exchanges a t u) s' held is_step = exchange_keeps plan cert s a t u s' held (is_exchange plan s a t u s' is_step)
+choice_keeps plan cert ordered laws s (Leaves p) s' held is_step = java_sound_step plan cert ordered laws s (JavaEvent.Leaves p) s' held is_step
+choice_keeps plan cert ordered laws s (Spares p) s' held is_step = java_sound_step plan cert ordered laws s (JavaEvent.Spares p) s' held is_step
 
 -- every state that choices reach is sound
 pub choices_sound : (plan : Plan) (cert : Cert) → HasValidBodies plan → CertLaws plan cert → (choices : List Choice) (s : JavaState) → ChoicesReach plan choices s → JavaSound plan cert s
@@ -150,7 +163,7 @@ pub accepted_plans_may_skip : AcceptedPlansMaySkip
 accepted_plans_may_skip plan cert well_formed is_accepted choices s reached =
     let is_ordered = ordered plan well_formed in
     let laws = cert_laws plan cert is_accepted in
-    sound_safe plan cert s.machine is_ordered laws (choices_sound plan cert is_ordered laws choices s reached).sound
+    java_sound_safe plan cert s is_ordered laws (choices_sound plan cert is_ordered laws choices s reached)
 
 -- the law that an event of a job or a take is possible in every state with an unfinished job that choices reach
 pub accepted_plans_make_progress_with_skips : AcceptedPlansMakeProgressWithSkips

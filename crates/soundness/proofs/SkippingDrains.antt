@@ -12,11 +12,11 @@ use Rattle.written_machine.specs.Safe.{is_of_job_or_pool}
 use Rattle.written_machine.proofs.Busy.{one_if}
 use Rattle.cert_text.specs.Cert.{Cert}
 use Rattle.soundness.proofs.Draining.{ends_thread, no_client_cases}
-use Rattle.soundness.specs.Execute.{JavaState, java_step, without_calls}
+use Rattle.soundness.specs.Execute.{JavaState, JavaEvent, java_step, without_calls}
 use Rattle.soundness.proofs.JobCalls.{JobCalls, job_calls_start}
 use Rattle.soundness.proofs.Costs.{calls_done-le}
 use Rattle.soundness.specs.Skipping.{Choice, choice_step, choices_replay, ChoicesReach, is_of_jobs, no_client_acts}
-use Rattle.soundness.specs.Skipping.Choice.{Acts, Skips, Misses, Exchanges}
+use Rattle.soundness.specs.Skipping.Choice.{Acts, Skips, Misses, Exchanges, Leaves, Spares}
 use Rattle.soundness.proofs.Choices.{is_skipped, is_missed, choices_none, choices_keep}
 use Rattle.soundness.proofs.SkipCosts.{skip_costs}
 use Rattle.soundness.proofs.ExchangedJobs.{is_exchange}
@@ -31,7 +31,7 @@ use Rattle.soundness.proofs.Skipping.{choice_keeps}
 
 -- each choice preserves the invariants of an accepted plan and of the calls of its jobs
 choice_held : (plan : Plan) (cert : Cert) → HasValidBodies plan → CertLaws plan cert → (s : JavaState) (x : Choice) (s' : JavaState) → JavaHeld plan cert s → choice_step plan s x ≡ Some s' → JavaHeld plan cert s'
-choice_held plan cert ordered laws s (Acts e) s' held is_step = held_step plan cert ordered laws s e s' held is_step
+choice_held plan cert ordered laws s (Acts e) s' held is_step = held_step plan cert ordered laws s (JavaEvent.Acts e) s' held is_step
 choice_held plan cert ordered laws s (Skips e) s' held is_step = record {
   java = choice_keeps plan cert ordered laws s (Skips e) s' held.java is_step;
   jobs = (skip_costs plan cert.ranks s e s' (is_skipped plan s e s' is_step)).calls held.jobs;
@@ -41,6 +41,8 @@ choice_held plan cert ordered laws s (Exchanges a t u) s' held is_step = record 
   java = choice_keeps plan cert ordered laws s (Exchanges a t u) s' held.java is_step;
   jobs = subst (JobCalls plan) (is_exchange plan s a t u s' is_step).after (job_calls_exchanged plan s a t u held.jobs);
 }
+choice_held plan cert ordered laws s (Leaves p) s' held is_step = held_step plan cert ordered laws s (JavaEvent.Leaves p) s' held is_step
+choice_held plan cert ordered laws s (Spares p) s' held is_step = held_step plan cert ordered laws s (JavaEvent.Spares p) s' held is_step
 
 -- every state that choices reach satisfies the invariants of an accepted plan and of the calls of its jobs
 choices_held : (plan : Plan) (cert : Cert) → HasValidBodies plan → CertLaws plan cert → (choices : List Choice) (s : JavaState) → ChoicesReach plan choices s → JavaHeld plan cert s
@@ -50,16 +52,18 @@ choices_held plan cert ordered laws choices s reached =
 
 -- each choice in which no client acts pays: 1 if it is a job event, a take or a skip by a job, and otherwise 0
 choice_pays : (plan : Plan) (cert : Cert) (s : JavaState) (x : Choice) (s' : JavaState) → HasValidBodies plan → CertLaws plan cert → JavaHeld plan cert s → JavaHeld plan cert s' → no_client_acts x ≡ true → choice_step plan s x ≡ Some s' → Pays plan cert (one_if (is_of_jobs x)) s s'
-choice_pays plan cert s (Acts e) s' ordered laws held held' of_no_client is_step = event_pays plan cert s e s' ordered laws held held' of_no_client is_step
+choice_pays plan cert s (Acts e) s' ordered laws held held' of_no_client is_step = event_pays plan cert s (JavaEvent.Acts e) s' ordered laws held held' of_no_client is_step
 choice_pays plan cert s (Skips e) s' ordered laws held held' of_no_client is_step =
     let cost = skip_costs plan cert.ranks s e s' (is_skipped plan s e s' is_step) in
     ⊎_elim
     (λ (counted : is_of_job_or_pool e ≡ true). omega (arith, ap one_if counted, cost.costs counted))
     (λ (is_end : ends_thread e ≡ true). absurd (false≢true (sym cost.by_actor ∙ is_end)))
     (no_client_cases e of_no_client)
-choice_pays plan cert s (Misses e) s' ordered laws held held' of_no_client is_step = happened_pays plan cert s e s' laws held held' of_no_client (is_missed plan s e s' is_step)
+choice_pays plan cert s (Misses e) s' ordered laws held held' of_no_client is_step = happened_pays plan cert s (JavaEvent.Acts e) s' laws held held' of_no_client (is_missed plan s e s' is_step)
 choice_pays plan cert s (Exchanges a t u) s' ordered laws held held' of_no_client is_step =
     subst (Pays plan cert 0 s) (is_exchange plan s a t u s' is_step).after (omega (arith, todo-exchanged plan cert.ranks s.machine a t u, calls_done-exchanged s a t u))
+choice_pays plan cert s (Leaves p) s' ordered laws held held' of_no_client is_step = event_pays plan cert s (JavaEvent.Leaves p) s' ordered laws held held' of_no_client is_step
+choice_pays plan cert s (Spares p) s' ordered laws held held' of_no_client is_step = event_pays plan cert s (JavaEvent.Spares p) s' ordered laws held held' of_no_client is_step
 
 -- ---- lists of choices
 

@@ -3,12 +3,12 @@ use Rattle.std.proofs.Common.{◌≡◌, ℕ, ◌+◌, ◌<◌, ◌≤◌, ⊎_e
 use Rattle.std.specs.List.{list_all, count_by}
 use Rattle.std.proofs.lemmas.Bool.{and_parts, false_from_ne_true}
 use Rattle.std.proofs.lemmas.List.Sums.{sum_by-cons}
-use Rattle.job_bodies.specs.Plan.{Plan}
+use Rattle.job_bodies.specs.Plan.{Plan, pool_at}
 use Rattle.job_bodies.specs.WellFormed.{IsWellFormed}
 use Rattle.job_bodies.proofs.Bodies.{HasValidBodies, ordered}
 use Rattle.written_machine.specs.declared.event.Event.{Event}
 use Rattle.written_machine.specs.declared.event.Outcome.{Outcome}
-use Rattle.written_machine.specs.State.{State, job_at, is_unfinished}
+use Rattle.written_machine.specs.State.{State, job_at, threads, is_unfinished}
 use Rattle.written_machine.specs.Step.{step}
 use Rattle.written_machine.specs.Reach.{start, state_after, replay, IsReached}
 use Rattle.written_machine.specs.Waiting.{IsWaitingSet}
@@ -17,7 +17,8 @@ use Rattle.written_machine.specs.Safe.{IsSafe, Safe, is_of_job_or_pool, MakesPro
 use Rattle.written_machine.proofs.Busy.{one_if}
 use Rattle.written_machine.proofs.Events.{Happens, happens}
 use Rattle.written_machine.proofs.LooseWaitingSets.{waiting_is_loose}
-use Rattle.written_machine.proofs.Reached.{replay_none, replay_keeps, reached_keeps}
+use Rattle.written_machine.proofs.Reached.{replay_none, replay_keeps, reached_keeps, have_threads, have_threads_after}
+use Rattle.written_machine.proofs.EnoughThreads.{HaveThreads}
 use Rattle.written_machine.proofs.Progress.{makes_progress}
 use Rattle.weights.specs.declared.bound.Bound.{Bound}
 use Rattle.weights.specs.Bound.{bound_vector, bound_get_return}
@@ -25,13 +26,14 @@ use Rattle.weights.specs.declared.get_return.GetReturn.TheVariants.{DoneWeight}
 use Rattle.cert_text.specs.Cert.{Cert, pool_cert_at}
 use Rattle.soundness.proofs.NeverRises.{IsBalanced, balanced_start, never_rises, balanced_step}
 use Rattle.soundness.specs.Drain.{todo, is_of_no_client, Drains}
-use Rattle.soundness.proofs.CountedGets.{may_block-below_core}
-use Rattle.soundness.proofs.Descent.{none_waits_loosely}
+use Rattle.soundness.proofs.CountedGets.{may_block-below_threads}
+use Rattle.soundness.proofs.Descent.{MembersHaveThreads, none_waits_loosely, members_have_threads}
 use Rattle.soundness.proofs.Draining.{lowers, ends_thread, no_client_cases, not_counted, same_todo}
 use Rattle.soundness.specs.Accepted.{accepted}
 use Rattle.soundness.specs.Headline.{AcceptedPlansAreSafe, AcceptedPlansMakeProgress, AcceptedPlansDrain, bound_of}
 use Rattle.soundness.proofs.CertLaws.{CertLaws, cert_laws}
-use Rattle.soundness.proofs.Bounded.{BoundHolds, Bounded, BoundsHold, bounded_start, bounded_step, keeps_sizes}
+use Rattle.soundness.proofs.Bounded.{BoundHolds, Bounded, BoundsHold, bounded_start, bounded_step, bounded_spares, keeps_sizes}
+use Rattle.soundness.proofs.JavaEvents.{with_spare_thread}
 use Rattle.soundness.proofs.BoundLaws.{PoolBoundLaws, bound_vector_laws}
 use Rattle.soundness.proofs.RankLaws.{RankLaws}
 use Rattle.soundness.proofs.Walks.{rejected_are_light}
@@ -67,6 +69,10 @@ sound_step plan cert s s' o ordered laws sound happened = record {
       balanced_step DoneWeight plan v s s' (never_rises DoneWeight plan v s s' o ordered (laws.blocked p inside).laws (rejected_are_light DoneWeight plan v cert.ranks ordered laws.ranks (laws.blocked p inside).laws) sound.bounded.kept happened) (sound.blocked p inside);
 }
 
+-- a thread that starts without a job, in a pool whose core threads may time out, leaves a sound state sound
+pub sound_spares : (plan : Plan) (cert : Cert) (s : State) (p : ℕ) → Sound plan cert s → (pool_at plan p).core_timeout ≡ true → threads plan s p < (pool_at plan p).max → Sound plan cert (with_spare_thread p s)
+sound_spares plan cert s p sound timeout below = record { bounded = bounded_spares plan (bound_of cert) s p sound.bounded timeout below; blocked = sound.blocked }
+
 -- every reachable state is sound
 pub sound : (plan : Plan) (cert : Cert) (s : State) → HasValidBodies plan → CertLaws plan cert → IsReached plan s → Sound plan cert s
 sound plan cert s ordered laws reached = reached_keeps plan (Sound plan cert) (sound_start plan cert ordered) (λ s₁ e s₂ o held happened. sound_step plan cert s₁ s₂ o ordered laws held happened) s reached
@@ -74,25 +80,25 @@ sound plan cert s ordered laws reached = reached_keeps plan (Sound plan cert) (s
 -- ---- safety and progress
 
 -- in a sound state no set of jobs waits only for its own members, now or at later gets
-pub sound_waits_loosely : (plan : Plan) (cert : Cert) (s : State) → HasValidBodies plan → CertLaws plan cert → Sound plan cert s → (members : List ℕ) → ¬ IsLooseWaitingSet plan s members
-sound_waits_loosely plan cert s ordered laws held members =
+pub sound_waits_loosely : (plan : Plan) (cert : Cert) (s : State) → HasValidBodies plan → CertLaws plan cert → Sound plan cert s → (members : List ℕ) → MembersHaveThreads plan s members → ¬ IsLooseWaitingSet plan s members
+sound_waits_loosely plan cert s ordered laws held members have =
     none_waits_loosely plan cert.ranks s members ordered laws.ranks held.bounded.kept
-    (λ p inside. may_block-below_core plan cert.ranks (pool_cert_at cert p).blocked p s ordered laws.ranks (laws.blocked p inside) held.bounded.kept inside (held.blocked p inside))
+    (λ p inside. may_block-below_threads plan cert.ranks (pool_cert_at cert p).blocked p s ordered laws.ranks (laws.blocked p inside) held.bounded.kept inside (held.blocked p inside)) have
 
 -- in a sound state no set of jobs waits only for its own members at their current positions, since such a set is a loose one
-pub sound_waits : (plan : Plan) (cert : Cert) (s : State) → HasValidBodies plan → CertLaws plan cert → Sound plan cert s → (members : List ℕ) → ¬ IsWaitingSet plan s members
-sound_waits plan cert s ordered laws held members waiting = sound_waits_loosely plan cert s ordered laws held members (waiting_is_loose plan s members ordered held.bounded.kept waiting)
+pub sound_waits : (plan : Plan) (cert : Cert) (s : State) → HasValidBodies plan → CertLaws plan cert → Sound plan cert s → (members : List ℕ) → MembersHaveThreads plan s members → ¬ IsWaitingSet plan s members
+sound_waits plan cert s ordered laws held members have waiting = sound_waits_loosely plan cert s ordered laws held members have (waiting_is_loose plan s members ordered held.bounded.kept waiting)
 
--- a sound state is safe
-pub sound_safe : (plan : Plan) (cert : Cert) (s : State) → HasValidBodies plan → CertLaws plan cert → Sound plan cert s → IsSafe plan s
-sound_safe plan cert s ordered laws held =
+-- a sound state in which each pool with a queued job has enough threads is safe
+pub sound_safe : (plan : Plan) (cert : Cert) (s : State) → HasValidBodies plan → CertLaws plan cert → Sound plan cert s → HaveThreads plan s → IsSafe plan s
+sound_safe plan cert s ordered laws held have =
     let sizes = keeps_sizes plan (bound_of cert) s held.bounded in
     record {
       none_refused = sizes.none_refused;
       within_max = sizes.within_max;
       within_queue = sizes.within_queue;
-      none_waits = sound_waits plan cert s ordered laws held;
-      none_waits_loosely = sound_waits_loosely plan cert s ordered laws held;
+      none_waits = λ members. sound_waits plan cert s ordered laws held members (members_have_threads plan s members ordered held.bounded.kept have);
+      none_waits_loosely = λ members. sound_waits_loosely plan cert s ordered laws held members (members_have_threads plan s members ordered held.bounded.kept have);
     }
 
 -- every reachable state is safe
@@ -100,7 +106,7 @@ pub safe : (plan : Plan) (cert : Cert) → IsWellFormed plan → IsTrue (accepte
 safe plan cert well_formed is_accepted events s reached =
     let is_ordered = ordered plan well_formed in
     let laws = cert_laws plan cert is_accepted in
-    sound_safe plan cert s is_ordered laws (sound plan cert s is_ordered laws (events, reached))
+    sound_safe plan cert s is_ordered laws (sound plan cert s is_ordered laws (events, reached)) (have_threads plan s well_formed (events, reached))
 
 -- in every reachable state with an unfinished job an event of a job or a take is possible
 pub makes_progress_everywhere : (plan : Plan) (cert : Cert) → IsWellFormed plan → IsTrue (accepted plan cert) → MakesProgress plan
@@ -108,7 +114,8 @@ makes_progress_everywhere plan cert well_formed is_accepted events s reached j s
     let is_ordered = ordered plan well_formed in
     let laws = cert_laws plan cert is_accepted in
     let held = sound plan cert s is_ordered laws (events, reached) in
-    makes_progress plan s j is_ordered held.bounded.kept (sound_waits plan cert s is_ordered laws held) still
+    let have = have_threads plan s well_formed (events, reached) in
+    makes_progress plan s j is_ordered held.bounded.kept (λ members. sound_waits plan cert s is_ordered laws held members (members_have_threads plan s members is_ordered held.bounded.kept have)) still
 
 -- ---- draining
 
@@ -152,7 +159,8 @@ drains plan cert well_formed is_accepted =
           let held : Sound plan cert s' = replay_keeps plan (Sound plan cert) (λ s₁ e s₂ o before happened. sound_step plan cert s₁ s₂ o is_ordered laws before happened) events s s' (sound plan cert s is_ordered laws leads.reached) leads.replayed in
           false_from_ne_true (is_unfinished (job_at s' j).stage)
           (λ still.
-          let goes = makes_progress plan s' j is_ordered held.bounded.kept (sound_waits plan cert s' is_ordered laws held) still in
+          let have = have_threads_after plan s s' events well_formed leads.reached leads.replayed in
+          let goes = makes_progress plan s' j is_ordered held.bounded.kept (λ members. sound_waits plan cert s' is_ordered laws held members (members_have_threads plan s' members is_ordered held.bounded.kept have)) still in
           let rest : is_some (step plan s' goes.event) ≡ false = ap (λ (x : Option (State × Outcome)). is_some x) (rests goes.event goes.of_job_or_pool) in
           let possible = goes.possible in
           cc);

@@ -8,14 +8,14 @@ use Rattle.written_machine.specs.declared.parent.Parent.TheVariants as parent
 use Rattle.written_machine.specs.State.{Stage, child}
 use Rattle.written_machine.specs.Reach.{start}
 use Rattle.written_machine.specs.Waiting.{is_waiting_set}
-use Rattle.soundness.specs.Execute.{JavaState, java_step, without_calls}
+use Rattle.soundness.specs.Execute.{JavaState, JavaEvent, java_step, without_calls}
 use Rattle.soundness.specs.Exchange.{after_exchange}
 use Rattle.soundness.specs.Skipping.{Choice, choices_replay}
 use Rattle.soundness.specs.Skipping.Choice.{Acts, Skips, Exchanges}
 
 -- a pool of this many threads and a queue of one
 abbrev pool_of_size : ℕ → Pool
-pool_of_size threads = record { name = 112 ∷ []; core = threads; max = threads; queue = 1; prestart = false; may_reject = false; unbounded = false }
+pool_of_size threads = record { name = 112 ∷ []; core = threads; max = threads; queue = 1; prestart = false; may_reject = false; unbounded = false; core_timeout = false }
 
 -- the value of a function at the state that the choices reach, or None if they reach none
 abbrev after : {X : Type 0} → Plan → List Choice → (JavaState → X) → Option X
@@ -133,9 +133,9 @@ abbrev second_to_get : List Choice
 second_to_get = Acts (event.Client 0) ∷ Acts (event.Job 0) ∷ Acts (event.Job 1) ∷ Acts (event.Job 1) ∷ Acts (event.Job 0) ∷ Acts (event.Job 0) ∷ Acts (event.Job 0) ∷ Acts (event.Take 1) ∷ Acts (event.Job 2) ∷ Acts (event.Job 2) ∷ []
 
 -- without an exchange the outer job can get the second inner job
-pub can_get : after twice second_to_get (λ s. is_some (java_step twice s (event.Job 0))) ≡ Some true
+pub can_get : after twice second_to_get (λ s. is_some (java_step twice s (JavaEvent.Acts (event.Job 0)))) ≡ Some true
 can_get = refl
 
 -- after an exchange of the two inner jobs, the outer job's get would find the first one, which is claimed
-pub could_not_get : after twice second_to_get (λ s. is_some (java_step twice (record s { machine = after_exchange (parent.Job 0) 0 2 s.machine }) (event.Job 0))) ≡ Some false
+pub could_not_get : after twice second_to_get (λ s. is_some (java_step twice (record s { machine = after_exchange (parent.Job 0) 0 2 s.machine }) (JavaEvent.Acts (event.Job 0)))) ≡ Some false
 could_not_get = refl

@@ -16,7 +16,7 @@ use Rattle.soundness.specs.Skipping.Choice.{Acts, Skips, Misses}
 
 -- a pool of one thread and a queue of one
 abbrev one_thread : Pool
-one_thread = record { name = 112 ∷ []; core = 1; max = 1; queue = 1; prestart = false; may_reject = false; unbounded = false }
+one_thread = record { name = 112 ∷ []; core = 1; max = 1; queue = 1; prestart = false; may_reject = false; unbounded = false; core_timeout = false }
 
 -- an outer job submits an inner job of the same pool and waits for it; a client repeatedly submits outer jobs
 abbrev nested : Plan

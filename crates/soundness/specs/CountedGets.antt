@@ -1,7 +1,7 @@
 -- The number of jobs of a pool that are at a counted get or before one, and the theorem that no set of unfinished jobs waits only
 -- for its own members.
 use Rattle.std.specs.Prelude.{◌<◌, ◌≤◌, ◌==◌, ◌+◌, ◌-◌, ◌&&◌, ◌||◌, ℕ, zero, suc, Bool, false, List, length, count_by}
-use Rattle.job_bodies.specs.Plan.{Plan, pool_at, class_at}
+use Rattle.job_bodies.specs.Plan.{Plan, pool_at, class_at, least_threads}
 use Rattle.job_bodies.specs.WellFormed.{IsWellFormed}
 use Rattle.weights.specs.Row.{AllHold}
 use Rattle.weights.specs.Vector.{Vector, total}
@@ -31,10 +31,10 @@ abbrev pub may_block : Plan → Ranks → State → ℕ → ℕ
 may_block plan ranks s p = count_by (may_block_in plan ranks p) s.jobs
 
 -- Let the rows of the ranks and of a pool's blocked vector hold. Then in every reachable state, the number of jobs of this pool that are at
--- or before a counted get is at most the vector's total, and below the pool's core size
+-- or before a counted get is at most the vector's total, and below the number of threads that the pool has while a job is queued
 abbrev pub FewerThanCoreMayBlock : Type 0
 FewerThanCoreMayBlock = (plan : Plan) (ranks : Ranks) (p : ℕ) (v : Vector) (s : State) → IsWellFormed plan → p < length plan.pools → AllHold (rank_rows plan ranks) → AllHold (blocked_rows plan p (is_counted plan ranks) v) → IsReached plan s
-    → (may_block plan ranks s p ≤ total plan v) × (may_block plan ranks s p < (pool_at plan p).core)
+    → (may_block plan ranks s p ≤ total plan v) × (may_block plan ranks s p < least_threads (pool_at plan p))
 
 -- if the rows of the ranks and of a blocked vector for each pool hold, then in no reachable state does a set of unfinished jobs
 -- wait only for its own members, now or at later gets

@@ -1,21 +1,25 @@
 -- A submit as the separate steps of Java's `execute`. Each step reads or changes the pool at one moment, and other events can
 -- occur between two steps. The first step starts a thread if the pool has fewer than core threads. Otherwise the second step
 -- offers the job to the queue. If the queue has no room, the third step requests a thread.
-use Rattle.std.specs.Prelude.{ℕ, ◌==◌, ◌&&◌, not, nat_lt, Bool, List, [], ◌∷◌, length, filter, Option, Some, None, slice_get, if◌then◌else◌}
+--
+-- If core threads of a pool may time out, any idle thread can end, and then the queue may be left without a thread. So Java looks at
+-- the pool after each successful offer and after the end of each thread, and starts a thread if there is none. Between the offer or
+-- the end and that look, other events can occur.
+use Rattle.std.specs.Prelude.{ℕ, zero, suc, ◌+◌, ◌-◌, ◌==◌, ◌&&◌, ◌||◌, not, nat_lt, Bool, List, [], ◌∷◌, length, filter, Option, Some, None, slice_get, if◌then◌else◌}
 use Rattle.std.specs.List.{list_any}
 use Rattle.job_bodies.specs.declared.action.Action.{Action}
 use Rattle.job_bodies.specs.declared.action.Action.TheVariants.{Submit}
 use Rattle.job_bodies.specs.Plan.{Plan, pool_at}
 use Rattle.pool_machine.specs.declared.offer.Offer.{Offer}
 use Rattle.pool_machine.specs.declared.offer.Offer.TheVariants.{Started, Queued, Refused}
-use Rattle.pool_machine.specs.PoolState.{room_limit}
+use Rattle.pool_machine.specs.PoolState.{PoolView, room_limit, has_spare_worker}
 use Rattle.written_machine.specs.declared.parent.Parent.{Parent}
 use Rattle.written_machine.specs.declared.parent.Parent.TheVariants as parent
 use Rattle.written_machine.specs.declared.event.Event.{Event}
-use Rattle.written_machine.specs.declared.event.Event.TheVariants.{Client, Job}
+use Rattle.written_machine.specs.declared.event.Event.TheVariants.{Client, Job, Retire}
 use Rattle.written_machine.specs.declared.event.Outcome.{Outcome}
-use Rattle.written_machine.specs.State.{State, same_parent, pool_of, pool_part, threads}
-use Rattle.written_machine.specs.Step.{Point, point, answered, step}
+use Rattle.written_machine.specs.State.{State, same_parent, pool_of, pool_part, pool_seen, threads}
+use Rattle.written_machine.specs.Step.{Point, point, with_pool, answered, step}
 
 -- a call of `execute` in progress: the actor that submits, and the pool to which it submits
 pub record Call : Type 0 where
@@ -23,11 +27,21 @@ pub record Call : Type 0 where
   pub pool : ℕ
 
 -- a state of the machine with the calls in progress: `offering` has the calls that found at least core threads, and whose next
--- step offers the job to the queue; `requesting` has the calls that found the queue full, and whose next step requests a thread
+-- step offers the job to the queue; `requesting` has the calls that found the queue full, and whose next step requests a thread;
+-- `looking` has a pool, whose core threads may time out, for each call that queued its job and for each thread that ended, if Java
+-- has not looked yet whether the pool needs a thread
 pub record JavaState : Type 0 where
   pub machine : State
   pub offering : List Call
   pub requesting : List Call
+  pub looking : List ℕ
+
+-- an event in Java's steps: `Acts` is an event of the machine or a step of a submit; in `Leaves` Java looks at the pool and finds that
+-- it needs no thread; in `Spares` it starts an idle thread there
+pub data JavaEvent : Type 0 where
+  Acts : Event → JavaEvent
+  Leaves : ℕ → JavaEvent
+  Spares : ℕ → JavaEvent
 
 -- the list contains a call of actor a to pool p
 abbrev pub is_calling : List Call → Parent → ℕ → Bool
@@ -37,6 +51,57 @@ is_calling calls a p = list_any (λ call. same_parent a call.actor && p == call.
 abbrev pub without_calls_of : Parent → List Call → List Call
 without_calls_of a calls = filter (λ call. not (same_parent a call.actor)) calls
 
+-- ---- the pools at which Java will look
+
+-- Java will look at pool p
+abbrev pub is_looking : List ℕ → ℕ → Bool
+is_looking looking p = list_any (λ q. p == q) looking
+
+-- the list with pool p added, if core threads of p may time out
+abbrev pub joined : Plan → ℕ → List ℕ → List ℕ
+joined plan p looking = if (pool_at plan p).core_timeout then p ∷ looking else looking
+
+-- the list after pool p gave this answer: Java looks at p after it queued the job
+abbrev pub looking_after : Plan → ℕ → Offer → List ℕ → List ℕ
+looking_after plan p Queued looking = joined plan p looking
+looking_after plan p _ looking = looking
+
+-- the list without one entry of pool p
+abbrev pub looked_once : ℕ → List ℕ → List ℕ
+looked_once p [] = []
+looked_once p (q ∷ looking) = if p == q then looking else q ∷ looked_once p looking
+
+-- the state after Java looked at pool p and started no thread; None if it does not look at p, or a job is queued and p has no thread
+abbrev pub leaves : Plan → JavaState → ℕ → Option JavaState
+leaves plan s p =
+    if is_looking s.looking p && (nat_lt 0 (threads plan s.machine p) || length (pool_part s.machine p).queue == 0) then Some (record s { looking = looked_once p s.looking })
+    else None
+
+-- the pool after a thread started that has no job yet
+abbrev pub with_spare : PoolView → PoolView
+with_spare pool = record pool { threads = pool.threads + 1; idle = pool.idle + 1 }
+
+-- the state after Java looked at pool p and started a thread without a job; None if it does not look at p, or p has max threads
+abbrev pub spares : Plan → JavaState → ℕ → Option JavaState
+spares plan s p =
+    if is_looking s.looking p && nat_lt (threads plan s.machine p) (pool_at plan p).max then Some (record s { machine = with_pool p (with_spare (pool_seen plan s.machine p)) s.machine; looking = looked_once p s.looking })
+    else None
+
+-- ---- the end of a thread
+
+abbrev pub timed_out_of : PoolView → ℕ → Option PoolView
+timed_out_of pool zero = None
+timed_out_of pool (suc idle) = if has_spare_worker pool idle then Some (record pool { threads = pool.threads - 1; idle = idle }) else None
+
+-- the pool after an idle worker ended, even if the pool needs it; None if no worker is idle, or each idle worker was handed a job
+abbrev pub timed_out : PoolView → Option PoolView
+timed_out pool = timed_out_of pool pool.idle
+
+-- the state after a thread of pool p, whose core threads may time out, ended, given the pool afterwards
+abbrev pub after_timeout : JavaState → ℕ → Option PoolView → Option JavaState
+after_timeout s p None = None
+after_timeout s p (Some pool) = Some (record s { machine = with_pool p pool s.machine; looking = p ∷ s.looking })
+
 -- ---- the steps of a submit of a job of class k by an actor at position i
 
 -- the state after a call ends with this answer of the pool
@@ -45,6 +110,7 @@ answers plan s a i k answer = record {
   machine = (answered plan s.machine a i k answer).0;
   offering = without_calls_of a s.offering;
   requesting = without_calls_of a s.requesting;
+  looking = looking_after plan (pool_of plan k) answer s.looking;
 }
 
 -- the state after the first step: if the pool has fewer than core threads, a new thread runs the job, and otherwise the call
@@ -103,21 +169,29 @@ abbrev pub as_atomic : JavaState → Option (State × Outcome) → Option JavaSt
 as_atomic s None = None
 as_atomic s (Some x) = Some (record s { machine = x.0 })
 
+-- the state after an event that is no step of a submit: the event of the machine, but if core threads of a pool may time out, an idle
+-- thread of it can end even if the pool needs it
+abbrev pub other_step : Plan → JavaState → Event → Option JavaState
+other_step plan s (Retire p) = if (pool_at plan p).core_timeout then after_timeout s p (timed_out (pool_seen plan s.machine p)) else as_atomic s (step plan s.machine (Retire p))
+other_step plan s e = as_atomic s (step plan s.machine e)
+
 abbrev pub java_stepped : Plan → JavaState → Event → Option Submission → Option JavaState
-java_stepped plan s e None = as_atomic s (step plan s.machine e)
+java_stepped plan s e None = other_step plan s e
 java_stepped plan s e (Some x) = Some (executes plan s x.actor x.position x.class)
 
 -- the state after the event, or None if the event is not possible; if the event's actor is at a submit, the event is the next
--- step of that submit, and otherwise it is the event of the machine
-abbrev pub java_step : Plan → JavaState → Event → Option JavaState
-java_step plan s e = java_stepped plan s e (submission plan s.machine e)
+-- step of that submit, and otherwise it is the event of the machine or the end of a thread
+abbrev pub java_step : Plan → JavaState → JavaEvent → Option JavaState
+java_step plan s (Acts e) = java_stepped plan s e (submission plan s.machine e)
+java_step plan s (Leaves p) = leaves plan s p
+java_step plan s (Spares p) = spares plan s p
 
 -- the state after all events in order, or None if one of them is not possible
-abbrev pub java_replay : Plan → Option JavaState → List Event → Option JavaState
+abbrev pub java_replay : Plan → Option JavaState → List JavaEvent → Option JavaState
 java_replay plan s [] = s
 java_replay plan None (e ∷ events) = None
 java_replay plan (Some s) (e ∷ events) = java_replay plan (java_step plan s e) events
 
--- the state of the machine with no call in progress
+-- the state of the machine with no call in progress, and no pool at which Java will look
 abbrev pub without_calls : State → JavaState
-without_calls s = record { machine = s; offering = []; requesting = [] }
+without_calls s = record { machine = s; offering = []; requesting = []; looking = [] }

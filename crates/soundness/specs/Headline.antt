@@ -11,7 +11,7 @@ use Rattle.written_machine.specs.Step.{step}
 use Rattle.written_machine.specs.Reach.{Reaches}
 use Rattle.written_machine.specs.Safe.{Safe, MakesProgress}
 use Rattle.soundness.specs.Drain.{Drains}
-use Rattle.soundness.specs.Execute.{JavaState, Submission, submission, is_calling}
+use Rattle.soundness.specs.Execute.{JavaState, JavaEvent, Submission, submission, is_calling}
 use Rattle.soundness.specs.JavaSafe.{JavaReaches, JavaSafe, JavaMakesProgress, JavaDrains}
 use Rattle.soundness.specs.Skipping.{Choice, ChoicesReach, SkippingIsSafe, SkippingMakesProgress, SkippingDrains}
 use Rattle.weights.specs.declared.bound.Bound.{Bound}
@@ -40,9 +40,10 @@ BoundedPoolsNeverDecline plan bounds = (choices : List Choice) (s : JavaState) (
 -- The guarantees of an accepted certificate for its plan. Every reachable state is safe. In every reachable state with an unfinished job,
 -- an event of a job or a take is possible. The plan drains: if no client acts, the number of job events and takes that can follow is
 -- bounded, and when none of them is possible, no job is unfinished. The first three fields are for submits of one event each. The `java`
--- fields are for submits in the steps of Java's `execute`. The `skipping` fields are for these steps if actors also skip submits together
--- with their gets and exchange alike jobs. The last two fields say that a pool with a bound in the certificate rejects no job, even if it
--- may: the first for submits of one event each, and the second for the steps of the `skipping` fields.
+-- fields are for submits in the steps of Java's `execute`. There Java also looks at pools whose core threads may time out, and a look is
+-- like a take, but is not counted. The `skipping` fields are for these steps if actors also skip submits together with their gets and
+-- exchange alike jobs. The last two fields say that a pool with a bound in the certificate rejects no job, even if it may: the first for
+-- submits of one event each, and the second for the steps of the `skipping` fields.
 pub record Promises (plan : Plan) (cert : Cert) : Type 0 where
   pub safe : Safe plan
   pub makes_progress : MakesProgress plan
@@ -98,19 +99,19 @@ BoundedPlansRefuseNothing = (plan : Plan) (bounds : ℕ → Option Bound) → Is
 abbrev pub AcceptedPlansAreJavaSafe : Type 0
 AcceptedPlansAreJavaSafe = (plan : Plan) (cert : Cert) → IsWellFormed plan → IsTrue (accepted plan cert) → JavaSafe plan
 
--- if a certificate accepts a well-formed plan, an event of a job or a take is possible in every state with an unfinished job that
--- is reachable in Java's steps
+-- if a certificate accepts a well-formed plan, an event of a job, a take or a look at a pool is possible in every state with an
+-- unfinished job that is reachable in Java's steps
 abbrev pub AcceptedPlansMakeJavaProgress : Type 0
 AcceptedPlansMakeJavaProgress = (plan : Plan) (cert : Cert) → IsWellFormed plan → IsTrue (accepted plan cert) → JavaMakesProgress plan
 
 -- if a certificate accepts a well-formed plan, the plan drains in Java's steps: if no client acts, the number of job events and
--- takes that can follow is bounded, and when none of them is possible, no job is unfinished
+-- takes that can follow is bounded, and when neither they nor a look at a pool is possible, no job is unfinished
 abbrev pub AcceptedPlansJavaDrain : Type 0
 AcceptedPlansJavaDrain = (plan : Plan) (cert : Cert) → IsWellFormed plan → IsTrue (accepted plan cert) → JavaDrains plan cert.ranks
 
 -- every state that is reachable in Java's steps keeps the sizes
 abbrev pub JavaRefusesNothing : Plan → Type 0
-JavaRefusesNothing plan = (events : List Event) (s : JavaState) → JavaReaches plan events s → KeepsSizes plan s.machine
+JavaRefusesNothing plan = (events : List JavaEvent) (s : JavaState) → JavaReaches plan events s → KeepsSizes plan s.machine
 
 -- if each pool of a well-formed plan has a bound or needs none, no submit is refused in any state that is reachable in Java's steps
 abbrev pub BoundedPlansJavaRefuseNothing : Type 0
@@ -119,7 +120,7 @@ BoundedPlansJavaRefuseNothing = (plan : Plan) (bounds : ℕ → Option Bound) �
 -- if each pool of a well-formed plan has a bound or needs none, and the bound of pool p is a standing vector, no call ever finds the queue
 -- of p full. So no call requests a thread above core from p
 abbrev pub StandingPoolsAreNotAsked : Type 0
-StandingPoolsAreNotAsked = (plan : Plan) (bounds : ℕ → Option Bound) (p : ℕ) (v : Vector) (events : List Event) (s : JavaState) (a : Parent) → IsWellFormed plan
+StandingPoolsAreNotAsked = (plan : Plan) (bounds : ℕ → Option Bound) (p : ℕ) (v : Vector) (events : List JavaEvent) (s : JavaState) (a : Parent) → IsWellFormed plan
     → ((q : ℕ) → q < length plan.pools → HasBound plan q (bounds q))
     → p < length plan.pools → bounds p ≡ Some (Standing v) → JavaReaches plan events s → IsFalse (is_calling s.requesting a p)
 
@@ -129,13 +130,14 @@ StandingPoolsAreNotAsked = (plan : Plan) (bounds : ℕ → Option Bound) (p : �
 abbrev pub AcceptedPlansMaySkip : Type 0
 AcceptedPlansMaySkip = (plan : Plan) (cert : Cert) → IsWellFormed plan → IsTrue (accepted plan cert) → SkippingIsSafe plan
 
--- if a certificate accepts a well-formed plan, an event of a job or a take is possible in every state with an unfinished job that
--- choices reach
+-- if a certificate accepts a well-formed plan, an event of a job, a take or a look at a pool is possible in every state with an
+-- unfinished job that choices reach
 abbrev pub AcceptedPlansMakeProgressWithSkips : Type 0
 AcceptedPlansMakeProgressWithSkips = (plan : Plan) (cert : Cert) → IsWellFormed plan → IsTrue (accepted plan cert) → SkippingMakesProgress plan
 
 -- if a certificate accepts a well-formed plan, the plan drains after choices: if no client acts, the number of job events, takes
--- and skips by jobs that can follow is bounded, and when no job event and no take is possible, no job is unfinished
+-- and skips by jobs that can follow is bounded, and when no job event, no take and no look at a pool is possible, no job is
+-- unfinished
 abbrev pub AcceptedPlansDrainWithSkips : Type 0
 AcceptedPlansDrainWithSkips = (plan : Plan) (cert : Cert) → IsWellFormed plan → IsTrue (accepted plan cert) → SkippingDrains plan cert.ranks
 

@@ -19,20 +19,22 @@ use Rattle.written_machine.specs.declared.parent.Parent.TheVariants as parent
 use Rattle.written_machine.specs.State.{Stage, State, job_at, pool_of, is_unfinished, child}
 use Rattle.written_machine.specs.Step.{point, with_stage, with_position, skipped}
 use Rattle.written_machine.specs.Reach.{start}
-use Rattle.written_machine.specs.Safe.{IsSafe, is_of_job_or_pool}
+use Rattle.written_machine.specs.Safe.{is_of_job_or_pool}
 use Rattle.soundness.specs.Drain.{todo, is_of_no_client}
-use Rattle.soundness.specs.Execute.{JavaState, Submission, is_calling, offer_fails, submission, java_step, without_calls}
-use Rattle.soundness.specs.JavaSafe.{JavaCanProgress, IsJavaQuiescent}
+use Rattle.soundness.specs.Execute.{JavaState, JavaEvent, Submission, is_calling, offer_fails, submission, java_step, without_calls}
+use Rattle.soundness.specs.JavaSafe.{IsJavaSafe, JavaCanProgress, IsJavaQuiescent}
 use Rattle.soundness.specs.Exchange.{after_exchange, can_exchange}
 
 -- a choice: `Acts` performs an event. `Skips` makes the actor of the event skip the submit at which it is. `Misses` makes the offer of the
 -- event's actor fail although a thread may be idle, which can happen at a queue of capacity 0. `Exchanges` exchanges the jobs that an actor
--- submitted at two positions
+-- submitted at two positions. In `Leaves` and `Spares` Java looks at a pool
 pub data Choice : Type 0 where
   Acts : Event → Choice
   Skips : Event → Choice
   Misses : Event → Choice
   Exchanges : Parent → ℕ → ℕ → Choice
+  Leaves : ℕ → Choice
+  Spares : ℕ → Choice
 
 -- the state after an actor skips a submit: the actor is after the submit, a get of the submit finds a new job that is done, and
 -- the pools are unchanged
@@ -67,10 +69,12 @@ exchange_jobs s a t u = if can_exchange s.machine a t u then Some (record s { ma
 
 -- the state after the choice, or None if the choice is not possible
 abbrev pub choice_step : Plan → JavaState → Choice → Option JavaState
-choice_step plan s (Acts e) = java_step plan s e
+choice_step plan s (Acts e) = java_step plan s (JavaEvent.Acts e)
 choice_step plan s (Skips e) = skip_submit plan s (submission plan s.machine e)
 choice_step plan s (Misses e) = miss_thread plan s (submission plan s.machine e)
 choice_step plan s (Exchanges a t u) = exchange_jobs s a t u
+choice_step plan s (Leaves p) = java_step plan s (JavaEvent.Leaves p)
+choice_step plan s (Spares p) = java_step plan s (JavaEvent.Spares p)
 
 -- the state after all choices in order, or None if one of them is not possible
 abbrev pub choices_replay : Plan → Option JavaState → List Choice → Option JavaState
@@ -83,20 +87,23 @@ ChoicesReach plan choices s = choices_replay plan (Some (without_calls (start pl
 
 -- every state that choices reach is safe
 abbrev pub SkippingIsSafe : Plan → Type 0
-SkippingIsSafe plan = (choices : List Choice) (s : JavaState) → ChoicesReach plan choices s → IsSafe plan s.machine
+SkippingIsSafe plan = (choices : List Choice) (s : JavaState) → ChoicesReach plan choices s → IsJavaSafe plan s
 
--- in every state with an unfinished job that choices reach, an event of a job or a take is possible without a skip or an exchange
+-- in every state with an unfinished job that choices reach, an event of a job, a take or a look at a pool is possible without a skip or an
+-- exchange
 abbrev pub SkippingMakesProgress : Plan → Type 0
 SkippingMakesProgress plan = (choices : List Choice) (s : JavaState) → ChoicesReach plan choices s → (j : ℕ) → IsTrue (is_unfinished (job_at s.machine j).stage) → JavaCanProgress plan s
 
 -- ---- draining
 
--- the choice is a job event, a take, or a skip or a missed offer by a job; an exchange is not counted
+-- the choice is a job event, a take, or a skip or a missed offer by a job; an exchange and a look at a pool are not counted
 abbrev pub is_of_jobs : Choice → Bool
 is_of_jobs (Acts e) = is_of_job_or_pool e
 is_of_jobs (Skips e) = is_of_job_or_pool e
 is_of_jobs (Misses e) = is_of_job_or_pool e
 is_of_jobs (Exchanges a t u) = false
+is_of_jobs (Leaves p) = false
+is_of_jobs (Spares p) = false
 
 -- the choice is neither an event of a client nor a skip or a missed offer by a client; an exchange of a client's jobs does not count as an
 -- action of the client
@@ -104,7 +111,7 @@ abbrev pub no_client_acts : Choice → Bool
 no_client_acts (Acts e) = is_of_no_client e
 no_client_acts (Skips e) = is_of_no_client e
 no_client_acts (Misses e) = is_of_no_client e
-no_client_acts (Exchanges a t u) = true
+no_client_acts _ = true
 
 -- the choices lead from the state s, which the choices `before` reach, to the state s', and no client acts in them
 pub record ChoicesLeadTo (plan : Plan) (s : JavaState) (choices : List Choice) (s' : JavaState) : Type 0 where
@@ -114,8 +121,8 @@ pub record ChoicesLeadTo (plan : Plan) (s : JavaState) (choices : List Choice) (
   pub replayed : choices_replay plan (Some s) choices ≡ Some s'
 
 -- Let no client act after a state that choices reach. Then the number of the job events, takes, skips by jobs and missed offers by jobs
--- that follow is at most three times the remaining work of that state. When no job event and no take is possible any longer, no job is
--- unfinished. In between, threads above core may end and jobs may be exchanged.
+-- that follow is at most three times the remaining work of that state. When no job event, no take and no look at a pool is possible any
+-- longer, no job is unfinished. In between, threads may end, as far as the pools allow it, and jobs may be exchanged.
 pub record SkippingDrains (plan : Plan) (ranks : Ranks) : Type 0 where
   pub bounded : (s s' : JavaState) (choices : List Choice) → ChoicesLeadTo plan s choices s' → count_by is_of_jobs choices ≤ 3 * todo plan ranks s.machine
   pub drained : (s s' : JavaState) (choices : List Choice) → ChoicesLeadTo plan s choices s' → IsJavaQuiescent plan s' → (j : ℕ) → IsFalse (is_unfinished (job_at s'.machine j).stage)

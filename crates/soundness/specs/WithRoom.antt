@@ -3,9 +3,8 @@
 use Rattle.std.specs.Prelude.{◌≡◌, ◌≤◌, ◌<◌, ◌+◌, ℕ, length, Some}
 use Rattle.job_bodies.specs.Plan.{Plan, pool_at}
 use Rattle.job_bodies.specs.WellFormed.{IsWellFormed}
-use Rattle.written_machine.specs.declared.event.Event.{Event}
 use Rattle.written_machine.specs.State.{pool_part, threads}
-use Rattle.soundness.specs.Execute.{JavaState, java_step}
+use Rattle.soundness.specs.Execute.{JavaState, JavaEvent, java_step}
 use Rattle.soundness.specs.JavaSafe.{IsJavaReached}
 
 -- an event that is possible in a reachable state in which the queue of pool p has room, the pool has at least core threads, and
@@ -16,7 +15,7 @@ pub record WithRoom (plan : Plan) (p : ℕ) : Type 0 where
   pub room : length (pool_part before.machine p).queue < (pool_at plan p).queue
   pub at_core : (pool_at plan p).core ≤ threads plan before.machine p
   pub idle : 1 ≤ (pool_part before.machine p).idle
-  pub event : Event
+  pub event : JavaEvent
   pub after : JavaState
   pub step : java_step plan before event ≡ Some after
 

@@ -5,6 +5,10 @@
 //! are done. A *standing* or *lifetime* vector bounds the queue of a pool, and its *rows* are the
 //! conditions on it. If a pool rejects a job as the plan allows, the submit does not count as
 //! refused: it is skipped together with its get.
+//!
+//! If core threads of a pool may time out, Java *looks* at the pool after each successful offer and
+//! after the end of each thread, and starts a thread if there is none. Other events can occur before
+//! that look.
 
 ghost use Rattle.soundness.specs.Headline.{
   AcceptedPlansAreSafe,
@@ -68,29 +72,26 @@ pub fn bounded_plans_refuse_nothing()
     ensures { BoundedPlansRefuseNothing }
 {}
 
-/// States that, if a certificate accepts a well-formed plan, every reachable state is safe even if
-/// submits take the separate steps of Java's `execute`. Other events may come between these steps.
+/// Proves that, if a certificate accepts a well-formed plan, every reachable state is safe even if
+/// a submit takes the separate steps of Java's `execute`, with other events between them. While Java
+/// will look at a pool, the jobs in its queue do not count as waiting, because it may still start a
+/// thread there. It looks only at pools whose core threads may time out.
 pub fn accepted_plans_are_java_safe()
     ensures { AcceptedPlansAreJavaSafe }
 {}
 
-/// States that a well-formed plan makes progress if a certificate accepts it, even if submits take
-/// the separate steps of Java's `execute`. In every reachable state with an unfinished job, an
-/// event of a job or a take from a queue is possible.
+/// Proves that a well-formed plan makes progress if a certificate accepts it, even if a submit
+/// takes the separate steps of Java's `execute`: in every reachable state with an unfinished job,
+/// an event of a job, a take from a queue or a look at a pool is possible.
 pub fn accepted_plans_make_java_progress()
     ensures { AcceptedPlansMakeJavaProgress }
 {}
 
-/// States that a well-formed plan drains if a certificate accepts it, even if submits take the
-/// separate steps of Java's `execute`. The remaining work of a job is the number of job events and
-/// takes that are left until the job and all jobs that it will submit are done. Let no client act
-/// after a reachable state. Then these facts hold:
-///
-/// - The number of job events and takes that follow is at most three times the remaining work of
-///   the jobs in that state.
-/// - When no job event and no take is possible any longer, no job is unfinished.
-///
-/// Threads above core may end in between.
+/// Proves that a well-formed plan drains if a certificate accepts it, even if a submit takes the
+/// separate steps of Java's `execute`. If no client acts after a reachable state, the number of job
+/// events and takes that follow is at most three times the remaining work of the state's jobs. When
+/// no job event, no take and no look is possible any longer, no job is unfinished. Threads may end
+/// in between, as far as their pools allow it.
 pub fn accepted_plans_java_drain()
     ensures { AcceptedPlansJavaDrain }
 {}
@@ -123,21 +124,17 @@ pub fn accepted_plans_may_skip()
 
 /// States that a well-formed plan makes progress if a certificate accepts it, even if actors skip
 /// submits and exchange their jobs of one class. In every reachable state with an unfinished job,
-/// an event of a job or a take from a queue is possible, without a further skip or exchange.
+/// an event of a job, a take from a queue or a look at a pool is possible, without a further skip or
+/// exchange.
 pub fn accepted_plans_make_progress_with_skips()
     ensures { AcceptedPlansMakeProgressWithSkips }
 {}
 
-/// States that a well-formed plan drains if a certificate accepts it, even if actors skip submits
-/// and exchange their jobs of one class. The remaining work of a job is the number of job events
-/// and takes that are left until the job and all jobs that it will submit are done. Let no client
-/// act after a reachable state. Then these facts hold:
-///
-/// - The number of job events, takes and skips by jobs that follow is at most three times the
-///   remaining work of the jobs in that state.
-/// - When no job event and no take is possible any longer, no job is unfinished.
-///
-/// In between, threads above core may end and jobs may be exchanged.
+/// Proves that a well-formed plan drains if a certificate accepts it, even if actors skip submits
+/// and exchange their jobs of one class. If no client acts after a reachable state, the number of
+/// job events, takes and skips by jobs that follow is at most three times the remaining work of the
+/// state's jobs. When no job event, no take and no look is possible any longer, no job is
+/// unfinished. Threads may end, as far as their pools allow it, and jobs may be exchanged in between.
 pub fn accepted_plans_drain_with_skips()
     ensures { AcceptedPlansDrainWithSkips }
 {}

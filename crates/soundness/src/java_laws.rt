@@ -4,9 +4,10 @@
 ghost use Rattle.soundness.specs.JavaSafe.{AtomicStatesAreReached};
 ghost use Rattle.soundness.specs.WithRoom.{RefusedWithRoom, StartedWithRoom};
 
-/// States that each state that atomic submits reach is also reachable in the steps of Java's
-/// `execute`, with no call in progress. The reason is that the steps of a submit can follow each
-/// other directly.
+/// Proves that each state that atomic submits reach is also reachable in Java's steps, with no call
+/// in progress and no pool at which Java will look. The reason is that the steps of a submit can
+/// follow each other directly, and so can the end of a thread and Java's look at its pool. If core
+/// threads of a pool may time out, the plan must be well-formed.
 pub fn atomic_states_are_reached()
     ensures { AtomicStatesAreReached }
 {}

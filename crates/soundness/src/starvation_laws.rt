@@ -7,13 +7,10 @@
 ghost use Rattle.soundness.specs.CountedGets.{FewerThanCoreMayBlock, NoLooseWaitingSets};
 ghost use Rattle.soundness.specs.Drain.{FullIsWhole, FullIsOfThePlan};
 
-/// States that only few jobs of a pool can be blocked, if the rows (the conditions) of the ranks
-/// and of the pool's blocked vector hold. In every reachable state, the number of jobs that can be
-/// blocked is at most the vector's total and less than the pool's core size.
-///
-/// A job can be blocked if it runs, and its current action or a later action is a counted get. The
-/// ranks determine which gets are counted. A get that is not counted waits for a job that always
-/// makes progress.
+/// Proves a limit on the jobs of a pool that can be blocked, if the rows of the ranks and of the
+/// pool's blocked vector hold. In every reachable state, the number of these jobs is at most the
+/// vector's total, and less than the pool's core size, or than 1 if core threads may time out. A job
+/// can be blocked if it runs, and its current action or a later action is a counted get.
 pub fn fewer_than_core_may_block()
     ensures { FewerThanCoreMayBlock }
 {}

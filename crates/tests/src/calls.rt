@@ -12,5 +12,6 @@ mod limits;
 mod note_lines;
 mod pools;
 mod stairs;
+mod starved_pools;
 mod witnesses;
 mod words_and_files;

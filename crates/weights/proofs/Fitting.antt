@@ -9,10 +9,10 @@ use Rattle.job_bodies.specs.Plan.{Plan, no_class, no_client, class_at, client_at
 use Rattle.job_bodies.specs.WellFormed.{IsWellFormed}
 use Rattle.job_bodies.specs.declared.action.Action.{Action}
 use Rattle.job_bodies.specs.declared.action.Action.TheVariants.{Work, Submit, Get}
-use Rattle.job_bodies.specs.declared.limits.TheConstants.{MAX_SIZE, MAX_WEIGHT}
+use Rattle.job_bodies.specs.declared.limits.TheConstants.{MAX_SIZE, MAX_THREADS, MAX_WEIGHT}
 use Rattle.job_bodies.specs.Plan.{Pool, no_pool, pool_at, Class, Client, submits, class_of_submit, submitted_class}
 use Rattle.job_bodies.specs.ValidBody.{IsValidBody}
-use Rattle.job_bodies.proofs.Bodies.{list_all_enumerated, ordered}
+use Rattle.job_bodies.proofs.Bodies.{list_all_enumerated, ordered, below_most_threads}
 use Rattle.weights.specs.Body.{IsWeighed}
 use Rattle.weights.specs.Vector.{Vector, workers_weight, class_weights, client_weights, job_weight, queued_weight, done_weight, is_small, vector_fits}
 
@@ -150,10 +150,10 @@ got_known plan body i t valid here = of_submit (slice_get body t) refl (valid.of
     of_submit (Some (Get u)) e s = absurd cc
 
 -- the maximum of a pool is within the limit
-pub max_at : (plan : Plan) (p : ℕ) (pool : Pool) → IsWellFormed plan → slice_get plan.pools p ≡ Some pool → pool.max ≤ MAX_SIZE
+pub max_at : (plan : Plan) (p : ℕ) (pool : Pool) → IsWellFormed plan → slice_get plan.pools p ≡ Some pool → pool.max ≤ MAX_THREADS
 max_at plan p pool well here =
     let same : pool_at plan p ≡ pool = get_or_from_slice_get plan.pools p pool no_pool here in
-    subst (λ (x : Pool). x.max ≤ MAX_SIZE) same ((ordered plan well).most_max p (slice_get_within plan.pools p pool here))
+    subst (λ (x : Pool). x.max ≤ MAX_THREADS) same (below_most_threads plan p (ordered plan well) (slice_get_within plan.pools p pool here))
 
 -- the number of clients of a kind is within the limit
 pub count_at : (plan : Plan) (c : ℕ) (client : Client) → IsWellFormed plan → slice_get plan.clients c ≡ Some client → client.count ≤ MAX_SIZE

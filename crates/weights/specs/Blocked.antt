@@ -1,9 +1,9 @@
--- The conditions of the blocked vector of pool p: fewer jobs of p than core wait at counted gets.
+-- The conditions of the blocked vector of pool p: fewer jobs of p wait at counted gets than p has threads while a job is in its queue.
 use Rattle.std.specs.Prelude.{ℕ, ◌-◌, Bool, true, false, ◌&&◌, List, [], ◌∷◌, ◌++◌, map, filter}
 use Rattle.std.specs.List.{flat_map, enumerate_from}
 use Rattle.job_bodies.specs.declared.action.Action.{Action}
 use Rattle.job_bodies.specs.declared.action.Action.TheVariants.{Get}
-use Rattle.job_bodies.specs.Plan.{Class, Plan, pool_at}
+use Rattle.job_bodies.specs.Plan.{Class, Plan, pool_at, least_threads}
 use Rattle.weights.specs.declared.row.Rule.TheVariants.{B1, B2}
 use Rattle.weights.specs.declared.row.Place.TheVariants as place
 use Rattle.weights.specs.declared.row.Row.{Row}
@@ -27,4 +27,4 @@ abbrev pub blocked_rows : Plan → ℕ → (ℕ → ℕ → Bool) → Vector →
 blocked_rows plan p counted v =
     rows DoneWeight plan v
     ++ flat_map (λ entry. counted_rows counted v entry.0 entry.1) (classes_of plan p)
-    ++ row B2 place.Total (total plan v) ((pool_at plan p).core - 1) ∷ []
+    ++ row B2 place.Total (total plan v) (least_threads (pool_at plan p) - 1) ∷ []

@@ -11,9 +11,10 @@ use Rattle.weights.specs.Vector.{Vector, workers_weight, class_weights, total}
 use Rattle.weights.specs.GetReturn.{NoWeight}
 use Rattle.weights.specs.Rows.{rows, classes_of}
 
--- the number of jobs that the pool accepts before it can refuse one: its queue plus its maximum, minus its prestarted threads
+-- the number of jobs that the pool accepts before it can refuse one: its queue plus its maximum, minus its prestarted threads; only its
+-- queue if core threads may time out, because Java then starts threads without a job
 abbrev pub lifetime_limit : Pool → ℕ
-lifetime_limit pool = pool.queue + pool.max - first_workers pool
+lifetime_limit pool = if pool.core_timeout then pool.queue else pool.queue + pool.max - first_workers pool
 
 -- L2 of each class of pool p, and then L3; none if the queue of p is unbounded
 abbrev pub room_rows : Plan → ℕ → Vector → List Row

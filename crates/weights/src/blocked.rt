@@ -133,7 +133,12 @@ pub fn visit_blocked_rows<C: Counted, V: RowVisitor>(
     vector.visit_rows(plan, GetReturn::DoneWeight, visitor);
     visit_all_counted_rows(plan, pool, counted, vector, visitor);
     let pool = &plan.pools()[pool];
-    visitor.visit(Row::new(Rule::B2, Place::Total, vector.total(plan), pool.core - 1));
+    visitor.visit(Row::new(
+        Rule::B2,
+        Place::Total,
+        vector.total(plan),
+        pool.least_threads() - 1,
+    ));
 }
 
 /// Returns the first condition of the pool's blocked vector that fails, in the order of

@@ -15,13 +15,18 @@ ghost use Rattle.weights.specs.Visits.{Visits};
 use crate::{FirstFault, GetReturn, Place, Row, RowVisitor, Rule, StandingFault, Vector};
 use job_bodies::{Class, Plan, Pool};
 
-/// Returns the number of jobs that a pool accepts before it can refuse a job. This is the capacity
-/// of the queue plus the maximum, minus the number of prestarted threads.
+/// Returns the number of jobs that a pool accepts before it can refuse one. This is the capacity of
+/// its queue plus its maximum, minus its prestarted threads. If core threads may time out, it is
+/// only the capacity of the queue.
 pub(crate) fn lifetime_limit(pool: &Pool) -> u64
     requires { IsTrue (has_valid_sizes pool.now) }
     ensures { result ≡ lifetime.lifetime_limit pool.now }
 {
-    pool.queue + pool.max - pool.first_workers()
+    if pool.core_timeout {
+        pool.queue
+    } else {
+        pool.queue + pool.max - pool.first_workers()
+    }
 }
 
 /// Passes condition L1 for each pool to the visitor.

@@ -42,15 +42,17 @@ pub enum Rule {
     /// at every point. The points are: when it is queued, each position of its body, and when it is
     /// done.
     L2,
-    /// If the queue of a pool is bounded, the total of the pool's lifetime vector has this limit:
-    /// the capacity of the queue plus the maximum, minus the number of prestarted threads.
+    /// The total of the lifetime vector of a pool is at most the capacity of the pool's queue plus
+    /// its maximum, minus its prestarted threads. If core threads may time out, it is at most the
+    /// capacity of the queue.
     L3,
     /// In a lifetime vector, a get does not increase the weight of the actor that performs it. In
     /// such a vector, this rule replaces V5.
     L5,
     /// In the blocked vector of a pool, a job of the pool weighs at least 1 at each counted get.
     B1,
-    /// The total of the blocked vector of a pool is less than the core size of the pool.
+    /// The total of the blocked vector of a pool is less than the core size of the pool. If core
+    /// threads may time out, it is 0.
     B2,
 }
 

@@ -3,7 +3,7 @@
 
 ghost use Rattle.std.specs.Prelude.{◌≡◌, ◌≤◌, ◌*◌, sum_by, IsTrue};
 ghost use Rattle.std.specs.List.{enumerate_from};
-ghost use Rattle.job_bodies.specs.declared.limits.TheConstants.{MAX_SIZE, MAX_POOLS, MAX_CLIENT_KINDS, MAX_WEIGHT};
+ghost use Rattle.job_bodies.specs.declared.limits.TheConstants.{MAX_SIZE, MAX_THREADS, MAX_POOLS, MAX_CLIENT_KINDS, MAX_WEIGHT};
 ghost use Rattle.weights.specs.Vector as spec;
 
 use crate::Vector;
@@ -30,7 +30,7 @@ fn workers_total(plan: &Plan, vector: &Vector) -> u64
     ensures value { result
         ≡ sum_by (λ entry. spec.workers_weight vector.now entry.0 * entry.1.max)
         (enumerate_from 0 plan.now.pools) }
-    ensures few { result ≤ MAX_POOLS * (MAX_WEIGHT * MAX_SIZE) }
+    ensures few { result ≤ MAX_POOLS * (MAX_WEIGHT * MAX_THREADS) }
 {
     let mut total = 0;
     for (number, pool) in plan.pools().iter().enumerate() {

@@ -1,6 +1,6 @@
 -- Proofs that full waiting sets are permanent: no event moves a member, gives its pool an idle worker or starts another job in its pool.
-use Rattle.std.proofs.Common.{◌≡◌, ◌≢◌, ℕ, suc, ◌+◌, ◌<◌, ◌⊎◌, true, false, eqb, List, [], ◌∷◌, ◌++◌, length, slice_get, Option, Some, None, refl, sym, ap, subst, ◌∙◌, arith}
-use Rattle.std.proofs.lemmas.Bool.{and_parts, eqb-true, ne_eqb, and_from, eq-eqb}
+use Rattle.std.proofs.Common.{◌≡◌, ◌≢◌, ℕ, suc, ◌+◌, ◌<◌, inl, inr, true, false, eqb, List, [], ◌∷◌, ◌++◌, length, slice_get, Option, Some, None, refl, sym, ap, subst, ◌∙◌, arith}
+use Rattle.std.proofs.lemmas.Bool.{false≢true, and_parts, eqb-true, ne_eqb, and_from, eq-eqb}
 use Rattle.std.proofs.lemmas.Option.{same_Some}
 use Rattle.job_bodies.specs.declared.action.Action.{Action}
 use Rattle.job_bodies.specs.declared.action.Action.TheVariants as action
@@ -13,8 +13,8 @@ use Rattle.written_machine.specs.declared.event.Outcome.{Outcome}
 use Rattle.written_machine.specs.State.{Stage, State, CreatedJob, job_at, pool_part, pool_of, is_at, is_queued, is_queued_in, is_busy_in, threads, child}
 use Rattle.written_machine.specs.Step.{with_stage, with_position, with_job, new_job, finished_job}
 use Rattle.written_machine.specs.Waiting.{IsMember, WaitsAtGet, WaitsAtStage, IsWaitingSet}
-use Rattle.written_machine.specs.FullWaitingSets.{WhereMembersQueue, IsFull, IsFixed, IsFullWaitingSet, StaysFull}
-use Rattle.written_machine.proofs.Events.{IsAtAction, with_part, Happens, works, starts, queues, is_refused, is_rejected, gets, finishes, loops, takes, retires}
+use Rattle.written_machine.specs.FullWaitingSets.{WhereMembersQueue, HasMaxThreads, IsFull, IsFixed, IsFullWaitingSet, StaysFull}
+use Rattle.written_machine.proofs.Events.{IsAtAction, MayStart, with_part, Happens, works, starts, queues, is_refused, is_rejected, gets, finishes, loops, takes, retires}
 use Rattle.written_machine.proofs.Positions.{stage_of_standing, standing_made, job_made}
 use Rattle.written_machine.proofs.StateInvariant.{StateInvariant}
 use Rattle.written_machine.proofs.Stages.{length-moved}
@@ -23,6 +23,7 @@ use Rattle.written_machine.proofs.Queues.{queued_stage, head_of_queue, pool_of_m
 use Rattle.written_machine.proofs.Busy.{busy_in-as, busy_in_other, busy_in_own}
 use Rattle.written_machine.proofs.InvariantSubmits.{class_exists, room_for_thread}
 use Rattle.written_machine.proofs.InvariantStep.{done_still, kept_step}
+use Rattle.written_machine.proofs.EnoughThreads.{HaveThreads}
 use Rattle.written_machine.proofs.Preserves.{SamePool, Preserves, IsOutside, leaves_twice, leaves-clients, leaves-staged, leaves-moved, leaves-pushed, leaves-part, idle_elsewhere, idle_as_before}
 
 -- a queued job is queued in the pool of its class
@@ -76,7 +77,7 @@ module _ (plan : Plan) (s : State) (members : List ℕ) (waiting : IsWaitingSet 
 abbrev QueuesMember : Plan → State → List ℕ → ℕ → Type 0
 QueuesMember plan s members p = (j : ℕ) × IsMember members j × (is_queued_in plan p (job_at s j) ≡ true)
 
--- pool p has its maximum of threads, none of its workers is idle, and all jobs that run in it are members
+-- pool p is full, none of its workers is idle, and all jobs that run in it are members
 record IsFullOfMembers (plan : Plan) (s : State) (members : List ℕ) (p : ℕ) : Type 0 where
   full : IsFull plan s p
   none_idle : (pool_part s p).idle ≡ 0
@@ -86,13 +87,30 @@ record IsFullOfMembers (plan : Plan) (s : State) (members : List ℕ) (p : ℕ) 
 abbrev PreservesSet : Plan → List ℕ → State → State → Type 0
 PreservesSet plan members s s' = Preserves plan members (QueuesMember plan s members) s s'
 
+-- no thread starts in a full pool
+full_starts_none : (plan : Plan) (s : State) (q : ℕ) → HasValidBodies plan → q < length plan.pools → MayStart plan s q → ¬ IsFull plan s q
+full_starts_none plan s q ordered inside below (inl full) =
+    let room = room_for_thread plan s q ordered inside below in
+    omega arith
+full_starts_none plan s q ordered inside (inl below) (inr at_core) = false≢true (sym below.1 ∙ at_core.0)
+full_starts_none plan s q ordered inside (inr below) (inr at_core) =
+    let enough = at_core.1 in
+    omega arith
+
+-- a full pool is still full if it has as many threads as before
+still_full : (plan : Plan) (s s' : State) (p : ℕ) → threads plan s' p ≡ threads plan s p → IsFull plan s p → IsFull plan s' p
+still_full plan s s' p as_many (inl full) = inl (as_many ∙ full)
+still_full plan s s' p as_many (inr at_core) =
+    let enough = at_core.1 in
+    inr (at_core.0, omega arith)
+
 -- ---- every event preserves the full waiting set
 
 module _ (plan : Plan) (s : State) (members : List ℕ) (ordered : HasValidBodies plan) (kept : StateInvariant plan s) (set : IsFullWaitingSet plan s members) where
   abbrev among : ℕ → Type 0
   among = QueuesMember plan s members
 
-  -- a pool with a queued member has its maximum of threads, no idle worker, and only members that run in it
+  -- a pool with a queued member is full, and has no idle worker, and only members that run in it
   closed : (p : ℕ) → among p → IsFullOfMembers plan s members p
   closed p queuing =
       let job = job_at s queuing.0 in
@@ -108,11 +126,8 @@ module _ (plan : Plan) (s : State) (members : List ℕ) (ordered : HasValidBodie
       omega arith
 
   -- a pool that can start another thread has no queued member
-  started_elsewhere : (q p : ℕ) → q < length plan.pools → (threads plan s q < (pool_at plan q).max) ⊎ (threads plan s q < (pool_at plan q).core) → among p → q ≢ p
-  started_elsewhere q p inside below queuing same =
-      let room = room_for_thread plan s q ordered inside below in
-      let full = subst (IsFull plan s) (sym same) (closed p queuing).full in
-      omega arith
+  started_elsewhere : (q p : ℕ) → q < length plan.pools → MayStart plan s q → among p → q ≢ p
+  started_elsewhere q p inside below queuing same = full_starts_none plan s q ordered inside below (subst (IsFull plan s) (sym same) (closed p queuing).full)
 
   -- an actor that moves by an action other than a get preserves the full waiting set
   leaves_acts : (a : Parent) (body : List Action) (i i' : ℕ) (there : Option Action) → IsAtAction plan s a body i there → ((t : ℕ) → there ≢ Some (action.Get t)) → PreservesSet plan members s (with_position a i' s)
@@ -172,7 +187,7 @@ module _ (plan : Plan) (s : State) (members : List ℕ) (ordered : HasValidBodie
   leaves s' o (works a body i u at) = leaves_acts a body i (i + 1) (Some (action.Work u)) at (λ t same. cc)
   leaves s' o (starts a body i k at below) =
       leaves_submit a body i k (Stage.At 0) at (λ p is_among. ne_eqb (pool_of plan k) p (started_elsewhere (pool_of plan k) p (ordered.pools k (class_exists plan s a body i k ordered at)) below is_among))
-  leaves s' o (queues a body i k at at_core room) =
+  leaves s' o (queues a body i k at room) =
       let q = pool_of plan k in
       let made : State = with_job (new_job k a i Stage.Queued) (with_position a (i + 1) s) in
       let queue = (pool_part s q).queue ++ length s.jobs ∷ [] in
@@ -184,7 +199,7 @@ module _ (plan : Plan) (s : State) (members : List ℕ) (ordered : HasValidBodie
   leaves s' o (finishes j body i at) = leaves_finishes j body i at
   leaves s' o (loops c client body i at is_client repeats) = leaves_acts (parent.Client c) body i 0 None at (λ t same. cc)
   leaves s' o (takes p j queue idle is_queue is_idle) = leaves_takes p j queue idle is_queue is_idle
-  leaves s' o (retires p idle is_idle above_core not_handed) =
+  leaves s' o (retires p idle is_idle not_handed) =
       leaves-part plan members among s p (pool_part s p).queue idle (λ q is_among. idle_elsewhere s p (pool_part s p).queue idle q (idle_not_among q p idle is_idle is_among))
 
 -- ---- the set is permanent
@@ -221,8 +236,7 @@ module _ (plan : Plan) (s s' : State) (members : List ℕ) (left : PreservesSet 
     full = λ p j member queued.
         let was_queued : is_queued_in plan p (job_at s j) ≡ true = ap (is_queued_in plan p) (sym (left.jobs j member)) ∙ queued in
         let same : SamePool plan s s' p = left.pools p (j, member, was_queued) in
-        let full = set.full p j member was_queued in
-        omega (arith, same.idle, same.busy_as_many);
+        still_full plan s s' p (omega (arith, same.idle, same.busy_as_many)) (set.full p j member was_queued);
   }
 
 -- the induction hypothesis for a list of events: the state satisfies the invariant, and the set is still a full waiting set
@@ -237,22 +251,34 @@ stays_through plan members first s s' o ordered stayed happened =
     let left = leaves plan s members ordered stayed.is_kept set s' o happened in
     record {
       is_kept = kept_step plan s s' o ordered stayed.is_kept happened;
-      has_stayed = record { still = still_set plan s s' members left set; unmoved = λ j member. left.jobs j member ∙ stayed.has_stayed.unmoved j member };
+      has_stayed = record {
+        still = still_set plan s s' members left set;
+        unmoved = λ j member. left.jobs j member ∙ stayed.has_stayed.unmoved j member;
+        as_many_threads = λ p j member queued.
+            let still_queued : is_queued_in plan p (job_at s j) ≡ true = ap (is_queued_in plan p) (stayed.has_stayed.unmoved j member) ∙ queued in
+            let same : SamePool plan s s' p = left.pools p (j, member, still_queued) in
+            omega (arith, same.idle, same.busy_as_many, stayed.has_stayed.as_many_threads p j member queued);
+      };
     }
 
 -- ---- pools in which core equals the maximum
 
--- a pool in which core equals the maximum has its maximum of threads if a job is queued in it, because it has at least core threads then
-pub fixed_are_full : (plan : Plan) (s : State) (members : List ℕ) → HasValidBodies plan → StateInvariant plan s → IsWaitingSet plan s members → WhereMembersQueue plan s members (IsFixed plan) → IsFullWaitingSet plan s members
-fixed_are_full plan s members ordered kept waiting fixed = record {
-  waits = waiting;
-  full = λ p j member queued.
-      let q = pool_of plan (job_at s j).class in
-      let parts = and_parts (is_queued (job_at s j).stage) (eqb q p) queued in
-      let of_pool : q ≡ p = eqb-true q p parts.1 in
-      let pool = kept.pools q (pool_of_made plan s j ordered kept (member_made plan s members waiting j member)) in
-      let at_core = pool.core (queued_in_queue plan s j ordered kept (queued_stage (job_at s j).stage parts.0)) in
-      let fixed_size = subst (IsFixed plan) (sym of_pool) (fixed p j member queued) in
-      let full : threads plan s q ≡ (pool_at plan q).max = omega (arith, pool.within_max) in
-      subst (IsFull plan s) of_pool full;
-}
+-- a fixed pool has its maximum of threads if a job is queued in it, because it has enough threads then
+fixed_have_max : (plan : Plan) (s : State) (members : List ℕ) → HasValidBodies plan → StateInvariant plan s → HaveThreads plan s → IsWaitingSet plan s members → WhereMembersQueue plan s members (IsFixed plan) → WhereMembersQueue plan s members (HasMaxThreads plan s)
+fixed_have_max plan s members ordered kept have waiting fixed p j member queued =
+    let q = pool_of plan (job_at s j).class in
+    let parts = and_parts (is_queued (job_at s j).stage) (eqb q p) queued in
+    let of_pool : q ≡ p = eqb-true q p parts.1 in
+    let inside = pool_of_made plan s j ordered kept (member_made plan s members waiting j member) in
+    let pool = kept.pools q inside in
+    let enough = have q inside (queued_in_queue plan s j ordered kept (queued_stage (job_at s j).stage parts.0)) in
+    let fixed_size = subst (IsFixed plan) (sym of_pool) (fixed p j member queued) in
+    let full : threads plan s q ≡ (pool_at plan q).max = omega (arith, pool.within_max) in
+    subst (HasMaxThreads plan s) of_pool full
+
+-- a waiting set is full if each pool with a queued member is fixed
+pub fixed_are_full : (plan : Plan) (s : State) (members : List ℕ) → HasValidBodies plan → StateInvariant plan s → HaveThreads plan s → IsWaitingSet plan s members → WhereMembersQueue plan s members (IsFixed plan)
+    → IsFullWaitingSet plan s members × WhereMembersQueue plan s members (HasMaxThreads plan s)
+fixed_are_full plan s members ordered kept have waiting fixed =
+    let full = fixed_have_max plan s members ordered kept have waiting fixed in
+    (record { waits = waiting; full = λ p j member queued. inl (full p j member queued) }, full)

@@ -45,7 +45,7 @@ few_first_workers core true = omega arith
 few_first_workers core false = omega arith
 
 start_pool : (pool : Pool) → pool.core ≤ pool.max → PoolInvariant pool (part_of (new_pool pool)) [] 0
-start_pool pool sizes = record { queue = refl; within_max = omega (arith, few_first_workers pool.core pool.prestart); within_queue = omega arith; core = λ some. absurd (omega arith) }
+start_pool pool sizes = record { queue = refl; within_max = omega (arith, few_first_workers pool.core pool.prestart); within_queue = omega arith }
 
 pub kept_start : (plan : Plan) → HasValidBodies plan → StateInvariant plan (start plan)
 kept_start plan ordered = record {

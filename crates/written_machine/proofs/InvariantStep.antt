@@ -9,7 +9,7 @@ use Rattle.written_machine.specs.declared.parent.Parent.{Parent}
 use Rattle.written_machine.specs.declared.parent.Parent.TheVariants as parent
 use Rattle.written_machine.specs.declared.event.Event.{Event}
 use Rattle.written_machine.specs.declared.event.Outcome.{Outcome}
-use Rattle.written_machine.specs.State.{Stage, State, CreatedJob, job_at, pool_part, pool_of, is_at, is_queued, threads, child}
+use Rattle.written_machine.specs.State.{Stage, State, CreatedJob, job_at, pool_part, pool_of, is_at, is_queued, child}
 use Rattle.written_machine.specs.Step.{with_stage, with_position, moved_jobs, finished_job}
 use Rattle.written_machine.proofs.Events.{IsAtAction, with_part, Happens, works, starts, queues, is_refused, is_rejected, gets, finishes, loops, takes, retires}
 use Rattle.written_machine.proofs.Positions.{At≢Claimed, stage_of_standing, standing_made, job_at-with_position, valid_point}
@@ -128,12 +128,12 @@ kept_takes plan s p j queue idle kept is_queue is_idle =
       ];
     }
 
-kept_retires : (plan : Plan) (s : State) (p idle : ℕ) → StateInvariant plan s → (pool_part s p).idle ≡ suc idle → (pool_at plan p).core < threads plan s p → ((pool_at plan p).unbounded ≡ false → (pool_at plan p).queue ≡ 0 → length (pool_part s p).queue ≤ idle) → StateInvariant plan (with_part p (pool_part s p).queue idle s)
-kept_retires plan s p idle kept is_idle above_core not_handed = record {
+kept_retires : (plan : Plan) (s : State) (p idle : ℕ) → StateInvariant plan s → (pool_part s p).idle ≡ suc idle → ((pool_at plan p).unbounded ≡ false → (pool_at plan p).queue ≡ 0 → length (pool_part s p).queue ≤ idle) → StateInvariant plan (with_part p (pool_part s p).queue idle s)
+kept_retires plan s p idle kept is_idle not_handed = record {
   classes = kept.classes;
   parents = kept.parents;
   as_many = length-set s.pools p (record { queue = (pool_part s p).queue; idle = idle }) ∙ kept.as_many;
-  pools = pools_with_part plan s p (pool_part s p).queue idle (HasPoolInvariant plan s.jobs) kept.as_many (λ exists. retired_pool (pool_at plan p) (pool_part s p) (places plan s.jobs p) (busy_jobs plan s.jobs p) idle (kept.pools p exists) is_idle above_core not_handed) (λ q inside other. kept.pools q inside);
+  pools = pools_with_part plan s p (pool_part s p).queue idle (HasPoolInvariant plan s.jobs) kept.as_many (λ exists. retired_pool (pool_at plan p) (pool_part s p) (places plan s.jobs p) (busy_jobs plan s.jobs p) idle (kept.pools p exists) is_idle not_handed) (λ q inside other. kept.pools q inside);
   actors = λ a body i now. kept.actors a body i (sym (point_same plan s (with_part p (pool_part s p).queue idle s) a refl refl) ∙ now);
 }
 
@@ -142,11 +142,11 @@ kept_retires plan s p idle kept is_idle above_core not_handed = record {
 pub kept_step : (plan : Plan) (s s' : State) (o : Outcome) {e : Event} → HasValidBodies plan → StateInvariant plan s → Happens plan s e s' o → StateInvariant plan s'
 kept_step plan s s' o ordered kept (works a body i u at) = kept_works plan s a body i u ordered kept at
 kept_step plan s s' o ordered kept (starts a body i k at below) = kept_starts plan s a body i k ordered kept at below
-kept_step plan s s' o ordered kept (queues a body i k at at_core room) = kept_queues plan s a body i k ordered kept at at_core room
+kept_step plan s s' o ordered kept (queues a body i k at room) = kept_queues plan s a body i k ordered kept at room
 kept_step plan s s' o ordered kept (is_refused a body i k at must no_room all_started) = kept_refuses plan s kept
 kept_step plan s s' o ordered kept (is_rejected a body i k at may) = kept_skips plan s a body i k ordered kept at
 kept_step plan s s' o ordered kept (gets a body i t j at is_child done) = kept_gets plan s a body i t j ordered kept at is_child done
 kept_step plan s s' o ordered kept (finishes j body i at) = kept_finishes plan s j body i kept at
 kept_step plan s s' o ordered kept (loops c client body i at is_client repeats) = kept_moved plan s (parent.Client c) body i 0 kept at.stands (actor_begins s.jobs (parent.Client c) body)
 kept_step plan s s' o ordered kept (takes p j queue idle is_queue is_idle) = kept_takes plan s p j queue idle kept is_queue is_idle
-kept_step plan s s' o ordered kept (retires p idle is_idle above_core not_handed) = kept_retires plan s p idle kept is_idle above_core not_handed
+kept_step plan s s' o ordered kept (retires p idle is_idle not_handed) = kept_retires plan s p idle kept is_idle not_handed

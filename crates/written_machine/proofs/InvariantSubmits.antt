@@ -1,5 +1,5 @@
 -- Proofs that moves and submits preserve the invariant.
-use Rattle.std.proofs.Common.{◌≡◌, ◌≢◌, ℕ, ◌+◌, ◌<◌, ◌≤◌, ◌⊎◌, Bool, true, cond, eqb, inl, inr, List, [], ◌∷◌, ◌++◌, length, Some, refl, sym, ap, ap₂, subst, ◌∙◌, arith}
+use Rattle.std.proofs.Common.{◌≡◌, ◌≢◌, ℕ, ◌+◌, ◌<◌, Bool, true, cond, eqb, inl, inr, List, [], ◌∷◌, ◌++◌, length, Some, refl, sym, ap, ap₂, subst, ◌∙◌, arith}
 use Rattle.std.proofs.lemmas.Bool.{eqb-true, eq-eqb, ne_eqb}
 use Rattle.std.proofs.lemmas.List.{length-set}
 use Rattle.support.specs.Places.{cons_if}
@@ -12,7 +12,7 @@ use Rattle.pool_machine.specs.PoolState.{room_limit}
 use Rattle.written_machine.specs.declared.parent.Parent.{Parent}
 use Rattle.written_machine.specs.State.{Stage, State, PoolPart, pool_part, pool_of, threads}
 use Rattle.written_machine.specs.Step.{with_position, with_job, new_job, skipped, moved_jobs}
-use Rattle.written_machine.proofs.Events.{IsAtAction, with_part, queued_state}
+use Rattle.written_machine.proofs.Events.{IsAtAction, MayStart, with_part, queued_state}
 use Rattle.written_machine.proofs.Positions.{At≢Claimed, valid_point}
 use Rattle.written_machine.proofs.StateInvariant.{ActorInvariant, StateInvariant, places, busy_jobs}
 use Rattle.written_machine.proofs.Stages.{length-moved, classes_moved, classes_pushed, parents_moved, parents_pushed}
@@ -54,12 +54,12 @@ class_exists plan s a body i k ordered at =
     let valid : IsValidBody plan body = valid_point plan s a body i ordered at.stands in
     valid.submit i k at.is_there
 
-pub room_for_thread : (plan : Plan) (s : State) (q : ℕ) → HasValidBodies plan → q < length plan.pools → (threads plan s q < (pool_at plan q).max) ⊎ (threads plan s q < (pool_at plan q).core) → threads plan s q < (pool_at plan q).max
-room_for_thread plan s q ordered inside (inl below) = below
+pub room_for_thread : (plan : Plan) (s : State) (q : ℕ) → HasValidBodies plan → q < length plan.pools → MayStart plan s q → threads plan s q < (pool_at plan q).max
+room_for_thread plan s q ordered inside (inl below) = below.0
 room_for_thread plan s q ordered inside (inr below) = let sizes = ordered.max q inside in omega arith
 
 started_pools : (plan : Plan) (s : State) (a : Parent) (body : List Action) (i k : ℕ) → HasValidBodies plan → StateInvariant plan s → IsAtAction plan s a body i (Some (action.Submit k))
-    → (threads plan s (pool_of plan k) < (pool_at plan (pool_of plan k)).max) ⊎ (threads plan s (pool_of plan k) < (pool_at plan (pool_of plan k)).core)
+    → MayStart plan s (pool_of plan k)
     → (p : ℕ) → p < length plan.pools → HasPoolInvariant plan (moved_jobs a (i + 1) s ++ new_job k a i (Stage.At 0) ∷ []) p (pool_part s p)
 started_pools plan s a body i k ordered kept at below p inside =
     let jobs = moved_jobs a (i + 1) s in
@@ -77,7 +77,7 @@ queued_nowhere : (n : ℕ) → Stage.Queued ≡ Stage.At n → n ≡ 0
 queued_nowhere n e = absurd cc
 
 pub kept_starts : (plan : Plan) (s : State) (a : Parent) (body : List Action) (i k : ℕ) → HasValidBodies plan → StateInvariant plan s → IsAtAction plan s a body i (Some (action.Submit k))
-    → (threads plan s (pool_of plan k) < (pool_at plan (pool_of plan k)).max) ⊎ (threads plan s (pool_of plan k) < (pool_at plan (pool_of plan k)).core)
+    → MayStart plan s (pool_of plan k)
     → StateInvariant plan (with_job (new_job k a i (Stage.At 0)) (with_position a (i + 1) s))
 kept_starts plan s a body i k ordered kept at below = record {
   classes = classes_pushed (length plan.classes) (moved_jobs a (i + 1) s) (new_job k a i (Stage.At 0)) (classes_moved (length plan.classes) s a (i + 1) kept.classes) (class_exists plan s a body i k ordered at);
@@ -89,9 +89,9 @@ kept_starts plan s a body i k ordered kept at below = record {
 
 -- the pool to whose queue the new job was appended satisfies the invariant
 queued_here : (plan : Plan) (s : State) (a : Parent) (body : List Action) (i k : ℕ) → StateInvariant plan s → IsAtAction plan s a body i (Some (action.Submit k)) → pool_of plan k < length plan.pools
-    → (pool_at plan (pool_of plan k)).core ≤ threads plan s (pool_of plan k) → length (pool_part s (pool_of plan k)).queue < room_limit (pool_at plan (pool_of plan k)).unbounded (pool_at plan (pool_of plan k)).queue (pool_part s (pool_of plan k)).idle (length (pool_part s (pool_of plan k)).queue)
+    → length (pool_part s (pool_of plan k)).queue < room_limit (pool_at plan (pool_of plan k)).unbounded (pool_at plan (pool_of plan k)).queue (pool_part s (pool_of plan k)).idle (length (pool_part s (pool_of plan k)).queue)
     → HasPoolInvariant plan (moved_jobs a (i + 1) s ++ new_job k a i Stage.Queued ∷ []) (pool_of plan k) (record { queue = (pool_part s (pool_of plan k)).queue ++ length s.jobs ∷ []; idle = (pool_part s (pool_of plan k)).idle })
-queued_here plan s a body i k kept at exists at_core room =
+queued_here plan s a body i k kept at exists room =
     let q = pool_of plan k in
     let jobs = moved_jobs a (i + 1) s in
     let job = new_job k a i Stage.Queued in
@@ -102,7 +102,7 @@ queued_here plan s a body i k kept at exists at_core room =
     (places_push plan jobs job q ∙ ap (λ (b : Bool). places plan jobs q ++ cons_if b (length jobs) []) (eq-eqb q q refl)
     ∙ ap₂ (λ (ns : List ℕ) (n : ℕ). ns ++ n ∷ []) (places-moved plan s a body i (i + 1) q at.stands) (length-moved s a (i + 1)))
     (omega arith)
-    (queued_pool (pool_at plan q) (pool_part s q) (places plan s.jobs q) (busy_jobs plan s.jobs q) (length s.jobs) (kept.pools q exists) at_core room)
+    (queued_pool (pool_at plan q) (pool_part s q) (places plan s.jobs q) (busy_jobs plan s.jobs q) (length s.jobs) (kept.pools q exists) room)
 
 queued_elsewhere : (plan : Plan) (s : State) (a : Parent) (body : List Action) (i k : ℕ) → StateInvariant plan s → IsAtAction plan s a body i (Some (action.Submit k))
     → (p : ℕ) → p < length plan.pools → p ≢ pool_of plan k → HasPoolInvariant plan (moved_jobs a (i + 1) s ++ new_job k a i Stage.Queued ∷ []) p (pool_part s p)
@@ -117,9 +117,9 @@ queued_elsewhere plan s a body i k kept at p inside other =
     (kept.pools p inside)
 
 pub kept_queues : (plan : Plan) (s : State) (a : Parent) (body : List Action) (i k : ℕ) → HasValidBodies plan → StateInvariant plan s → IsAtAction plan s a body i (Some (action.Submit k))
-    → (pool_at plan (pool_of plan k)).core ≤ threads plan s (pool_of plan k) → length (pool_part s (pool_of plan k)).queue < room_limit (pool_at plan (pool_of plan k)).unbounded (pool_at plan (pool_of plan k)).queue (pool_part s (pool_of plan k)).idle (length (pool_part s (pool_of plan k)).queue)
+    → length (pool_part s (pool_of plan k)).queue < room_limit (pool_at plan (pool_of plan k)).unbounded (pool_at plan (pool_of plan k)).queue (pool_part s (pool_of plan k)).idle (length (pool_part s (pool_of plan k)).queue)
     → StateInvariant plan (queued_state plan s a i k)
-kept_queues plan s a body i k ordered kept at at_core room =
+kept_queues plan s a body i k ordered kept at room =
     let q = pool_of plan k in
     let made : State = with_job (new_job k a i Stage.Queued) (with_position a (i + 1) s) in
     let queue = (pool_part s q).queue ++ length s.jobs ∷ [] in
@@ -128,7 +128,7 @@ kept_queues plan s a body i k ordered kept at at_core room =
       classes = classes_pushed (length plan.classes) (moved_jobs a (i + 1) s) (new_job k a i Stage.Queued) (classes_moved (length plan.classes) s a (i + 1) kept.classes) (class_exists plan s a body i k ordered at);
       parents = parents_pushed (moved_jobs a (i + 1) s) (new_job k a i Stage.Queued) (parents_moved s a (i + 1) kept.parents) (is_after plan s a body i (i + 1) at.stands);
       as_many = length-set s.pools q (record { queue = queue; idle = idle }) ∙ kept.as_many;
-      pools = pools_with_part plan made q queue idle (HasPoolInvariant plan made.jobs) kept.as_many (λ exists. queued_here plan s a body i k kept at exists at_core room) (queued_elsewhere plan s a body i k kept at);
+      pools = pools_with_part plan made q queue idle (HasPoolInvariant plan made.jobs) kept.as_many (λ exists. queued_here plan s a body i k kept at exists room) (queued_elsewhere plan s a body i k kept at);
       actors = λ b body' n now. made_actors plan s a body i k Stage.Queued kept at (Queued≢Claimed refl) queued_nowhere b body' n (sym (point_same plan made (with_part q queue idle made) b refl refl) ∙ now);
     }
 

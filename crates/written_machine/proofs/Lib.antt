@@ -16,6 +16,7 @@ pub mod WaitingSets
 pub mod Preserves
 pub mod FullWaitingSets
 pub mod JobsMade
+pub mod EnoughThreads
 pub mod ReachedLaws
 pub mod LooseWaitingSets
 pub mod Progress

@@ -16,34 +16,32 @@ same_pool pool part part' ns ns' busy busy' same_part same_places same_busy kept
 pub started_pool : (pool : Pool) (part : PoolPart) (ns : List ℕ) (busy : ℕ) (here : Bool) → PoolInvariant pool part ns busy → (here ≡ true → part.idle + busy < pool.max) → PoolInvariant pool part ns (busy + cond here 1 0)
 started_pool pool part ns busy true kept room =
     let below = room refl in
-    record { queue = kept.queue; within_max = omega arith; within_queue = kept.within_queue; core = λ some. let core = kept.core some in omega arith }
+    record { queue = kept.queue; within_max = omega arith; within_queue = kept.within_queue }
 started_pool pool part ns busy false kept room =
-    record { queue = kept.queue; within_max = omega (arith, kept.within_max); within_queue = kept.within_queue; core = λ some. let core = kept.core some in omega arith }
+    record { queue = kept.queue; within_max = omega (arith, kept.within_max); within_queue = kept.within_queue }
 
-pub queued_pool : (pool : Pool) (part : PoolPart) (ns : List ℕ) (busy n : ℕ) → PoolInvariant pool part ns busy → pool.core ≤ part.idle + busy → length part.queue < room_limit pool.unbounded pool.queue part.idle (length part.queue)
+pub queued_pool : (pool : Pool) (part : PoolPart) (ns : List ℕ) (busy n : ℕ) → PoolInvariant pool part ns busy → length part.queue < room_limit pool.unbounded pool.queue part.idle (length part.queue)
     → PoolInvariant pool (record { queue = part.queue ++ n ∷ []; idle = part.idle }) (ns ++ n ∷ []) busy
-queued_pool pool part ns busy n kept at_core room = record {
+queued_pool pool part ns busy n kept room = record {
   queue = ap (λ (queue : List ℕ). queue ++ n ∷ []) kept.queue;
   within_max = kept.within_max;
   within_queue = rw (length_push part.queue n) (room_for_one pool.unbounded pool.queue part.idle (length part.queue) room);
-  core = λ some. at_core;
 }
 
 pub taken_pool : (pool : Pool) (part : PoolPart) (ns ns' : List ℕ) (busy j : ℕ) (queue : List ℕ) (idle : ℕ) → PoolInvariant pool part ns busy → part.queue ≡ j ∷ queue → part.idle ≡ suc idle → queue ≡ ns'
     → PoolInvariant pool (record { queue = queue; idle = idle }) ns' (busy + 1)
 taken_pool pool part ns ns' busy j queue idle kept is_queue is_idle others =
     let long : length part.queue ≡ suc (length queue) = ap length is_queue in
-    let core = kept.core (omega arith) in
-    record { queue = others; within_max = omega (arith, kept.within_max); within_queue = still_within pool.unbounded pool.queue part.idle idle (length part.queue) (length queue) kept.within_queue (omega arith) (λ bounded none each. omega arith); core = λ some. omega arith }
+    record { queue = others; within_max = omega (arith, kept.within_max); within_queue = still_within pool.unbounded pool.queue part.idle idle (length part.queue) (length queue) kept.within_queue (omega arith) (λ bounded none each. omega arith) }
 
 pub finished_pool : (pool : Pool) (part : PoolPart) (ns : List ℕ) (busy busy' : ℕ) → PoolInvariant pool part ns busy → busy' + 1 ≡ busy → PoolInvariant pool (record { queue = part.queue; idle = part.idle + 1 }) ns busy'
 finished_pool pool part ns busy busy' kept fewer =
-    record { queue = kept.queue; within_max = omega (arith, kept.within_max); within_queue = still_within pool.unbounded pool.queue part.idle (part.idle + 1) (length part.queue) (length part.queue) kept.within_queue (omega arith) (λ bounded none each. omega arith); core = λ some. let core = kept.core some in omega arith }
+    record { queue = kept.queue; within_max = omega (arith, kept.within_max); within_queue = still_within pool.unbounded pool.queue part.idle (part.idle + 1) (length part.queue) (length part.queue) kept.within_queue (omega arith) (λ bounded none each. omega arith) }
 
-pub retired_pool : (pool : Pool) (part : PoolPart) (ns : List ℕ) (busy idle : ℕ) → PoolInvariant pool part ns busy → part.idle ≡ suc idle → pool.core < part.idle + busy
+pub retired_pool : (pool : Pool) (part : PoolPart) (ns : List ℕ) (busy idle : ℕ) → PoolInvariant pool part ns busy → part.idle ≡ suc idle
     → (pool.unbounded ≡ false → pool.queue ≡ 0 → length part.queue ≤ idle) → PoolInvariant pool (record { queue = part.queue; idle = idle }) ns busy
-retired_pool pool part ns busy idle kept is_idle above_core not_handed =
-    record { queue = kept.queue; within_max = omega (arith, kept.within_max); within_queue = still_within pool.unbounded pool.queue part.idle idle (length part.queue) (length part.queue) kept.within_queue (omega arith) (λ bounded none each. not_handed bounded none); core = λ some. omega arith }
+retired_pool pool part ns busy idle kept is_idle not_handed =
+    record { queue = kept.queue; within_max = omega (arith, kept.within_max); within_queue = still_within pool.unbounded pool.queue part.idle idle (length part.queue) (length part.queue) kept.within_queue (omega arith) (λ bounded none each. not_handed bounded none) }
 
 abbrev pub HasPoolInvariant : Plan → List CreatedJob → ℕ → PoolPart → Type 0
 HasPoolInvariant plan jobs p part = PoolInvariant (pool_at plan p) part (places plan jobs p) (busy_jobs plan jobs p)

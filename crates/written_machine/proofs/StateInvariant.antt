@@ -31,7 +31,6 @@ pub record PoolInvariant (pool : Pool) (part : PoolPart) (places : List ℕ) (bu
   pub queue : part.queue ≡ places
   pub within_max : part.idle + busy ≤ pool.max
   pub within_queue : length part.queue ≤ room_limit pool.unbounded pool.queue part.idle (length part.queue)
-  pub core : 1 ≤ length part.queue → pool.core ≤ part.idle + busy
 
 abbrev pub places : Plan → List CreatedJob → ℕ → List ℕ
 places plan jobs p = places_where (is_queued_in plan p) jobs

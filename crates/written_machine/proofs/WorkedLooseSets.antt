@@ -14,7 +14,7 @@ use Rattle.written_machine.specs.LooseWaiting.{WaitsLoosely, IsLooseWaitingSet}
 -- a pool of one thread, and an outer job that submits an inner job, works, and gets the inner job
 abbrev works_first : Plan
 works_first = record {
-  pools = record { name = 112 ∷ []; core = 1; max = 1; queue = 1; prestart = false; may_reject = false; unbounded = false } ∷ [];
+  pools = record { name = 112 ∷ []; core = 1; max = 1; queue = 1; prestart = false; may_reject = false; unbounded = false; core_timeout = false } ∷ [];
   classes = record { name = 111 ∷ []; pool = 0; body = Submit 1 ∷ Work 1 ∷ Get 0 ∷ [] } ∷ record { name = 105 ∷ []; pool = 0; body = Work 1 ∷ [] } ∷ [];
   clients = record { name = 99 ∷ []; count = 1; repeat = false; body = Submit 0 ∷ Get 0 ∷ [] } ∷ [];
 }

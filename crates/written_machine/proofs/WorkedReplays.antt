@@ -16,7 +16,7 @@ use Rattle.written_machine.specs.Waiting.{is_waiting_set}
 -- ---- the plans
 
 abbrev pool_of_sizes : ℕ → ℕ → ℕ → ℕ → Pool
-pool_of_sizes letter core max queue = record { name = letter ∷ []; core = core; max = max; queue = queue; prestart = false; may_reject = false; unbounded = false }
+pool_of_sizes letter core max queue = record { name = letter ∷ []; core = core; max = max; queue = queue; prestart = false; may_reject = false; unbounded = false; core_timeout = false }
 
 -- the plan with all pools prestarted
 abbrev prestarted : Plan → Plan
@@ -59,6 +59,14 @@ nested core max queue = record {
 abbrev nested_with_spare_thread : Plan
 nested_with_spare_thread = record (nested 1 2 1) { clients = repeating_client 1 0 ∷ record { name = 104 ∷ []; count = 1; repeat = false; body = Submit 1 ∷ [] } ∷ [] }
 
+-- the plan with core threads that may time out in each pool
+abbrev timing_out : Plan → Plan
+timing_out plan = record plan { pools = map (λ (pool : Pool). record pool { core_timeout = true }) plan.pools }
+
+-- the plan `nested` with two core threads that may time out, and one more client that submits an inner job
+abbrev nested_timing_out : Plan
+nested_timing_out = timing_out (record nested_with_spare_thread { pools = pool_of_sizes 112 2 2 1 ∷ [] })
+
 -- a plan of two pools whose jobs wait for jobs of the other pool, and of a third, independent pool
 abbrev crossed : ℕ → Plan
 crossed threads = record {
@@ -91,6 +99,9 @@ cross_pools_stuck-events = event.Client 0 ∷ event.Client 1 ∷ event.Job 0 ∷
 
 abbrev retire-events : List Event
 retire-events = event.Client 0 ∷ event.Client 1 ∷ event.Client 2 ∷ event.Job 2 ∷ event.Job 2 ∷ event.Retire 0 ∷ event.Job 0 ∷ event.Job 0 ∷ []
+
+abbrev times_out-events : List Event
+times_out-events = event.Client 0 ∷ event.Client 1 ∷ event.Job 1 ∷ event.Job 1 ∷ event.Job 0 ∷ event.Retire 0 ∷ []
 
 abbrev start_before_queue-events : List Event
 start_before_queue-events = event.Client 0 ∷ event.Job 0 ∷ event.Job 0 ∷ event.Client 1 ∷ event.Client 0 ∷ event.Client 0 ∷ event.Client 0 ∷ event.Take 0 ∷ event.Job 1 ∷ []
@@ -155,6 +166,20 @@ cross_pools_stuck = refl
 pub retire : outcomes_from_start (one_pool 1 2 1 3) (retire-events ++ event.Retire 0 ∷ [])
     ≡ Some (Started 0) ∷ Some (Queued 1) ∷ Some (Started 2) ∷ Some (Worked 1) ∷ Some (Finished 2) ∷ Some Retired ∷ Some (Worked 1) ∷ Some (Finished 0) ∷ None ∷ []
 retire = refl
+
+-- if core threads may time out, an idle one may end although a job is queued, but not the last one
+pub times_out : outcomes_from_start nested_timing_out (times_out-events ++ event.Retire 0 ∷ [])
+    ≡ Some (Started 0) ∷ Some (Started 1) ∷ Some (Worked 1) ∷ Some (Finished 1) ∷ Some (Queued 2) ∷ Some Retired ∷ None ∷ []
+times_out = refl
+
+-- the one thread that is left runs the job that waits for the queued one
+pub times_out-waits : after nested_timing_out times_out-events (λ s. is_waiting_set nested_timing_out s (0 ∷ 2 ∷ [])) ≡ Some true
+times_out-waits = refl
+
+-- the last idle thread may end if no job is queued
+pub all_time_out : outcomes_from_start (timing_out (one_pool 2 2 1 1)) (event.Client 0 ∷ event.Job 0 ∷ event.Job 0 ∷ event.Retire 0 ∷ [])
+    ≡ Some (Started 0) ∷ Some (Worked 1) ∷ Some (Finished 0) ∷ Some Retired ∷ []
+all_time_out = refl
 
 -- below core, a new thread starts the job, although a worker is idle
 pub start_before_queue : outcomes_from_start (one_pool 2 2 2 2) start_before_queue-events

@@ -2,7 +2,7 @@
 use Rattle.std.specs.Prelude.{◌≡◌, ◌≢◌, ◌<◌, ◌≤◌, ◌↔◌, ⊤, ℕ, IsTrue, IsFalse, List, length, Some, slice_get}
 use Rattle.job_bodies.specs.declared.action.Action.{Action}
 use Rattle.job_bodies.specs.declared.action.Action.TheVariants.{Get}
-use Rattle.job_bodies.specs.Plan.{Plan, pool_at, submitted_class}
+use Rattle.job_bodies.specs.Plan.{Plan, pool_at, least_threads, submitted_class}
 use Rattle.job_bodies.specs.WellFormed.{IsWellFormed}
 use Rattle.pool_machine.specs.PoolState.{queue_limit}
 use Rattle.written_machine.specs.declared.parent.Parent.{Parent}
@@ -26,9 +26,13 @@ pub record KeepsSizes (plan : Plan) (s : State) (p : ℕ) : Type 0 where
 abbrev pub PoolsKeepTheirSizes : Type 0
 PoolsKeepTheirSizes = HoldsWhereReached (λ plan s. (p : ℕ) → p < length plan.pools → KeepsSizes plan s p)
 
--- in every reachable state, a pool with a queued job has at least core threads
-abbrev pub QueuesOnlyAtCore : Type 0
-QueuesOnlyAtCore = HoldsWhereReached (λ plan s. (p : ℕ) → p < length plan.pools → 1 ≤ length (pool_part s p).queue → (pool_at plan p).core ≤ threads plan s p)
+-- if pool p has a queued job, it has at least core threads, or at least one if its core threads may time out
+abbrev pub HasThreads : Plan → State → ℕ → Type 0
+HasThreads plan s p = 1 ≤ length (pool_part s p).queue → least_threads (pool_at plan p) ≤ threads plan s p
+
+-- `HasThreads` holds for each pool in every reachable state of a well-formed plan
+abbrev pub QueuesHaveThreads : Type 0
+QueuesHaveThreads = HoldsWhereReached (λ plan s. (p : ℕ) → p < length plan.pools → HasThreads plan s p)
 
 -- if the actor is a job, its number is less than n
 abbrev pub HasGreaterNumber : Parent → ℕ → Type 0

@@ -95,7 +95,7 @@ part_of pool = record { queue = pool.queue; idle = pool.idle }
 
 -- the pool with these sizes, with this queue and these idle workers, and with this number of threads
 abbrev pub pool_view : Pool → PoolPart → ℕ → PoolView
-pool_view pool part threads = record { core = pool.core; max = pool.max; capacity = pool.queue; unbounded = pool.unbounded; threads = threads; idle = part.idle; queue = part.queue }
+pool_view pool part threads = record { core = pool.core; max = pool.max; capacity = pool.queue; unbounded = pool.unbounded; core_timeout = pool.core_timeout; threads = threads; idle = part.idle; queue = part.queue }
 
 -- pool p in state s, as `pool_machine` sees a pool
 abbrev pub pool_seen : Plan → State → ℕ → PoolView

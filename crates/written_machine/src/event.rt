@@ -12,7 +12,8 @@ pub enum Event {
     /// An idle worker of the pool with this index takes the head of the pool's queue.
     Take(usize),
     /// An idle worker of the pool with this index ends. This is possible only while the pool has
-    /// more than core threads.
+    /// more than core threads, or if its core threads may time out and it has another thread or no
+    /// queued job.
     Retire(usize),
 }
 

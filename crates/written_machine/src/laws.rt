@@ -7,7 +7,7 @@ ghost use Rattle.written_machine.specs.FullWaitingSets.{FullWaitingSetsStay, Fix
 ghost use Rattle.written_machine.specs.JobsMade.{ThreadsHaveJobs, RefusalsNeedJobs};
 ghost use Rattle.written_machine.specs.Laws.{
   PoolsKeepTheirSizes,
-  QueuesOnlyAtCore,
+  QueuesHaveThreads,
   GetsHaveChildren,
   WaitingSetsAreTested,
   WaitingSetsAreLoose,
@@ -22,11 +22,11 @@ pub fn pools_keep_their_sizes()
     ensures { PoolsKeepTheirSizes }
 {}
 
-/// States that, in every reachable state of a well-formed plan, a pool with a queued job has at
-/// least core threads. The reason is that a pool queues a job only if it has at least core threads,
-/// and that core threads never end.
-pub fn queues_only_at_core()
-    ensures { QueuesOnlyAtCore }
+/// Proves that, in every reachable state of a well-formed plan, a pool with a queued job has at
+/// least core threads, or at least one if its core threads may time out. A pool queues a job only
+/// if it has at least core threads, and the last threads do not end while jobs are queued.
+pub fn queues_have_threads()
+    ensures { QueuesHaveThreads }
 {}
 
 /// States that, in every reachable state of a well-formed plan, a client or job at a get has
@@ -59,17 +59,16 @@ pub fn waiting_sets_are_loose()
     ensures { WaitingSetsAreLoose }
 {}
 
-/// States that a waiting set is permanent if each pool that has a member in its queue has its
-/// maximum of threads. A waiting set is a non-empty set of jobs that wait only for each other. In a
-/// well-formed plan, it is still such a set after any list of events, and its jobs are unchanged.
+/// Proves that a waiting set is permanent if each pool with a queued member has its maximum of
+/// threads, or has an unbounded queue and at least core threads: after any list of events it is
+/// still a waiting set, its jobs are unchanged, and these pools have as many threads as before.
 pub fn full_waiting_sets_stay()
     ensures { FullWaitingSetsStay }
 {}
 
-/// States when the condition of [`full_waiting_sets_stay`] holds. Consider a waiting set in a
-/// reachable state of a well-formed plan, and the pools that have a member of it in their queues.
-/// If the core of each of these pools equals its maximum, then each of these pools has its maximum
-/// of threads.
+/// Proves that, in every reachable state of a well-formed plan, each pool with a queued member of a
+/// waiting set has its maximum of threads. The assumption is that the core of each of these pools
+/// equals its maximum, or that its maximum is 1 if its core threads may time out.
 pub fn fixed_pools_are_full()
     ensures { FixedPoolsAreFull }
 {}

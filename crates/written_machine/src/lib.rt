@@ -11,7 +11,7 @@ pub use client_state::ClientState;
 pub use event::{Event, Outcome};
 pub use laws::{
     fixed_pools_are_full, full_waiting_sets_stay, gets_have_children, pools_keep_their_sizes,
-    queues_only_at_core, refusals_need_jobs, threads_have_jobs, waiting_sets_are_loose,
+    queues_have_threads, refusals_need_jobs, threads_have_jobs, waiting_sets_are_loose,
     waiting_sets_are_tested,
 };
 pub use parent::Parent;

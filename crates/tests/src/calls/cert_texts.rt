@@ -25,6 +25,7 @@ fn plan(alloc: Global, may_reject: bool) -> Result<Plan, Fail> {
         prestart: false,
         may_reject,
         unbounded: false,
+        core_timeout: false,
     };
     let class = Class {
         name: String::from_str(alloc, "a")?,

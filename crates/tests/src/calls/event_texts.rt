@@ -18,6 +18,7 @@ fn plan_of_p_and_q(alloc: Global) -> Result<Plan, Fail> {
             prestart: false,
             may_reject: false,
             unbounded: false,
+            core_timeout: false,
         })?;
     }
     Ok(Plan::build(alloc, pools, Vec::new(alloc), Vec::new(alloc))?)

@@ -29,12 +29,17 @@ const NESTED: &str = r#"{"version":1,"pools":[
 // The core, maximum and queue of the pool, and the number of clients.
 type Sizes = [u64; 4];
 
-fn one_pool(alloc: Global, sizes: Sizes) -> Result<String, AllocError> {
+// A line of a pool whose core threads may time out.
+const TIMEOUT: &str = "core_timeout = true\n";
+
+// Returns the text of a plan in which each client submits a job and gets it. The pool has these
+// further lines.
+fn one_pool(alloc: Global, sizes: Sizes, lines: &str) -> Result<String, AllocError> {
     let [core, max, queue, count] = sizes;
     let mut text = String::new(alloc);
     write!(
         text,
-        "[[pool]]\nname = 'p'\ncore = {core}\nmax = {max}\nqueue = {queue}\n"
+        "[[pool]]\nname = 'p'\ncore = {core}\nmax = {max}\nqueue = {queue}\n{lines}"
     )?;
     text.push_str("[[class]]\nname = 'a'\npool = 'p'\nbody = ['work 1']\n")?;
     write!(
@@ -45,12 +50,13 @@ fn one_pool(alloc: Global, sizes: Sizes) -> Result<String, AllocError> {
     Ok(text)
 }
 
-fn nested(alloc: Global, sizes: Sizes) -> Result<String, AllocError> {
+// Returns the text of a plan in which each such job waits for a job of its own pool.
+fn nested(alloc: Global, sizes: Sizes, lines: &str) -> Result<String, AllocError> {
     let [core, max, queue, count] = sizes;
     let mut text = String::new(alloc);
     write!(
         text,
-        "[[pool]]\nname = 'p'\ncore = {core}\nmax = {max}\nqueue = {queue}\n"
+        "[[pool]]\nname = 'p'\ncore = {core}\nmax = {max}\nqueue = {queue}\n{lines}"
     )?;
     text.push_str(
         "[[class]]\nname = 'outer'\npool = 'p'\nbody = ['submit inner as x', 'get x']\n",
@@ -184,10 +190,61 @@ fn assert_answers(
 fn plans_are_fitted_to_certificates(rt: HostRuntime) {
     let alloc = rt.alloc();
     for case in OF_ONE_POOL.iter().copied() {
-        assert_answers(&rt, alloc, one_pool(alloc, case.0), STANDING, case);
+        assert_answers(&rt, alloc, one_pool(alloc, case.0, ""), STANDING, case);
     }
     for case in OF_NESTED.iter().copied() {
-        assert_answers(&rt, alloc, nested(alloc, case.0), NESTED, case);
+        assert_answers(&rt, alloc, nested(alloc, case.0, ""), NESTED, case);
+    }
+}
+
+const LAST_THREAD: Answer = Answer::Unfit(Unfit::CoreTimeout(0));
+
+// The core and the maximum stay unchanged if core threads may time out.
+const OF_ONE_POOL_WITH_TIMEOUTS: &[Case] = &[
+    (
+        [1, 1, 1, 2],
+        Answer::Sizes([1, 1, 1]),
+        Answer::Sizes([1, 1, 2]),
+        Answer::Sizes([1, 1, 2]),
+    ),
+    (
+        [3, 4, 9, 7],
+        Answer::Sizes([3, 4, 9]),
+        Answer::Sizes([3, 4, 9]),
+        Answer::Sizes([3, 4, 7]),
+    ),
+];
+
+// No core is enough for a job that waits for a job of its own pool if one thread may be left.
+const OF_NESTED_WITH_TIMEOUTS: &[Case] = &[
+    (
+        [1, 1, 5, 1],
+        Answer::Sizes([1, 1, 5]),
+        LAST_THREAD,
+        LAST_THREAD,
+    ),
+    (
+        [8, 9, 5, 1],
+        Answer::Sizes([8, 9, 5]),
+        LAST_THREAD,
+        LAST_THREAD,
+    ),
+    (
+        [1, 1, 1, 1_000_000],
+        Answer::Sizes([1, 1, 1]),
+        LAST_THREAD,
+        LAST_THREAD,
+    ),
+];
+
+#[test]
+fn cores_that_may_time_out_stay_unchanged(rt: HostRuntime) {
+    let alloc = rt.alloc();
+    for case in OF_ONE_POOL_WITH_TIMEOUTS.iter().copied() {
+        assert_answers(&rt, alloc, one_pool(alloc, case.0, TIMEOUT), STANDING, case);
+    }
+    for case in OF_NESTED_WITH_TIMEOUTS.iter().copied() {
+        assert_answers(&rt, alloc, nested(alloc, case.0, TIMEOUT), NESTED, case);
     }
 }
 
@@ -196,8 +253,8 @@ const SHAPE: Answer = Answer::Unfit(Unfit::Shape);
 #[test]
 fn a_certificate_of_another_plan_fits_no_sizes(rt: HostRuntime) {
     let alloc = rt.alloc();
-    let plan = plan_of(&rt, alloc, one_pool(alloc, [1, 1, 1, 2]));
-    let other = plan_of(&rt, alloc, nested(alloc, [1, 1, 1, 2]));
+    let plan = plan_of(&rt, alloc, one_pool(alloc, [1, 1, 1, 2], ""));
+    let other = plan_of(&rt, alloc, nested(alloc, [1, 1, 1, 2], ""));
     let of_other = cert_of(&rt, alloc, NESTED, &other);
     assert_eq!(rt; widen(alloc, &plan, &of_other).ok(), Some(SHAPE));
     let of_plan = cert_of(&rt, alloc, WEIGHTLESS, &plan);
@@ -208,7 +265,7 @@ fn a_certificate_of_another_plan_fits_no_sizes(rt: HostRuntime) {
 #[test]
 fn a_certificate_whose_conditions_fail_fits_no_sizes(rt: HostRuntime) {
     let alloc = rt.alloc();
-    let plan = plan_of(&rt, alloc, one_pool(alloc, [1, 1, 1, 2]));
+    let plan = plan_of(&rt, alloc, one_pool(alloc, [1, 1, 1, 2], ""));
     let weightless = cert_of(&rt, alloc, WEIGHTLESS, &plan);
     assert_eq!(rt; fit(alloc, plan, &weightless).ok(), Some(Answer::Condition));
 }
@@ -230,14 +287,14 @@ fn found(
 fn a_certificate_that_accepts_the_plan_changes_nothing(rt: HostRuntime) {
     let alloc = rt.alloc();
     // The certificate accepts the plan, so its queue of 9 is unchanged, although 2 would be enough.
-    let plan = plan_of(&rt, alloc, one_pool(alloc, [1, 1, 9, 2]));
+    let plan = plan_of(&rt, alloc, one_pool(alloc, [1, 1, 9, 2], ""));
     let first = cert_of(&rt, alloc, STANDING, &plan);
     let (same, cert) = found(alloc, &plan, Some(first))
         .expect(&rt, "there is memory")
         .expect(&rt, "it is accepted");
     assert_eq!(rt; sizes_of(&same), [1, 1, 9]);
     // The certificate does not fit another plan, so the search finds another certificate.
-    let other = plan_of(&rt, alloc, nested(alloc, [1, 1, 5, 1]));
+    let other = plan_of(&rt, alloc, nested(alloc, [1, 1, 5, 1], ""));
     let (fit, cert) = found(alloc, &other, Some(cert))
         .expect(&rt, "there is memory")
         .expect(&rt, "another one is found");

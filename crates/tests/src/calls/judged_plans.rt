@@ -2,9 +2,10 @@
 
 use crate::calls::judged_texts::{
     FAN_OUT, FAN_OUT_CERT, FORGETTING, FORGETTING_CERT, LIFETIME_CERT, ONCE, ONCE_AND_ONE_MORE,
-    ONE_POOL, ONE_POOL_CERT, THAT_MAY_REJECT, THAT_REJECTS_NOTHING, THERE_AND_BACK,
-    THERE_AND_BACK_CERT, UNBOUNDED, WITH_A_HIGH_RANK, WITH_A_LARGER_WEIGHT, WITH_A_MILLION_CLIENTS,
-    WITH_A_QUEUE_OF_1, WITH_A_SHORT_ROW, WITH_CORE_ABOVE_MAX, WITH_THE_MOST_WEIGHT, WITHOUT_BOUND,
+    ONCE_WITH_TIMEOUTS, ONE_POOL, ONE_POOL_CERT, THAT_MAY_REJECT, THAT_REJECTS_NOTHING,
+    THERE_AND_BACK, THERE_AND_BACK_CERT, UNBOUNDED, WITH_A_HIGH_RANK, WITH_A_LARGER_WEIGHT,
+    WITH_A_MILLION_CLIENTS, WITH_A_QUEUE_OF_1, WITH_A_SHORT_ROW, WITH_CORE_ABOVE_MAX,
+    WITH_THE_MOST_WEIGHT, WITH_TIMEOUTS, WITHOUT_BOUND,
 };
 use cert_check::{
     BoundTotal, Certified, CheckFault, PoolLine, accepts, accepts_standing, check, verdict,
@@ -313,6 +314,14 @@ fn what_is_checked(rt: HostRuntime) -> Result<(), Fail> {
         blocked: 0,
         limit: 1,
     };
+    let lifetime_line_with_timeouts = PoolLine {
+        bound: Some(BoundTotal {
+            lifetime: true,
+            total: 3,
+            limit: Some(1),
+        }),
+        ..line
+    };
     let with_a_queue_of_1 = PoolLine {
         bound: Some(standing(2, 1)),
         ..line
@@ -340,12 +349,19 @@ fn what_is_checked(rt: HostRuntime) -> Result<(), Fail> {
         ),
         (ONCE, LIFETIME_CERT, Ok((true, lifetime_line))),
         (
+            ONCE_WITH_TIMEOUTS,
+            LIFETIME_CERT,
+            Ok((false, lifetime_line_with_timeouts)),
+        ),
+        (
             THAT_MAY_REJECT,
             WITHOUT_BOUND,
             Ok((true, line_without_bound)),
         ),
         (UNBOUNDED, WITHOUT_BOUND, Ok((true, line_without_bound))),
         (UNBOUNDED, ONE_POOL_CERT, Ok((true, unbounded_line))),
+        (WITH_TIMEOUTS, WITHOUT_BOUND, Ok((true, line_without_bound))),
+        (WITH_TIMEOUTS, ONE_POOL_CERT, Ok((true, unbounded_line))),
         (ONE_POOL, WITHOUT_BOUND, Err(cert_fault(WRONG_SHAPE))),
         (WITH_CORE_ABOVE_MAX, half, Err(CheckFault::Plan(bad_plan))),
         (ONE_POOL, half, Err(cert_fault(NOT_JSON))),

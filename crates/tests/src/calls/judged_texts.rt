@@ -34,6 +34,13 @@ pub(crate) const UNBOUNDED: &str = "
     client = [{ name = 'c', count = 2, repeat = true, body = ['submit a as x', 'get x'] }]
 ";
 
+// A pool with an unbounded queue and without a maximum, whose core threads may time out.
+pub(crate) const WITH_TIMEOUTS: &str = "
+    pool = [{ name = 'p', core = 8, max = 'unbounded', queue = 'unbounded', core_timeout = true }]
+    class = [{ name = 'a', pool = 'p', body = ['work 1'] }]
+    client = [{ name = 'c', count = 2, repeat = true, body = ['submit a as x', 'get x'] }]
+";
+
 pub(crate) const WITH_A_MILLION_CLIENTS: &str = "
     pool = [{ name = 'p', core = 1, max = 1, queue = 2 }]
     class = [{ name = 'a', pool = 'p', body = ['work 1'] }]
@@ -49,6 +56,13 @@ pub(crate) const WITH_CORE_ABOVE_MAX: &str = "
 // Three clients that run their bodies once. Two threads and a queue of 1 have room for their jobs.
 pub(crate) const ONCE: &str = "
     pool = [{ name = 'p', core = 2, max = 2, queue = 1 }]
+    class = [{ name = 'a', pool = 'p', body = ['work 1'] }]
+    client = [{ name = 'c', count = 3, body = ['submit a as x', 'get x'] }]
+";
+
+// The same clients. If core threads may time out, the queue alone must have room for their jobs.
+pub(crate) const ONCE_WITH_TIMEOUTS: &str = "
+    pool = [{ name = 'p', core = 2, max = 2, queue = 1, core_timeout = true }]
     class = [{ name = 'a', pool = 'p', body = ['work 1'] }]
     client = [{ name = 'c', count = 3, body = ['submit a as x', 'get x'] }]
 ";

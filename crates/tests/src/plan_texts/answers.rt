@@ -21,11 +21,16 @@ fn plan_line(alloc: Global, plan: &Plan) -> Result<String, AllocError> {
     let mut line = String::from_str(alloc, "plan")?;
     for pool in plan.pools() {
         let beforehand = if pool.prestart { " prestarted" } else { "" };
+        let ends = if pool.core_timeout {
+            " core_timeout"
+        } else {
+            ""
+        };
         let full = if pool.may_reject { " may_reject" } else { "" };
         let limit = if pool.unbounded { " unbounded" } else { "" };
         write!(
             line,
-            "; pool {} {} {} {}{beforehand}{full}{limit}",
+            "; pool {} {} {} {}{beforehand}{ends}{full}{limit}",
             pool.name, pool.core, pool.max, pool.queue
         )?;
     }

@@ -32,9 +32,9 @@ pub fn written(alloc: Global, lines: &[u8]) -> Result<String, AllocError> {
 }
 
 // Parses the plan of the lists. Each entry has a line: `pool NAME CORE MAX QUEUE`, which may end
-// with some of `prestarted`, `may_reject` and `unbounded`; `class NAME POOL BODY`; `client NAME
-// COUNT BODY` for clients that repeat; and another first word with `NAME COUNT BODY` for clients
-// that do not.
+// with some of `prestarted`, `core_timeout`, `may_reject` and `unbounded`; `class NAME POOL BODY`;
+// `client NAME COUNT BODY` for clients that repeat; and another first word with `NAME COUNT BODY`
+// for clients that do not.
 fn plan_of(alloc: Global, lines: &[u8]) -> Result<Result<Plan, PlanFault>, AllocError> {
     let lines = String::from_utf8_lossy(alloc, lines)?;
     let mut pools = Vec::new(alloc);
@@ -71,6 +71,7 @@ fn pool_of(alloc: Global, name: &str, sizes: &[&str]) -> Result<Pool, AllocError
         prestart: sizes.contains(&"prestarted"),
         may_reject: sizes.contains(&"may_reject"),
         unbounded: sizes.contains(&"unbounded"),
+        core_timeout: sizes.contains(&"core_timeout"),
     })
 }
 

@@ -1,4 +1,4 @@
-use Rattle.std.proofs.Common.{◌≡◌, ◌+◌, ◌<◌, true, length, refl, sym, ap, ◌∙◌, arith}
+use Rattle.std.proofs.Common.{◌≡◌, ◌<◌, true, length, refl, sym, ap, ◌∙◌, arith}
 use Rattle.job_bodies.specs.Plan.{Class, pool_at}
 use Rattle.counterexample.proofs.LightJobs.{weights_long, light_if_done}
 use Rattle.counterexample.proofs.no_thread_starts.is_light.Goals as goal

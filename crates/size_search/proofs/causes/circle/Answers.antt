@@ -1,14 +1,21 @@
-use Rattle.std.proofs.Common.{◌≤◌, length, ap, ⊎_elim, arith}
-use Rattle.std.proofs.lemmas.Bool.{cases_lt}
-use Rattle.size_search.proofs.Nothing.{no_circle_past}
+use Rattle.std.proofs.Common.{◌≡◌, ℕ, ◌≤◌, List, [], ◌∷◌, subst, sym, arith, rules}
+use Rattle.job_bodies.specs.Plan.{class_at}
+use Rattle.graphs.specs.Graph.{successors, IsOnCircle}
+use Rattle.size_search.specs.JobGraphs.{submit_graph}
+use Rattle.size_search.proofs.JobGraphs.{submitted_where_reached, reached_where_submitted, are_of_class}
 use Rattle.size_search.proofs.causes.circle.Goals as goal
 
-pub returns-clause-none : goal.returns-clause-none
-returns-clause-none c =
+pub returns-in-Some-clause-cause : goal.returns-in-Some-clause-cause
+returns-in-Some-clause-cause c =
     let plan = c.args.plan.now in
-    let end : length plan.classes ≤ c.loop-number.number = omega (arith, c.loop-number-test.false, ap length c.classes-number-end.ensures.value, c.loop-number.auto.number-end) in
-    λ k submitted.
-    ⊎_elim
-    (λ below. c.loop-number.invariant k below submitted)
-    (λ past. no_circle_past plan k (omega (arith, past, end)) submitted)
-    (cases_lt k c.loop-number.number)
+    let k = c.in-Some.class in
+    let graph : c.in_ok-graph.graph ≡ submit_graph plan = search rules in
+    let circle : IsOnCircle c.in_ok-graph.graph k = search rules in
+    submitted_where_reached plan ((class_at plan k).body ∷ []) (successors (submit_graph plan) k) (are_of_class plan k) (subst (λ (g : List (List ℕ)). IsOnCircle g k) graph circle)
+
+pub returns-clause-none : goal.returns-clause-none
+returns-clause-none c = λ k submitted.
+    let plan = c.args.plan.now in
+    let graph : c.in_ok-graph.graph ≡ submit_graph plan = search rules in
+    let none : (node : ℕ) → 0 ≤ node → IsOnCircle c.in_ok-graph.graph node → ⊥ = search rules in
+    none k (omega arith) (subst (λ (g : List (List ℕ)). IsOnCircle g k) (sym graph) (reached_where_submitted plan ((class_at plan k).body ∷ []) (successors (submit_graph plan) k) (are_of_class plan k) submitted))

@@ -1,8 +1,8 @@
-use Rattle.std.proofs.Common.{rules, ◌≡◌, false, length, map, replicate, ap, ◌∙◌, sym}
+use Rattle.std.proofs.Common.{rules, ◌≡◌, false, map, ap, ◌∙◌, sym}
 use Rattle.job_bodies.specs.WellFormed.{IsWellFormed}
 use Rattle.job_bodies.proofs.Bodies.{ordered}
 use Rattle.weights.specs.Vector.{vector_fits}
-use Rattle.size_search.specs.Steady.{pool_of, steady_levels, steady_vector}
+use Rattle.size_search.specs.Steady.{pool_of, steady_vector, steady_ranks}
 use Rattle.size_search.proofs.RowSteps.{cert_from, heavy_unless_fit}
 use Rattle.size_search.proofs.certificate.steady.Goals as goal
 
@@ -20,7 +20,5 @@ returns-clause-cert c =
     let v = c.in-Some.vector in
     let is : v ≡ steady_vector plan = search rules in
     let pools : c.in_ok-pools.pools.items ≡ map (pool_of v) plan.pools = search rules in
-    let ranks : c.in_ok-vec.field-0.items ≡ replicate (length plan.pools) 0 = search rules in
-    let reach : c.in_ok-vec-2.field-0.items ≡ replicate (length plan.classes) 0 = search rules in
-    let levels : c.in_ok-levels.levels.items ≡ steady_levels plan = search rules in
-    cert_from plan v c.in_ok-pools.pools.items c.in_ok-vec.field-0.items c.in_ok-vec-2.field-0.items c.in_ok-levels.levels.items is pools ranks reach levels
+    let ranks : c.in_ok-ranks.ranks ≡ steady_ranks plan = search rules in
+    cert_from plan v c.in_ok-pools.pools.items c.in_ok-ranks.ranks is pools ranks

@@ -2,7 +2,7 @@ use Rattle.std.proofs.Common.{List, sym, subst}
 use Rattle.job_bodies.specs.Plan.{Pool, Plan}
 use Rattle.job_bodies.specs.WellFormed.{IsWellFormed}
 use Rattle.job_bodies.specs.Build.{plan_of_lists}
-use Rattle.size_search.proofs.LeastSizes.{smallest_is_well_formed}
+use Rattle.size_search.proofs.SmallestPlans.{smallest_is_well_formed}
 use Rattle.size_search.proofs.fit.smallest.Goals as goal
 
 pub with_pools-requires : goal.with_pools-requires

@@ -7,4 +7,4 @@ pub returns-in-Err-clause-none : goal.returns-in-Err-clause-none
 returns-in-Err-clause-none c =
     let plan = c.args.plan.now in
     let none : NoneFitsWide plan c.args.cert.now = search rules in
-    too_high_where_not_wide plan c.args.cert.now c.requires.well_formed c.requires.free c.requires.small c.requires.steady none
+    too_high_where_not_wide plan c.args.cert.now c.requires.well_formed c.requires.steady_plan c.requires.small c.requires.steady none

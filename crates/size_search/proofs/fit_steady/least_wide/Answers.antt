@@ -15,4 +15,4 @@ returns-in-Ok-clause-sized c =
 pub returns-in-Err-clause-none : goal.returns-in-Err-clause-none
 returns-in-Err-clause-none c =
     let none : NoneFits c.args.wide c.args.cert.now = search rules in
-    too_high_where_not_fitted c.args.plan.now c.args.wide c.args.cert.now c.requires.well_formed c.requires.free c.requires.small c.requires.steady c.requires.wide none
+    too_high_where_not_fitted c.args.plan.now c.args.wide c.args.cert.now c.requires.well_formed c.requires.steady_plan c.requires.small c.requires.steady c.requires.wide none

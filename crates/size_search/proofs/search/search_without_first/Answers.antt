@@ -1,5 +1,5 @@
 use Rattle.std.proofs.Common.{rules}
-use Rattle.size_search.specs.Submitted.{IsWithoutCause}
+use Rattle.size_search.specs.Causes.{IsWithoutCause}
 use Rattle.size_search.specs.Causes.{IsCause}
 use Rattle.size_search.proofs.Caused.{beyond}
 use Rattle.size_search.specs.Sized.{IsFound}

@@ -2,7 +2,7 @@ use Rattle.std.proofs.Common.{◌≡◌, ◌≤◌, ◌<◌, ◌+◌, ◌*◌, �
 use Rattle.std.specs.Prelude.{slice_index_or}
 use Rattle.std.proofs.lemmas.Nat.{mul-le}
 use Rattle.support.proofs.Loops.{at_index}
-use Rattle.job_bodies.specs.declared.limits.TheConstants.{MAX_POOLS, MAX_SIZE, MAX_WEIGHT}
+use Rattle.job_bodies.specs.declared.limits.TheConstants.{MAX_POOLS, MAX_THREADS, MAX_WEIGHT}
 use Rattle.weights.specs.Vector.{workers_weight}
 use Rattle.weights.proofs.Fitting.{fits, max_at}
 use Rattle.weights.proofs.Loops.{sum_more}
@@ -14,9 +14,9 @@ overflow_mul-total c =
     let well = c.pools-pool-items.ensures.well_formed in
     let here : slice_get plan.pools c.loop-number.number ≡ Some c.pool-item.result = rw (← c.pools-pool-items.ensures.value) (at_index _ _ _ c.loop-number-test.true c.pool-item.is) in
     let same : c.pool.inside.max ≡ c.pool-item.result.max = ap (λ (x : _). x.max) c.pool.view_is in
-    let many : c.pool.inside.max ≤ MAX_SIZE = rw same (max_at plan c.loop-number.number c.pool-item.result well here) in
+    let many : c.pool.inside.max ≤ MAX_THREADS = rw same (max_at plan c.loop-number.number c.pool-item.result well here) in
     let weight : c.workers_weight.result ≤ MAX_WEIGHT = rw c.workers_weight.ensures ((fits c.args.plan.now c.args.vector.now c.requires).small_worker c.loop-number.number) in
-    let term : c.workers_weight.result * c.pool.inside.max ≤ MAX_WEIGHT * MAX_SIZE = mul-le c.workers_weight.result c.pool.inside.max MAX_WEIGHT MAX_SIZE weight many in
+    let term : c.workers_weight.result * c.pool.inside.max ≤ MAX_WEIGHT * MAX_THREADS = mul-le c.workers_weight.result c.pool.inside.max MAX_WEIGHT MAX_THREADS weight many in
     omega arith
 
 pub overflow_add-total : goal.overflow_add-total
@@ -25,9 +25,9 @@ overflow_add-total c =
     let well = c.pools-pool-items.ensures.well_formed in
     let here : slice_get plan.pools c.loop-number.number ≡ Some c.pool-item.result = rw (← c.pools-pool-items.ensures.value) (at_index _ _ _ c.loop-number-test.true c.pool-item.is) in
     let same : c.pool.inside.max ≡ c.pool-item.result.max = ap (λ (x : _). x.max) c.pool.view_is in
-    let many : c.pool.inside.max ≤ MAX_SIZE = rw same (max_at plan c.loop-number.number c.pool-item.result well here) in
+    let many : c.pool.inside.max ≤ MAX_THREADS = rw same (max_at plan c.loop-number.number c.pool-item.result well here) in
     let weight : c.workers_weight.result ≤ MAX_WEIGHT = rw c.workers_weight.ensures ((fits c.args.plan.now c.args.vector.now c.requires).small_worker c.loop-number.number) in
-    let term : c.workers_weight.result * c.pool.inside.max ≤ MAX_WEIGHT * MAX_SIZE = mul-le c.workers_weight.result c.pool.inside.max MAX_WEIGHT MAX_SIZE weight many in
+    let term : c.workers_weight.result * c.pool.inside.max ≤ MAX_WEIGHT * MAX_THREADS = mul-le c.workers_weight.result c.pool.inside.max MAX_WEIGHT MAX_THREADS weight many in
     let early : c.loop-number.number < length plan.pools = rw (← c.pools-pool-items.ensures.value) c.loop-number-test.true in
     omega (arith, well.few_pools, c.loop-number.invariant.bound)
 
@@ -37,9 +37,9 @@ loop-number-preserved c =
     let well = c.pools-pool-items.ensures.well_formed in
     let here : slice_get plan.pools c.loop-number.number ≡ Some c.pool-item.result = rw (← c.pools-pool-items.ensures.value) (at_index _ _ _ c.loop-number-test.true c.pool-item.is) in
     let same : c.pool.inside.max ≡ c.pool-item.result.max = ap (λ (x : _). x.max) c.pool.view_is in
-    let many : c.pool.inside.max ≤ MAX_SIZE = rw same (max_at plan c.loop-number.number c.pool-item.result well here) in
+    let many : c.pool.inside.max ≤ MAX_THREADS = rw same (max_at plan c.loop-number.number c.pool-item.result well here) in
     let weight : c.workers_weight.result ≤ MAX_WEIGHT = rw c.workers_weight.ensures ((fits c.args.plan.now c.args.vector.now c.requires).small_worker c.loop-number.number) in
-    let term : c.workers_weight.result * c.pool.inside.max ≤ MAX_WEIGHT * MAX_SIZE = mul-le c.workers_weight.result c.pool.inside.max MAX_WEIGHT MAX_SIZE weight many in
+    let term : c.workers_weight.result * c.pool.inside.max ≤ MAX_WEIGHT * MAX_THREADS = mul-le c.workers_weight.result c.pool.inside.max MAX_WEIGHT MAX_THREADS weight many in
     let early : c.loop-number.number < length plan.pools = rw (← c.pools-pool-items.ensures.value) c.loop-number-test.true in
     let x = c.pool-item.result in
     let there : x ≡ get_or plan.pools c.loop-number.number x = rw (← c.pools-pool-items.ensures.value) c.pool-item.is in

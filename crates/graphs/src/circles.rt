@@ -1,0 +1,44 @@
+//! The nodes that are on a circle.
+
+ghost use Rattle.std.specs.Prelude.{◌≤◌, ◌<◌, ◌≡◌, ◌↔◌, ℕ, true, IfOk, IfSome, IfNone, length};
+ghost use Rattle.graphs.specs.Graph as spec;
+ghost use Rattle.graphs.specs.Graph.{IsClosed};
+
+use crate::Graph;
+use crate::node_set::NodeSet;
+use std::alloc::{AllocError, Global};
+
+impl Graph {
+    /// Returns the first node from number `first` on that is on a circle, or `None` if there is
+    /// none.
+    ///
+    /// # Errors
+    ///
+    /// Returns [`AllocError`] if memory runs out.
+    pub fn circle_from(&self, alloc: Global, first: usize) -> Result<Option<usize>, AllocError>
+        requires { IsClosed self.now }
+        ensures circle { IfOk result (λ found. IfSome found (spec.IsOnCircle self.now)) }
+        ensures node { IfOk result
+            (λ found. IfSome found (λ node. (first ≤ node) × (node < length self.now))) }
+        ensures none { IfOk result
+            (λ found. IfNone found ((node : ℕ) → first ≤ node → ¬ spec.IsOnCircle self.now node)) }
+    {
+        for node in first..self.len() {
+            if self.is_on_circle(alloc, node)? {
+                return Ok(Some(node));
+            }
+        }
+        Ok(None)
+    }
+
+    /// Returns whether a path from the node leads back to it.
+    fn is_on_circle(&self, alloc: Global, node: usize) -> Result<bool, AllocError>
+        requires { IsClosed self.now }
+        ensures { IfOk result (λ yes. (yes ≡ true) ↔ spec.IsOnCircle self.now node) }
+    {
+        let mut set = NodeSet::empty(alloc, self)?;
+        set.add_each(self.successors(node))?;
+        set.add_all(self)?;
+        Ok(set.has(node))
+    }
+}

@@ -1,0 +1,28 @@
+//! The nodes that are reached from some nodes of a graph.
+
+ghost use Rattle.std.specs.Prelude.{IfOk};
+ghost use Rattle.graphs.specs.Graph.{AreNodes, IsClosed};
+ghost use Rattle.graphs.specs.Marks.{MarksReached};
+
+use crate::Graph;
+use crate::node_set::NodeSet;
+use std::alloc::{AllocError, Global};
+
+impl Graph {
+    /// Returns, for each node, whether it is one of these nodes, or a path from one of them leads
+    /// to it.
+    ///
+    /// # Errors
+    ///
+    /// Returns [`AllocError`] if memory runs out.
+    pub fn reached_from(&self, alloc: Global, first: &[usize]) -> Result<Vec<bool>, AllocError>
+        requires closed { IsClosed self.now }
+        requires nodes { AreNodes self.now first.now }
+        ensures { IfOk result (λ marks. MarksReached self.now first.now marks.items) }
+    {
+        let mut set = NodeSet::empty(alloc, self)?;
+        set.add_each(first)?;
+        set.add_all(self)?;
+        Ok(set.into_marks())
+    }
+}

@@ -1,0 +1,29 @@
+//! The threads that a run has for a pool.
+
+ghost use Rattle.std.specs.Prelude.{◌≡◌};
+ghost use Rattle.locked_runner.specs.Carriers as spec;
+
+use job_bodies::Pool;
+
+/// Returns the number of threads that a run has for the pool. This is the maximum of the pool, with
+/// two exceptions, in which it is the core size:
+///
+/// - The queue is unbounded, and core threads never time out. The pool then starts no thread above
+///   its core size.
+/// - The pool has no maximum. Its queue is then unbounded too. Java may start threads above core
+///   that replace others, but a submit starts none.
+pub(crate) fn carriers(pool: &Pool) -> u64
+    ensures { result ≡ spec.carriers pool.now }
+{
+    if needs_core_only(pool) {
+        pool.core
+    } else {
+        pool.max
+    }
+}
+
+fn needs_core_only(pool: &Pool) -> bool
+    ensures { result ≡ spec.needs_core_only pool.now }
+{
+    pool.unbounded && !pool.core_timeout || pool.has_no_max()
+}

@@ -1,0 +1,7 @@
+-- The nodes so far, and those of the remaining actions, are all nodes.
+use Rattle.std.proofs.Common.{◌≡◌, ◌++◌, drop}
+use Rattle.size_search.specs.JobGraphs.{gets_of}
+use Rattle.size_search.proofs.job_graphs.push_gets.Given as goal
+
+abbrev pub invariant-loop-action : goal.invariant-loop-action
+invariant-loop-action l = l.nodes.items ++ gets_of l.body (drop l.action-index l.body) ≡ l.initial.nodes.items ++ gets_of l.body l.body
