@@ -33,9 +33,11 @@ class ClosedPackageTest {
         recorder.close();
         text.toString().lines().filter(line -> line.startsWith("round ")).forEach(System.out::println);
         Path plan = Files.writeString(Files.createTempFile("sizing", ".toml"), "pool = [{name = 'p', core = 1, max = 1, queue = 7}, "
-                + "{name = 'q', core = 1, max = 'unbounded', queue = 'unbounded'}]");
+                + "{name = 'q', core = 1, max = 'unbounded', queue = 'unbounded'}, "
+                + "{name = 'r', core = 1, max = 4, queue = 'unbounded', core_timeout = true}, "
+                + "{name = 's', core = 1, max = 'unbounded', queue = 'unbounded', core_timeout = true}]");
         ExecutorService single = Executors.newSingleThreadExecutor();
-        PlanCheck.differences(plan, Map.of("p", single, "q", single)).forEach(System.out::println);
+        PlanCheck.differences(plan, Map.of("p", single, "q", single, "r", single, "s", single)).forEach(System.out::println);
         single.shutdown();
         Files.delete(plan);
     }
@@ -53,7 +55,11 @@ class ClosedPackageTest {
                 "pool p: FinalizableDelegatedExecutorService hides its executor: pass new ThreadPoolExecutor(1, 1, 0, SECONDS, "
                 + "new LinkedBlockingQueue<>(7)), or run the JVM with --add-opens java.base/java.util.concurrent=ALL-UNNAMED",
                 "pool q: FinalizableDelegatedExecutorService hides its executor: pass new ThreadPoolExecutor(1, 1, 0, SECONDS, "
-                + "new LinkedBlockingQueue<>()), or run the JVM with --add-opens java.base/java.util.concurrent=ALL-UNNAMED");
+                + "new LinkedBlockingQueue<>()), or run the JVM with --add-opens java.base/java.util.concurrent=ALL-UNNAMED",
+                "pool r: FinalizableDelegatedExecutorService hides its executor: pass new ThreadPoolExecutor(1, 4, 60, SECONDS, "
+                + "new LinkedBlockingQueue<>()) with allowCoreThreadTimeOut(true), or run the JVM with --add-opens java.base/java.util.concurrent=ALL-UNNAMED",
+                "pool s: FinalizableDelegatedExecutorService hides its executor: pass new ThreadPoolExecutor(1, Integer.MAX_VALUE, 60, SECONDS, "
+                + "new LinkedBlockingQueue<>()) with allowCoreThreadTimeOut(true), or run the JVM with --add-opens java.base/java.util.concurrent=ALL-UNNAMED");
         List<String> warnings = log.lines().filter(line -> line.startsWith("WARNING: ")).toList();
         assertEquals(List.of("WARNING: stages of CompletableFutures are recorded as submits without gets: run the JVM with "
                 + "--add-opens java.base/java.util.concurrent=ALL-UNNAMED (tried on OpenJDK 17)"), warnings);

@@ -388,12 +388,13 @@ class PlanCheckTest {
         wrong("pools = 1", "a plan has [[pool]], [[class]] and [[client]], not [pools]");
         wrong("pool = 1", "pool is not a list of tables: write [[pool]]");
         wrong("[pool]\nname = 'p'", "pool is not a list of tables: write [[pool]]");
-        wrong("pool = [1]", "a pool is a table with name, core, max, queue, prestart and may_reject, not 1");
-        wrong("[[pool]]\nname = 'p'\ncorePoolSize = 1", "a pool is a table with name, core, max, queue, prestart and may_reject, not {name=p, corePoolSize=1}");
+        wrong("pool = [1]", "a pool is a table with name, core, max, queue, prestart, core_timeout and may_reject, not 1");
+        wrong("[[pool]]\nname = 'p'\ncorePoolSize = 1", "a pool is a table with name, core, max, queue, prestart, core_timeout and may_reject, not {name=p, corePoolSize=1}");
         wrong("[[pool]]\nname = 'p'\ncore = '1'", "invalid core in pool {name=p, core=1}");
         wrong("[[pool]]\nname = 'p'\ncore = 1\nmax = 1", "invalid queue in pool {name=p, core=1, max=1}");
         String pool = "[[pool]]\nname = 'p'\ncore = 1\nmax = 1\nqueue = 1\n";
         wrong(pool + "prestart = 1", "invalid prestart in pool {name=p, core=1, max=1, queue=1, prestart=1}");
+        wrong(pool + "core_timeout = 60", "invalid core_timeout in pool {name=p, core=1, max=1, queue=1, core_timeout=60}");
         wrong(pool + "may_reject = 'yes'", "invalid may_reject in pool {name=p, core=1, max=1, queue=1, may_reject=yes}");
         wrong("[[pool]]\nname = 'p'\ncore = 1\nmax = 'unbounded'\nqueue = 1", "invalid max in pool {name=p, core=1, max=unbounded, queue=1}");
         wrong("[[pool]]\nname = 'p'\ncore = 1\nmax = 1\nqueue = 'Unbounded'", "invalid queue in pool {name=p, core=1, max=1, queue=Unbounded}");
@@ -436,7 +437,7 @@ class PlanCheckTest {
         compared(file(PLAN), executors, lines);
     }
 
-    private static void compared(Path plan, Map<String, ThreadPoolExecutor> executors, String... lines) throws Exception {
+    static void compared(Path plan, Map<String, ThreadPoolExecutor> executors, String... lines) throws Exception {
         assertEquals(List.of(lines), PlanCheck.differences(plan, executors));
         if (lines.length == 0) {
             PlanCheck.check(plan, executors);
@@ -450,7 +451,7 @@ class PlanCheckTest {
         assertEquals("IllegalArgumentException: " + plan + ": " + why, thrownBy(() -> PlanCheck.check(plan, Map.of())));
     }
 
-    private static Path file(String text) throws Exception {
+    static Path file(String text) throws Exception {
         Path file = Files.createTempFile("sizing", ".toml");
         file.toFile().deleteOnExit();
         return Files.writeString(file, text);

@@ -52,6 +52,41 @@ final class PoolServices {
         run.rounds("request", 2, 2, () -> tasks.submit(task("task", 1)).get());
     }
 
+    /** Returns an executor with the settings of Spring Boot's applicationTaskExecutor, except its maximum. */
+    private static ThreadPoolExecutor springBootExecutor(int max) {
+        ThreadPoolExecutor executor = new ThreadPoolExecutor(8, max, 60, TimeUnit.SECONDS, new LinkedBlockingQueue<>());
+        executor.allowCoreThreadTimeOut(true);
+        return executor;
+    }
+
+    static void springBoot(ServiceRun run) throws Exception {
+        ExecutorService tasks = run.pool("tasks", springBootExecutor(Integer.MAX_VALUE));
+        run.rounds("request", 20, 5, () -> tasks.submit(task("task", 1)).get());
+    }
+
+    static void springBootOfThePlan(ServiceRun run) throws Exception {
+        ExecutorService tasks = run.pool("tasks");
+        run.rounds("request", 20, 5, () -> tasks.submit(task("task", 1)).get());
+    }
+
+    static void springBootOwnPool(ServiceRun run) throws Exception {
+        ExecutorService tasks = run.pool("tasks", springBootExecutor(Integer.MAX_VALUE));
+        ExecutorService parts = run.pool("parts", springBootExecutor(Integer.MAX_VALUE));
+        run.rounds("visitor", 20, 5, () -> tasks.submit(label("page", () -> parts.submit(task("part", 1)).get())).get());
+    }
+
+    static void springBootWithAMaximum(ServiceRun run) throws Exception {
+        ExecutorService tasks = run.pool("tasks", springBootExecutor(16));
+        run.rounds("request", 2, 2, () -> tasks.submit(task("task", 1)).get());
+    }
+
+    static void springBootWithoutCoreTimeout(ServiceRun run) throws Exception {
+        ThreadPoolExecutor executor = springBootExecutor(Integer.MAX_VALUE);
+        executor.allowCoreThreadTimeOut(false);
+        ExecutorService tasks = run.pool("tasks", executor);
+        run.rounds("request", 2, 2, () -> tasks.submit(task("task", 1)).get());
+    }
+
     static void fixedThreadPool(ServiceRun run) throws Exception {
         ExecutorService queries = run.pool("queries", (ThreadPoolExecutor) Executors.newFixedThreadPool(16));
         run.rounds("request", 40, 5, () -> queries.submit(task("query", 1)).get());

@@ -62,6 +62,9 @@ class ServicesTest {
     static Stream<Case> rightUses() {
         return Stream.of(
                 // pools
+                new Case("spring_boot", "spring-boot", PoolServices::springBoot),
+                new Case("spring_boot_of_the_plan", "spring-boot", PoolServices::springBootOfThePlan),
+                new Case("spring_boot_own_pool", "spring-boot-own-pool", PoolServices::springBootOwnPool),
                 new Case("spring_defaults", "spring-defaults", PoolServices::springDefaults),
                 new Case("spring_defaults_of_the_plan", "spring-defaults", PoolServices::springDefaultsOfThePlan),
                 new Case("fixed_thread_pool", "fixed-thread-pool", PoolServices::fixedThreadPool),
@@ -132,6 +135,10 @@ class ServicesTest {
     static Stream<Case> otherUses() {
         return Stream.of(
                 // pools
+                new Case("spring_boot_with_a_maximum", "spring-boot", PoolServices::springBootWithAMaximum,
+                        "pool tasks: max 16, plan unbounded"),
+                new Case("spring_boot_without_core_timeout", "spring-boot", PoolServices::springBootWithoutCoreTimeout,
+                        "pool tasks: core threads never time out, plan core_timeout = true"),
                 new Case("spring_with_queue_capacity", "spring-defaults", PoolServices::springWithQueueCapacity,
                         "pool tasks: queue 200, plan unbounded"),
                 new Case("spring_with_core_timeout", "spring-defaults", PoolServices::springWithCoreTimeout,

@@ -265,6 +265,68 @@ class SizingBeansTest {
         assertConforms(Defaults.plan, recording);
     }
 
+    /** The bean of Spring Boot, with the values of `spring.task.execution.pool` that it has if none is set. */
+    static class Boot {
+        static Path plan;
+        static Recorder recorder;
+        static boolean timeout;
+
+        @Bean
+        static SizingBeans sizing() {
+            return new SizingBeans(plan, recorder).pool("tasks", "applicationTaskExecutor");
+        }
+
+        @Bean
+        ThreadPoolTaskExecutor applicationTaskExecutor() {
+            ThreadPoolTaskExecutor tasks = new ThreadPoolTaskExecutor();
+            tasks.setQueueCapacity(Integer.MAX_VALUE);
+            tasks.setCorePoolSize(8);
+            tasks.setMaxPoolSize(Integer.MAX_VALUE);
+            tasks.setKeepAliveSeconds(60);
+            tasks.setAllowCoreThreadTimeOut(timeout);
+            return tasks;
+        }
+    }
+
+    private static final String BOOT = """
+            pool = [{name = "tasks", core = 8, max = "unbounded", queue = "unbounded", core_timeout = true}]
+            class = [{name = "task", pool = "tasks", body = []}]
+            client = [{name = "request", count = 1, repeat = true, body = ["submit task as t", "get t"]}]
+            """;
+
+    @Test
+    void theExecutorOfSpringBootIsAPoolWithCoreTimeouts() throws Exception {
+        Path recording = Files.createDirectories(Path.of("target", "sizing")).resolve("boot.recording");
+        Boot.plan = Files.writeString(Path.of("target", "sizing", "boot.toml"), BOOT);
+        Boot.recorder = Recorder.toFile(recording);
+        Boot.timeout = true;
+        AnnotationConfigApplicationContext context = new AnnotationConfigApplicationContext(Boot.class);
+        ThreadPoolTaskExecutor tasks = context.getBean(ThreadPoolTaskExecutor.class);
+        for (int at = 0; at < 20; at++) {
+            try (Recorder.Round round = Boot.recorder.round("request")) {
+                assertEquals(at, tasks.submit(Recorder.label("task", Integer.valueOf(at)::intValue)).get());
+            }
+        }
+        context.close();
+        assertTrue(Files.readAllLines(recording).contains("pool tasks core 8 max 1000000000 queue linked 1000000000 timeout yes prestarted 0 handler abort"));
+        assertConforms(Boot.plan, recording);
+    }
+
+    @Test
+    void theContextDoesNotStartWithOtherCoreTimeouts() throws Exception {
+        Boot.plan = Files.createTempFile("sizing", ".toml");
+        Boot.recorder = null;
+        for (boolean timeout : new boolean[] {false, true}) {
+            Boot.timeout = timeout;
+            Files.writeString(Boot.plan, BOOT.replace("core_timeout = true", "core_timeout = " + timeout));
+            new AnnotationConfigApplicationContext(Boot.class).close();
+            Files.writeString(Boot.plan, BOOT.replace("core_timeout = true", "core_timeout = " + !timeout));
+            PlanMismatchException thrown = assertThrows(PlanMismatchException.class, () -> new AnnotationConfigApplicationContext(Boot.class));
+            assertEquals(List.of("pool tasks: allowCoreThreadTimeOut " + timeout + ", plan " + !timeout), thrown.lines());
+        }
+        Files.delete(Boot.plan);
+    }
+
     @Test
     void aQueueWithACapacityIsNoUnboundedQueue() throws Exception {
         Defaults.plan = Files.writeString(Files.createTempFile("sizing", ".toml"), "pool = [{name = 'tasks', core = 1, max = 1, queue = 'unbounded'}]");
