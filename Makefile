@@ -15,7 +15,7 @@ help:
 	      /^[a-z_-]+:/ && said != "" { sub(/:.*/, ""); printf "make %-13s %s\n", $$0, said } \
 	      !/^#/ { said = "" }' Makefile
 
-# Asks about the two plans that README.md shows, before any proof: about two minutes on a fresh machine.
+# Asks about the plans that README.md shows, before any proof: three to five minutes on a fresh machine.
 demo:
 	@examples/demo
 
@@ -92,6 +92,7 @@ checks: program
 	python3 checks/refused_growths.py
 	python3 checks/ends_of_streams.py
 	python3 checks/small_plans.py
+	python3 checks/core_timeouts.py
 	python3 checks/runs.py
 	python3 checks/fit.py
 	python3 checks/witnesses.py

@@ -5,19 +5,22 @@
 
 For each plan of examples/, for random plans, and for larger ones with up to as many pools as a plan may have:
 
-- If no sizes help, because of a cycle of submits or a submit that is repeated forever and never got, `fit` names a class of the
-  cycle or such a submit. A submit to a pool that may reject jobs or has an unbounded queue is no such submit. For every other plan
-  `fit` finds sizes.
+- If no sizes help, `fit` names the reason: a class of a cycle of submits, a submit that is repeated forever and never got, or a pool
+  whose core threads may time out, and whose last thread may wait for a job of the pool. A submit to a pool that may reject jobs or has
+  an unbounded queue is no such submit. For every other plan `fit` finds sizes.
 - `check` says yes to the output of `fit --bundle`. The plan in it differs from the given plan only in sizes, none of which is
   smaller. The queue of a pool that may reject jobs is the given one, and an unbounded queue stays so. The lines of `fit` list these
-  sizes, with the given size where it differs, and no maximum beside an unbounded queue, where it is core.
+  sizes, with the given size where it differs, and no maximum beside an unbounded queue, where it is core, unless core threads may time
+  out. Of a pool whose core threads may time out, only the queue changes.
 - With the same certificate, `check` says no if a core or queue that changed is smaller by one. A max that changed equals the core.
 - If `certify` finds a certificate for the plan, `fit` changes nothing. For the sizes of `fit`, `certify` finds a certificate, and a
   second `fit` changes nothing.
 - `fit` reports sizes above their limit only if the plan's steady certificate needs such sizes, or has a weight above its limit, or
-  if a repeated submit to a pool that may reject jobs or has an unbounded queue is never got.
+  if a repeated submit to a pool that may reject jobs or has an unbounded queue is never got, or if no client causes a job that has a get
+  in a pool whose core threads may time out.
 
-In a third of the random plans, pools may reject jobs. In half of them, and in a third of the small ones, queues may be unbounded.
+In a third of the random plans, pools may reject jobs. In half of them, and in a third of the small ones, queues may be unbounded. In two
+fifths of both, core threads of pools may time out.
 
 For small plans (one or two pools, one client of each client kind) whose sizes of `fit` are at most 6, the check runs `certify` with
 all sizes that grow less in total. If `certify` finds a certificate for some of them, the check prints that. This is not a fault.
@@ -39,10 +42,10 @@ sys.dont_write_bytecode = True
 
 from found_certs import Class, Client, Plan, Pool, kinds_of, plan_by_chance, text
 from found_sizes import cheaper_sizes, growth, small_plan
-from no_sizes import NOTHING_FOUND, causes, loses_jobs
+from no_sizes import NOTHING_FOUND, causes, is_unsteady
 from read_plans import read_plan
 from refused_growths import Unable, built
-from small_plans import run, text_of
+from small_plans import NO_MAXIMUM, run, text_of
 from steady import is_too_large
 
 EXAMPLES = Path(__file__).resolve().parent.parent / "examples"
@@ -68,7 +71,7 @@ def main():
     given = [path.read_text() for path in sorted(EXAMPLES.glob("*.toml"))]
     given += [text(plan_by_chance(chance, *kinds_of(number))) for number in range(count)]
     larger = [text(larger_plan(chance)) for _ in range(count // PLANS_FOR_LARGER)]
-    small = [small_plan(chance, unbounded=number % 3 == 2) for number in range(DRAWN_FOR_ONE * small_count)]
+    small = [small_plan(chance, unbounded=number % 3 == 2, timed=number % 5 > 2) for number in range(DRAWN_FOR_ONE * small_count)]
     with ThreadPoolExecutor(len(os.sched_getaffinity(0))) as threads:
         fits = list(threads.map(lambda plan: Fit(program, plan), given))
         of_larger = list(threads.map(lambda plan: Fit(program, plan), larger))
@@ -114,7 +117,7 @@ class Fit:
             return self.fault_of_cause(wanted)
         if self.printed.startswith(NOTHING_FOUND):
             self.count["too large"] += 1
-            is_possible = is_too_large(self.plan) or loses_jobs(self.plan)
+            is_possible = is_too_large(self.plan) or is_unsteady(self.plan)
             return "" if ": sizes above " in self.printed and is_possible else "the sizes are not too large"
         is_certified = run(self.program, "certify", self.given)[0] == 0
         self.count["certified" if is_certified else "sized"] += 1
@@ -148,13 +151,16 @@ class Fit:
         return self.fault_of_less(fitted, cert)
 
     def fault_of_less(self, fitted, cert):
-        """Returns a text that reports a size that fell, a changed queue of a pool that may reject jobs or is unbounded, a max that rose above its core, or
-        a changed core or queue that could be smaller; an empty text if there is none."""
+        """Returns a text that reports a size that fell, a changed queue of a pool that may reject jobs or is unbounded, a changed core or
+        max of a pool whose core threads may time out, a max that rose above its core, or a changed core or queue that could be smaller; an
+        empty text if there is none."""
         for number, (now, found) in enumerate(zip(self.plan.pools, fitted.pools)):
             if any(new < old for new, old in zip(sizes_of(found), sizes_of(now))):
                 return f"a size of {now.name} falls"
             if (now.may_reject or now.unbounded) and found.queue != now.queue:
                 return f"the queue of {now.name} changes, which may reject jobs or is unbounded"
+            if now.core_timeout and (found.core, found.max) != (now.core, now.max):
+                return f"the core or the max of {now.name} changes, whose core threads may time out"
             if found.max > now.max and found.max != found.core:
                 return f"the max of {now.name} rises further than its core"
             for less in lessened(now, found):
@@ -172,8 +178,16 @@ class Fit:
 
 
 def sizes_of(pool):
-    """Returns the core, the maximum and the queue of a pool. The last two are 0 if the queue is unbounded."""
-    return (pool.core, 0, 0) if pool.unbounded else (pool.core, pool.max, pool.queue)
+    """Returns the core, the maximum and the queue of a pool. The queue is 0 if it is unbounded, and then the maximum is 0 too, unless core
+    threads may time out."""
+    return (pool.core, pool.max if pool.core_timeout else 0, 0) if pool.unbounded else (pool.core, pool.max, pool.queue)
+
+
+def keys_of(pool):
+    """Returns the keys of the sizes that `fit` prints of a pool."""
+    if not pool.unbounded:
+        return "core", "max", "queue"
+    return ("core", "max") if pool.core_timeout else ("core",)
 
 
 def without_sizes(plan):
@@ -193,8 +207,8 @@ def wanted_lines(plan, fitted):
     lines, changes = [], 0
     for now, found in zip(plan.pools, fitted.pools):
         numbers = []
-        for word, old, new in zip(("core",) if now.unbounded else ("core", "max", "queue"), sizes_of(now), sizes_of(found)):
-            numbers.append(f"{word} {new}" + (f" (now {old})" if new != old else ""))
+        for word, old, new in zip(keys_of(now), sizes_of(now), sizes_of(found)):
+            numbers.append(f"{word} {'unbounded' if new == NO_MAXIMUM else new}" + (f" (now {old})" if new != old else ""))
             changes += new != old
         numbers += ["queue unbounded"] if now.unbounded else []
         lines.append(f"pool {now.name}: {', '.join(numbers)}\n")
@@ -218,7 +232,7 @@ def larger_plan(chance):
 
 def is_comparable(plan, fit):
     """Returns whether the sizes of `fit` for a small plan are small, and there are not too many smaller sizes to try."""
-    is_small = not fit.fault and max(map(max, fit.sizes)) <= MOST_SMALL_SIZE
+    is_small = not fit.fault and all(size <= MOST_SMALL_SIZE for sizes in fit.sizes for size in sizes if size != NO_MAXIMUM)
     return is_small and cheaper_ones(plan, growth(plan, fit.sizes)) <= MOST_CHEAPER
 
 

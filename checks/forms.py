@@ -40,8 +40,8 @@ from asking import built_program
 HERE = Path(__file__).resolve().parent
 KEYS = ["answer", "assumptions", "faults", "file", "format", "omitted", "plan", "pools", "sizes", "version", "warnings", "witness"]
 POOL_KEYS = ["blocked", "bound", "core", "max", "name", "prestart", "queue", "waits_for"]
-# The further keys of a pool that may reject jobs.
-REJECTING_KEYS = ["may_reject", "rejects_after"]
+# The further keys of a pool that may reject jobs, and of one whose core threads may time out.
+REJECTING_KEYS, TIMED_KEYS = ["may_reject", "rejects_after"], ["core_timeout"]
 # The queue of a pool without a capacity.
 UNBOUNDED = "unbounded"
 # The kinds of warnings that are notes: whether they matter depends on the code around a submit.
@@ -119,7 +119,8 @@ def differences(program, dot, page, plan, *certificate):
 
 def keys_of(pool):
     """Returns the keys of a pool, in order."""
-    return sorted([*POOL_KEYS, *REJECTING_KEYS]) if "may_reject" in pool else POOL_KEYS
+    more = [key for keys in (REJECTING_KEYS, TIMED_KEYS) if keys[0] in pool for key in keys]
+    return sorted([*POOL_KEYS, *more])
 
 
 def differences_of_lines(value, text):
@@ -162,8 +163,9 @@ def differences_of_bounds(value):
             yield f"pool {pool['name']}: the shares add up to {paid}, and the bound is {bound['total']}"
         if bound["kind"] == "standing" and pool["queue"] != UNBOUNDED and bound["total"] > pool["queue"]:
             yield f"pool {pool['name']}: {bound['total']} may wait in a queue of {pool['queue']}"
-        if pool["blocked"]["most"] + pool["blocked"]["left"] != pool["core"]:
-            yield f"pool {pool['name']}: {pool['blocked']}, of {pool['core']} core threads"
+        threads = 1 if "core_timeout" in pool else pool["core"]
+        if pool["blocked"]["most"] + pool["blocked"]["left"] != threads:
+            yield f"pool {pool['name']}: {pool['blocked']}, of {threads} threads"
 
 
 def differences_of_sizes(program, plan, value):
@@ -175,11 +177,18 @@ def differences_of_sizes(program, plan, value):
         if fit.stdout != f"no fitting sizes found\n{sizes['cause']['text']}\n":
             yield f"the cause is {sizes['cause']!r}, and that of fit is {fit.stdout!r}"
         return
-    # there is no maximum beside an unbounded queue
-    fitted = re.findall(r"(?m)^pool (\w+): core (\d+)(?: \(now \d+\))?(?:, max (\d+).*)?, queue (\w+)", fit.stdout)
-    sizes_of_json = [(it["name"], str(it["core"]), "" if it["queue"] == UNBOUNDED else str(it["max"]), str(it["queue"])) for it in sizes["pools"]]
-    if sizes_of_json != fitted:
+    fitted = re.findall(r"(?m)^pool (\w+): core (\d+)(?: \(now \d+\))?(?:, max (\w+).*)?, queue (\w+)", fit.stdout)
+    timed = {pool["name"] for pool in value["plan"]["pools"] if "core_timeout" in pool}
+    if [sizes_of(it, timed) for it in sizes["pools"]] != fitted:
+        sizes_of_json = sizes["pools"]
         yield f"the sizes are {sizes_of_json}, and those of fit are {fitted}"
+
+
+def sizes_of(pool, timed):
+    """Returns the sizes of a pool of the JSON form as `fit` prints them: without the maximum if the queue is unbounded and core threads never
+    time out."""
+    is_useless = pool["queue"] == UNBOUNDED and pool["name"] not in timed
+    return pool["name"], str(pool["core"]), "" if is_useless else str(pool["max"]), str(pool["queue"])
 
 
 def differences_of_witness(program, plan, value):

@@ -23,7 +23,8 @@ trial that the program computes.
    may reject jobs needs neither: if none is found, it has no bound. For a pool with an unbounded queue only a standing vector is
    searched for, whatever its total is: pools lend as long as a loan reduces the total. If there is none, the pool has no bound.
 
-In a third of the plans, pools may reject jobs. In half of them, queues may be unbounded.
+In a third of the plans, pools may reject jobs. In half of them, queues may be unbounded. In two fifths of them, core threads of pools
+may time out: the total of such a pool's blocked vector must be 0, and its lifetime vector is bounded by its queue alone.
 
     python3 checks/found_certs.py [PLANS [SEED]]     # by default 2,000 plans and seed 1
 
@@ -38,7 +39,7 @@ import sys
 sys.dont_write_bytecode = True
 
 from asking import built_program, each, written
-from small_plans import NO_CAPACITY, size_lines
+from small_plans import NO_CAPACITY, NO_MAXIMUM, flag_lines, size_lines
 
 MOST_WEIGHT = 1_000_000_000
 MOST_LOANS = 256
@@ -60,9 +61,10 @@ def main():
     lifetimes = sum("lifetime" in printed for printed in answers)
     rejecting = sum("may reject" in printed for printed in answers)
     bounded, unbounded = (sum(words in printed for printed in answers) for words in (" of unbounded", ": unbounded"))
+    timed = sum(found != NONE and any(pool.core_timeout for pool in plan.pools) for plan, found in zip(plans, answers))
     print(f"{count} plans, {len(differing)} differ; {found} get a certificate, {lifetimes} of them with a lifetime vector, "
           f"{rejecting} with a pool that may reject jobs and has no bound, {bounded} with a bound of an unbounded queue, "
-          f"{unbounded} with an unbounded queue that has no bound")
+          f"{unbounded} with an unbounded queue that has no bound, {timed} with a pool whose core threads may time out")
     return 1 if differing else 0
 
 
@@ -78,14 +80,26 @@ NONE = "no certificate found"
 
 
 class Pool:
-    def __init__(self, core, most, queue, prestart, may_reject=False, unbounded=False):
+    def __init__(self, core, most, queue, prestart, may_reject=False, unbounded=False, core_timeout=False):
         self.core, self.most, self.queue, self.prestart, self.may_reject = core, most, queue, prestart, may_reject
-        self.unbounded = unbounded
+        self.unbounded, self.core_timeout = unbounded, core_timeout
         if unbounded:
-            self.most, self.queue = core, NO_CAPACITY
+            self.most, self.queue = most if core_timeout else core, NO_CAPACITY
 
     def needs_no_bound(self):
         return self.may_reject or self.unbounded
+
+    def least_threads(self):
+        """Returns the number of threads that the pool has at least while a job is queued."""
+        return 1 if self.core_timeout else self.core
+
+    def lending_threads(self):
+        """Returns the number of threads whose weight a total counts, which is at least the number that the pool ever has."""
+        return self.most
+
+    def lifetime_limit(self):
+        """Returns the number of jobs that the pool accepts before it can refuse one."""
+        return self.queue if self.core_timeout else self.queue + self.most - (self.core if self.prestart else 0)
 
 
 class Class:
@@ -115,14 +129,16 @@ class Plan:
 
 
 def kinds_of(number):
-    """Returns whether pools of the random plan with this number may reject jobs, and whether they may have unbounded queues."""
-    return number % 3 == 2, number % 2 == 1
+    """Returns whether pools of the random plan with this number may reject jobs, whether they may have unbounded queues, and whether their
+    core threads may time out."""
+    return number % 3 == 2, number % 2 == 1, number % 5 > 2
 
 
-def plan_by_chance(chance, rejecting=False, unbounded=False):
+def plan_by_chance(chance, rejecting=False, unbounded=False, timed=False):
     """Returns a random plan. If it is rejecting, each of its pools may reject jobs with a chance of one half, and may then have a queue
-    of 0. If it is unbounded, each of its pools has an unbounded queue with a chance of two fifths."""
-    pools = [pool_by_chance(chance, rejecting, unbounded) for _ in range(chance.randint(1, 4))]
+    of 0. If it is unbounded, each of its pools has an unbounded queue with a chance of two fifths. If it is timed, core threads of each
+    pool may time out with a chance of one half, and a pool with an unbounded queue may then have no maximum."""
+    pools = [pool_by_chance(chance, rejecting, unbounded, timed) for _ in range(chance.randint(1, 4))]
     count = chance.randint(1, 5)
     # In most plans, a class submits only classes before it. A few plans have cycles of submits.
     free = chance.random() < 0.05
@@ -139,12 +155,21 @@ def plan_by_chance(chance, rejecting=False, unbounded=False):
     return Plan(pools, *renumbered(classes, clients, order))
 
 
-def pool_by_chance(chance, rejecting, unbounded):
+def pool_by_chance(chance, rejecting, unbounded, timed):
     core = chance.randint(1, 4)
     most, queue, prestart = core + chance.choice([0, 0, 1, 3]), chance.choice([1, 2, 3, 5, 10, 30]), chance.random() < 0.2
     may_reject = rejecting and chance.random() < 0.5
     synchronous = may_reject and chance.random() < 0.3
-    return Pool(core, most, 0 if synchronous else queue, prestart, may_reject, unbounded and chance.random() < 0.4)
+    pool = Pool(core, most, 0 if synchronous else queue, prestart, may_reject, unbounded and chance.random() < 0.4)
+    return with_timeouts(chance, pool, most) if timed and chance.random() < 0.5 else pool
+
+
+def with_timeouts(chance, pool, most):
+    """Returns the pool whose core threads may time out, with at most this number of threads or, if its queue is unbounded, maybe without
+    a maximum."""
+    pool.core_timeout = True
+    pool.most = NO_MAXIMUM if pool.unbounded and chance.random() < 0.5 else most
+    return pool
 
 
 def body_by_chance(chance, classes):
@@ -178,9 +203,7 @@ def renumbered(classes, clients, order):
 def text(plan):
     lines = []
     for number, pool in enumerate(plan.pools):
-        lines += ["[[pool]]", f'name = "p{number}"', *size_lines(pool.core, pool.most, pool.queue, pool.unbounded)]
-        lines += ["prestart = true"] if pool.prestart else []
-        lines += ["may_reject = true"] if pool.may_reject else []
+        lines += ["[[pool]]", f'name = "p{number}"', *size_lines(pool, pool.most), *flag_lines(pool)]
     for number, entry in enumerate(plan.classes):
         lines += ["[[class]]", f'name = "a{number}"', f'pool = "p{entry.pool}"', f"body = {spelled(entry.body)}"]
     for number, client in enumerate(plan.clients):
@@ -230,7 +253,7 @@ def answer(plan):
         rank += 1
     lines = ["yes"]
     for pool, sizes in enumerate(plan.pools):
-        lines.append(f"pool p{pool}: {bound_words(sizes, bounds[pool])}, blocked {blocked[pool]} of {sizes.core - 1}")
+        lines.append(f"pool p{pool}: {bound_words(sizes, bounds[pool])}, blocked {blocked[pool]} of {sizes.least_threads() - 1}")
     return "\n".join(lines)
 
 
@@ -273,13 +296,18 @@ def bound(plan, levels, pool):
     if sizes.unbounded:
         total = lightest_total(plan, levels, queued, nothing)
         return None if total is None else ("standing", total, "unbounded")
-    total = least_total(plan, levels, queued, nothing, sizes.queue)
+    total = least_total(plan, levels, queued, nothing, standing_limit(plan, pool))
     if total is not None:
         return "standing", total, sizes.queue
-    limit = sizes.queue + sizes.most - (sizes.core if sizes.prestart else 0)
+    limit = sizes.lifetime_limit()
     everywhere = [[need] * (len(entry.body) + 1) for need, entry in zip(queued, plan.classes)]
     total = Weights(plan, levels, queued, everywhere, [0] * len(plan.pools), gives_back=False).total()
     return ("lifetime", total, limit) if total is not None and total <= limit else None
+
+
+def standing_limit(plan, pool):
+    """Returns the most jobs that the bounded queue of a pool has room for."""
+    return plan.pools[pool].queue
 
 
 def blocked_total(plan, levels, pool, reached, rank):
@@ -289,7 +317,7 @@ def blocked_total(plan, levels, pool, reached, rank):
             word == "get" and entry.pool == pool and reached[entry.body[what][1]] >= rank for word, what in entry.body
         ]
         needs.append([int(one) for one in counted] + [0])
-    return least_total(plan, levels, [0] * len(plan.classes), needs, plan.pools[pool].core - 1)
+    return least_total(plan, levels, [0] * len(plan.classes), needs, plan.pools[pool].least_threads() - 1)
 
 
 def least_total(plan, levels, queued, needs, limit):
@@ -375,7 +403,7 @@ class Weights:
     def total(self):
         """Returns the weight of the start, or None if there is no vector."""
         numbers = [number for row in self.rows.values() for number in row]
-        total = sum(weight * pool.most for weight, pool in zip(self.workers, self.plan.pools))
+        total = sum(weight * pool.lending_threads() for weight, pool in zip(self.workers, self.plan.pools))
         for client in self.plan.clients:
             nothing = [0] * (len(client.body) + 1)
             start = self.back(client.body, 0, nothing)[0]

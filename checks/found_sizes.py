@@ -3,16 +3,19 @@
 
 For each plan:
 
-- If the plan has a cycle of submits, or a submit without a get that is repeated forever, `fit` names a class of the cycle or such a
-  submit. A submit to a pool with an unbounded queue is no such submit.
+- If the plan has a cycle of submits, a submit without a get that is repeated forever, or a pool whose core threads may time out, and
+  whose last thread may wait for a job of the pool, `fit` names a class of the cycle, such a submit or such a pool. A submit to a pool
+  with an unbounded queue is no such submit.
 - For every other plan `fit` finds sizes, none of which is smaller than the plan's size. (If a submit to a pool with an unbounded queue
-  is repeated forever and never got, `fit` may also print that the sizes are above their limit.)
+  is repeated forever and never got, or if no client causes a job that has a get in a pool whose core threads may time out, `fit` may also
+  print that the sizes are above their limit.)
 - If the second search finds a certificate for the plan, `fit` changes nothing.
 
 For small plans (one or two pools, one client of each client kind), the second search finds no certificate for sizes that grow less
 in total. The check tries all such sizes, if there are not too many.
 
-In half of the plans and in a third of the small ones, queues may be unbounded. Such a pool has only one size, its core.
+In half of the plans and in a third of the small ones, queues may be unbounded. Such a pool has only one size, its core, unless its core
+threads may time out, which they may in two fifths of the plans.
 
     python3 checks/found_sizes.py [PLANS [SMALL_PLANS [SEED]]]     # by default 2,000 plans, 100 small ones and seed 1
 
@@ -29,11 +32,13 @@ sys.dont_write_bytecode = True
 
 from asking import built_program, each, written
 from found_certs import NONE, Plan, Pool, answer, plan_by_chance, text
-from no_sizes import NOTHING_FOUND, causes, loses_jobs
+from small_plans import NO_MAXIMUM
+from steady import MOST_SIZE
+from no_sizes import NOTHING_FOUND, causes, is_unsteady
 from read_plans import read_plan
 
-# The line of a pool. It has no maximum if the queue is unbounded.
-SIZES = re.compile(r"pool \S+: core (\d+)(?: \(now \d+\))?(?:, max (\d+)(?: \(now \d+\))?, queue (\d+)(?: \(now \d+\))?|, queue unbounded)")
+# The line of a pool. It has no maximum if the queue is unbounded, unless core threads may time out.
+SIZES = re.compile(r"pool \S+: core (\d+)(?: \(now \d+\))?(?:, max (\d+|unbounded)(?: \(now \d+\))?)?, queue (\d+|unbounded)(?: \(now \d+\))?")
 # The maximum total growth of a small plan for which all smaller sizes are tried, by the number of its pools.
 MOST_GROWTH = {1: 9, 2: 7}
 
@@ -44,8 +49,8 @@ def main():
     words = [int(word) for word in sys.argv[1:]]
     count, small_count, seed = (words + [2000, 100, 1][len(words):])[:3]
     chance = random.Random(seed)
-    plans = [plan_by_chance(chance, unbounded=number % 2 == 1) for number in range(count)]
-    small = [small_plan(chance, unbounded=number % 3 == 2) for number in range(small_count)]
+    plans = [plan_by_chance(chance, unbounded=number % 2 == 1, timed=number % 5 > 2) for number in range(count)]
+    small = [small_plan(chance, unbounded=number % 3 == 2, timed=number % 5 > 2) for number in range(small_count)]
     wrong = 0
     kinds = {"no sizes help": 0, "as it is": 0, "sizes change": 0}
     for plan, printed in zip(plans, answers(program, plans)):
@@ -86,7 +91,7 @@ def fault_of(plan, printed):
         return "no sizes help", "" if is_expected else f"expected one of {sorted(wanted)}"
     sizes = sizes_in(printed)
     if sizes is None:
-        is_possible = ": sizes above " in printed and loses_jobs(read_plan(text(plan)))
+        is_possible = ": sizes above " in printed and is_unsteady(read_plan(text(plan)))
         return "no sizes help", "" if is_possible else "no sizes"
     if any(now > size for pool, found in zip(plan.pools, sizes) for now, size in zip(sizes_of(pool), found)):
         return "sizes change", "a size falls"
@@ -98,23 +103,35 @@ def fault_of(plan, printed):
 # ---- sizes
 
 def sizes_of(pool):
-    """Returns the core, the maximum and the queue of a pool. The last two are 0 if the queue is unbounded."""
-    return (pool.core, 0, 0) if pool.unbounded else (pool.core, pool.most, pool.queue)
+    """Returns the core, the maximum and the queue of a pool. The queue is 0 if it is unbounded, and then the maximum is 0 too, unless core
+    threads may time out."""
+    return (pool.core, pool.most if pool.core_timeout else 0, 0) if pool.unbounded else (pool.core, pool.most, pool.queue)
 
 
 def sizes_in(printed):
-    found = [(int(core), int(most or 0), int(queue or 0)) for core, most, queue in SIZES.findall(printed)]
+    found = [(int(core), maximum(most), 0 if queue == "unbounded" else int(queue)) for core, most, queue in SIZES.findall(printed)]
     return found if "\nchanges " in printed else None
 
 
+def maximum(words):
+    return NO_MAXIMUM if words == "unbounded" else int(words or 0)
+
+
 def with_sizes(plan, sizes):
-    pools = [Pool(*found, pool.prestart, pool.may_reject, pool.unbounded) for pool, found in zip(plan.pools, sizes)]
+    pools = [Pool(*found, pool.prestart, pool.may_reject, pool.unbounded, pool.core_timeout) for pool, found in zip(plan.pools, sizes)]
     return Plan(pools, plan.classes, plan.clients)
 
 
 def are_possible(plan, sizes):
-    """Returns whether each core is at most its maximum, unless the queue is unbounded, where only the core is a size."""
-    return all(not most and not queue if pool.unbounded else core <= most for pool, (core, most, queue) in zip(plan.pools, sizes))
+    """Returns whether each pool can have these sizes. If the queue is unbounded, only the core is a size, and with core threads that may
+    time out the maximum."""
+    return all(map(is_possible, plan.pools, sizes))
+
+
+def is_possible(pool, sizes):
+    core, most, queue = sizes
+    is_ordered = not most if pool.unbounded and not pool.core_timeout else core <= most <= max(pool.most, MOST_SIZE)
+    return is_ordered and not (pool.unbounded and queue)
 
 
 def growth(plan, sizes):
@@ -143,23 +160,24 @@ def shares(places, total):
             yield (first, *rest)
 
 
-def small_plan(chance, unbounded=False):
+def small_plan(chance, unbounded=False, timed=False):
     """Returns a random plan of one or two small pools that has a certificate with some sizes, but none with its own sizes. If it is
-    unbounded, pools may have unbounded queues."""
+    unbounded, pools may have unbounded queues, and if it is timed, their core threads may time out."""
     while True:
-        plan = plan_by_chance(chance, unbounded=unbounded)
+        plan = plan_by_chance(chance, unbounded=unbounded, timed=timed)
         for client in plan.clients:
             client.count = 1
         plan.pools = [small_pool(pool) for pool in plan.pools]
         if len(plan.pools) <= 2 and answer(plan) == NONE:
             read = read_plan(text(plan))
-            if not causes(read) and not loses_jobs(read):
+            if not causes(read) and not is_unsteady(read):
                 return plan
 
 
 def small_pool(pool):
     core = min(pool.core, 2)
-    return Pool(core, core + min(pool.most - pool.core, 1), min(pool.queue, 2), pool.prestart, pool.may_reject, pool.unbounded)
+    most = pool.most if pool.most == NO_MAXIMUM else core + min(pool.most - pool.core, 1)
+    return Pool(core, most, min(pool.queue, 2), pool.prestart, pool.may_reject, pool.unbounded, pool.core_timeout)
 
 
 if __name__ == "__main__":

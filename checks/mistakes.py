@@ -35,6 +35,8 @@ MISTAKES = [
     ("core_above_max", 2, [(5, "max 4 is less than core 8")]),
     ("misspelled_key", 2, [(12, "unknown key que in [[pool]]; did you mean queue?")]),
     ("java_key", 2, [(4, "use core")]),
+    ("spring_key", 2, [(7, "use core_timeout")]),
+    ("timeout_in_seconds", 2, [(7, "must be true or false, without quotes")]),
     ("missing_key", 2, [(8, "pool db: queue is missing")]),
     ("unknown_pool", 2, [(21, "unknown pool database; the pools are web, db")]),
     ("unknown_class", 2, [(17, "unknown class querry; did you mean query?")]),
@@ -56,6 +58,7 @@ MISTAKES = [
     ("class_nobody_submits", 1, [(36, "warning: class audit is never submitted")]),
     ("pool_without_jobs", 1, [(36, "warning: no job is ever submitted to pool mail")]),
     ("queue_may_grow", 1, [(28, "it may grow until memory is used up")]),
+    ("last_thread_waits", 1, [(7, "its last thread may wait for a job of this pool")]),
     ("empty_file", 1, [(1, "warning: the plan has no pools and no clients")]),
 ]
 SOUND = ["sound", "crlf_and_tab"]

@@ -1,5 +1,6 @@
-"""The reasons why no sizes help a plan, derived from its bodies and from the pools that may reject jobs or have an unbounded queue: a
-cycle of submits, or a submit to another pool that is repeated forever and never got."""
+"""The reasons why no sizes help a plan, derived from its bodies and from the pools that may reject jobs or have an unbounded queue, or
+whose core threads may time out: a cycle of submits, a submit to a pool that needs a bound, which is repeated forever and never got, or a
+pool whose last thread may wait for a job of the same pool."""
 
 # The line of `fit` before the line with the reason.
 NOTHING_FOUND = "no fitting sizes found"
@@ -7,7 +8,7 @@ NOTHING_FOUND = "no fitting sizes found"
 
 def causes(plan):
     """Returns the lines that `fit` may print as the reason why no sizes help the plan. Returns none if some sizes help."""
-    return circles(plan) or never_got(plan)
+    return circles(plan) or never_got(plan) or waits_for_itself(plan)
 
 
 def circles(plan):
@@ -25,6 +26,45 @@ def never_got(plan):
         for name, place, number in repeated_without_get(plan)
         if not needs_no_bound(pool_of(plan, number))
     }
+
+
+def waits_for_itself(plan):
+    """Returns the lines for the pools whose core threads may time out, and whose last thread may wait for a job of the same pool."""
+    return {
+        f"pool {pool.name}: its last thread may wait for a job of this pool, since core threads may time out"
+        for number, pool in enumerate(plan.pools)
+        if any(plan.classes[waited].pool == number for waited in waited_for(plan, number))
+    }
+
+
+def waited_for(plan, pool):
+    """Returns the classes for whose jobs the last thread of a pool may wait: directly, through the gets of these jobs, or because they
+    are queued in a pool whose own last thread waits."""
+    used = submitted(plan, [client.body for client in plan.clients])
+
+    def by_thread(of):
+        jobs = used if plan.pools[of].core_timeout else ()
+        return {got for number in jobs if plan.classes[number].pool == of for got in got_classes(plan, number)}
+
+    found, pending = set(), by_thread(pool)
+    while pending:
+        found |= pending
+        pending = {got for number in pending for got in got_classes(plan, number) | by_thread(plan.classes[number].pool)} - found
+    return found
+
+
+def got_classes(plan, number):
+    body = plan.classes[number].body
+    return {body[place][1] for word, place in body if word == "get"}
+
+
+def is_unsteady(plan):
+    """Returns whether the plan's steady certificate may be refused with all sizes, although sizes exist: a submit is repeated forever and
+    never got, which goes to a pool that needs no bound, or no client causes a job of a class that has a get, and the core threads of its
+    pool may time out."""
+    used = submitted(plan, [client.body for client in plan.clients])
+    unused = [number for number in range(len(plan.classes)) if number not in used and pool_of(plan, number).core_timeout]
+    return loses_jobs(plan) or any(got_classes(plan, number) for number in unused)
 
 
 def loses_jobs(plan):

@@ -3,7 +3,7 @@ the submits that fill them."""
 
 import tomllib
 
-from small_plans import Class, Client, Plan, Pool, without_bound
+from small_plans import NO_MAXIMUM, Class, Client, Plan, Pool, without_bound
 
 
 def read_plan(text):
@@ -23,7 +23,9 @@ def read_plan(text):
 
 
 def read_pool(keys):
-    pool = Pool(keys["name"], keys["core"], keys["max"], keys["queue"], keys.get("prestart", False), keys.get("may_reject", False))
+    flags = {key: keys.get(key, False) for key in ("prestart", "may_reject", "core_timeout")}
+    most = NO_MAXIMUM if keys["max"] == "unbounded" else keys["max"]
+    pool = Pool(keys["name"], keys["core"], most, keys["queue"], **flags)
     return without_bound(pool) if pool.queue == "unbounded" else pool
 
 

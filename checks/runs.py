@@ -3,10 +3,10 @@
 
     python3 checks/runs.py [RUNS [SEED]]     # by default 1,000 runs and seed 1
 
-A plan has 1 to 64 clients, and pools with 1 to 64 threads in total, some of them with unbounded queues. If `sizing certify` finds a certificate, the program runs the
-plan for a number of rounds within the limits of a run. The run must end within ten seconds, with the numbers of jobs and units that
-this check computes from the bodies alone. If the number of rounds is too large for the plan, the program must return a fault.
-README.md describes how about half of the runs are disturbed.
+A plan has 1 to 64 clients, and pools with 1 to 64 threads in total, some of them with unbounded queues, and some with core threads that
+may time out. If `sizing certify` finds a certificate, the program runs the plan for a number of rounds within the limits of a run. The
+run must end within ten seconds, with the numbers of jobs and units that this check computes from the bodies alone. If the number of
+rounds is too large for the plan, the program must return a fault. README.md describes how about half of the runs are disturbed.
 
 The program is crates/sizing/out/sizing, or the one that the environment variable SIZING names.
 
@@ -26,7 +26,7 @@ sys.dont_write_bytecode = True
 
 from found_certs import body_by_chance
 from refused_growths import Unable, built, compile_object
-from small_plans import Class, Client, Plan, Pool, run, text_of, without_bound
+from small_plans import NO_MAXIMUM, Class, Client, Plan, Pool, run, text_of, without_bound
 
 MOST_CLIENTS = 64
 MOST_CARRIERS = 64
@@ -147,7 +147,12 @@ class Numbers:
 
 
 def threads_of(plan):
-    return sum(client.count for client in plan.clients) + sum(pool.max for pool in plan.pools)
+    return sum(client.count for client in plan.clients) + sum(map(carriers_of, plan.pools))
+
+
+def carriers_of(pool):
+    """Returns the number of threads of a pool in a run: its maximum, or its core if it has none."""
+    return pool.core if pool.max == NO_MAXIMUM else pool.max
 
 
 def plan_by_chance(chance):
@@ -176,8 +181,11 @@ def parts(chance, whole, most):
 def pool_by_chance(chance, threads, clients):
     core = chance.choice([threads, chance.randint(1, threads)])
     queue = chance.choice([1, 2, clients, 3 * clients, 10 * clients])
-    pool = Pool("", core, threads, queue, chance.random() < 0.2)
-    return without_bound(pool) if chance.random() < 0.2 else pool
+    pool = Pool("", core, threads, queue, chance.random() < 0.2, core_timeout=chance.random() < 0.2)
+    if chance.random() >= 0.2:
+        return pool
+    most = NO_MAXIMUM if pool.core_timeout and chance.random() < 0.5 else threads
+    return without_bound(pool._replace(max=most))
 
 
 def body(chance, classes):

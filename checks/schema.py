@@ -38,6 +38,8 @@ SCHEMA = {
     "plural_table": "",
     "misspelled_key": "pool.1",
     "java_key": "pool.0",
+    "spring_key": "pool.0",
+    "timeout_in_seconds": "pool.0.core_timeout",
     "missing_key": "pool.1",
     "count_missing": "client.0",
     "quoted_number": "pool.1.core",
@@ -82,6 +84,7 @@ BEYOND = {
     "class_nobody_submits": VALID,
     "pool_without_jobs": VALID,
     "queue_may_grow": VALID,
+    "last_thread_waits": VALID,
     "empty_file": VALID,
 }
 
@@ -118,8 +121,8 @@ BODIES = [
 
 # The two kinds of changes that concern a queue of 0: may_reject beside a queue of 0, and the queue beside may_reject = true.
 SYNCHRONOUS, REJECTING = "may_reject beside queue 0", "queue beside may_reject"
-# The kind of changes that concerns an unbounded queue: the maximum beside it.
-UNBOUNDED = "max beside queue unbounded"
+# The kinds of changes that concern an unbounded queue: the maximum beside it, without and with core_timeout.
+UNBOUNDED, TIMED = "max beside queue unbounded", "max beside queue unbounded and core_timeout"
 TEXTS = ['"unbounded"', '"Unbounded"', '"unbounded "', '"unbounded\\n"', '""', '["unbounded"]']
 
 # The boundaries at which the schema accepts a plan that has a fault for `sizing ask`, each with the reason.
@@ -129,6 +132,7 @@ DIFFERENT = {
     ("pool", "queue", "1.0"): "1.0 is an integer in JSON Schema, and not in TOML",
     ("pool", REJECTING, "1.0"): "1.0 is an integer in JSON Schema, and not in TOML",
     ("pool", UNBOUNDED, "1.0"): "1.0 is an integer in JSON Schema, and not in TOML",
+    ("pool", TIMED, "1.0"): "1.0 is an integer in JSON Schema, and not in TOML",
     ("client", "count", "1.0"): "1.0 is an integer in JSON Schema, and not in TOML",
 }
 
@@ -169,12 +173,13 @@ def boundaries():
     """Yields the plans at the boundaries of each rule: the table, the key, the value of the key, and the text of the plan."""
     sizes = (("pool", "core"), ("pool", "max"), ("pool", "queue"), ("client", "count"))
     changes = [(table, key, value) for table, key in sizes for value in NUMBERS]
-    changes += [("pool", key, value) for key in ("core", "max", "queue", REJECTING, UNBOUNDED) for value in TEXTS]
-    changes += [("pool", UNBOUNDED, value) for value in [*NUMBERS, None]]
+    changes += [("pool", key, value) for key in ("core", "max", "queue", REJECTING, UNBOUNDED, TIMED) for value in TEXTS]
+    changes += [("pool", key, value) for key in (UNBOUNDED, TIMED) for value in [*NUMBERS, "268435455", None]]
     changes += [(table, "name", value) for table in BASE for value in NAMES]
     changes += [("client", "body", value) for value in BODIES]
     changes += [("pool", "prestart", "true"), ("pool", "prestart", "1"), ("pool", "note", '"x"'), ("client", "repeat", '"yes"')]
-    changes += [("pool", "may_reject", "true"), ("pool", "may_reject", "1"), ("pool", "may_reject", '"true"'), ("class", "may_reject", "true")]
+    for flag in ("core_timeout", "may_reject"):
+        changes += [("pool", flag, value) for value in ("true", "false", "1", '"true"')] + [("class", flag, "true")]
     changes += [("pool", SYNCHRONOUS, value) for value in ("true", "false", None, "0", '"true"')] + [("pool", REJECTING, value) for value in NUMBERS]
     changes += [(table, key, None) for table, keys in BASE.items() for key in keys]
     for table, key, value in changes:
@@ -183,8 +188,9 @@ def boundaries():
             plan[table] |= {"queue": "0"} | ({} if value is None else {"may_reject": value})
         elif key == REJECTING:
             plan[table] |= {"queue": value, "may_reject": "true"}
-        elif key == UNBOUNDED:
+        elif key in (UNBOUNDED, TIMED):
             plan[table] = {name: text for name, text in plan[table].items() if name != "max"} | {"queue": '"unbounded"'}
+            plan[table] |= {"core_timeout": "true"} if key == TIMED else {}
             plan[table] |= {} if value is None else {"max": value}
         elif value is None:
             del plan[table][key]

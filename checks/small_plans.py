@@ -33,18 +33,23 @@ SECONDS = 120
 # The queue of a pool whose queue is unbounded. The number has no effect.
 NO_CAPACITY = 1_000_000
 
-Pool = namedtuple("Pool", "name core max queue prestart may_reject unbounded", defaults=[False, False])
+# The maximum of a pool that has none: its core threads may time out, its queue is unbounded, and the plan gives no maximum.
+NO_MAXIMUM = 268_435_455
+
+Pool = namedtuple("Pool", "name core max queue prestart may_reject unbounded core_timeout", defaults=[False, False, False])
 Class = namedtuple("Class", "name pool body")
 Client = namedtuple("Client", "name count repeat body")
 Plan = namedtuple("Plan", "pools classes clients")
 
 # An action is ("work", units), ("submit", class) or ("get", position of its submit). The phase of a job is QUEUED, DONE or a position.
 QUEUED, DONE = "queued", "done"
+# The answers of a pool to a submit, besides QUEUED.
+STARTED, REFUSED = "started", "refused"
 # A job that a later event can name. Its maker is ("client", number), ("job", number), or None if no actor can get the job any longer.
 Job = namedtuple("Job", "kind maker slot phase")
 # A state: the idle workers and the queue of each pool, the position of each client, and the jobs with their numbers, in the order of
-# their creation.
-State = namedtuple("State", "idle queues clients jobs")
+# their creation. The last two are empty if each submit is one event (java_steps.py).
+State = namedtuple("State", "idle queues clients jobs calls looking", defaults=[(), ()])
 
 
 class Machine:
@@ -67,6 +72,11 @@ class Machine:
     def threads(self, state, pool):
         return state.idle[pool] + sum(1 for _, job in state.jobs if at_work(job) and self.pool_of(job) == pool)
 
+    def has_spare_thread(self, state, number):
+        """Returns whether the pool has more threads than it keeps: core threads or, if these may time out, one while a job is queued."""
+        pool, threads = self.plan.pools[number], self.threads(state, number)
+        return threads > pool.core or pool.core_timeout and (threads > 1 or not state.queues[number])
+
     def pool_of(self, job):
         return self.plan.classes[job.kind].pool
 
@@ -78,12 +88,11 @@ class Machine:
                 return None
             taken = state.queues[number][0]
             jobs = changed(state.jobs, taken, phase=0)
-            return State(less_at(state.idle, number), put(state.queues, number, state.queues[number][1:]), state.clients, jobs), f"took job {taken}"
+            queues = put(state.queues, number, state.queues[number][1:])
+            return state._replace(idle=less_at(state.idle, number), queues=queues, jobs=jobs), f"took job {taken}"
         if word == "retire":
             pool = self.plan.pools[number]
-            if not state.idle[number] or self.threads(state, number) <= pool.core:
-                return None
-            if len(state.queues[number]) > queue_limit(pool.queue, state.idle[number] - 1):
+            if not self.has_spare_thread(state, number) or not has_spare_worker(pool, state, number):
                 return None
             return state._replace(idle=less_at(state.idle, number)), "retired"
         return self.act(state, event, new_number)
@@ -118,12 +127,22 @@ class Machine:
 
     def submit(self, state, actor, position, kind, number):
         of = self.plan.classes[kind].pool
-        pool = self.plan.pools[of]
-        threads = self.threads(state, of)
-        room = pool.unbounded or len(state.queues[of]) < queue_limit(pool.queue, state.idle[of])
+        pool, threads, room = self.plan.pools[of], self.threads(state, of), self.has_room(state, of)
         if threads < pool.core or (not room and threads < pool.max):
+            return self.answered(state, actor, position, kind, number, STARTED)
+        return self.answered(state, actor, position, kind, number, QUEUED if room else REFUSED)
+
+    def has_room(self, state, of):
+        pool = self.plan.pools[of]
+        return pool.unbounded or len(state.queues[of]) < queue_limit(pool.queue, state.idle[of])
+
+    def answered(self, state, actor, position, kind, number, answer):
+        """Returns the state after the job's pool gave this answer to a submit, and the outcome."""
+        of = self.plan.classes[kind].pool
+        pool = self.plan.pools[of]
+        if answer == STARTED:
             phase, queues, outcome = 0, state.queues, f"started job {number}"
-        elif room:
+        elif answer == QUEUED:
             phase, queues, outcome = QUEUED, put(state.queues, of, state.queues[of] + (number,)), f"queued job {number}"
         elif pool.may_reject:
             phase, queues, outcome = DONE, state.queues, f"rejected by {pool.name} as job {number}"
@@ -184,9 +203,17 @@ def queue_limit(capacity, idle):
     return capacity or idle
 
 
+def has_spare_worker(pool, state, number):
+    """Returns whether some worker of the pool is idle, and was handed no job."""
+    idle = state.idle[number]
+    return idle > 0 and (pool.unbounded or len(state.queues[number]) <= queue_limit(pool.queue, idle - 1))
+
+
 def without_bound(pool):
-    """Returns the pool with an unbounded queue. No thread above core ever starts over such a queue, so its maximum is core."""
-    return pool._replace(max=pool.core, queue=NO_CAPACITY, unbounded=True)
+    """Returns the pool with an unbounded queue. Unless core threads may time out, no thread above core ever starts over such a queue, so
+    its maximum is core."""
+    most = pool.max if pool.core_timeout else pool.core
+    return pool._replace(max=most, queue=NO_CAPACITY, unbounded=True)
 
 
 def at_work(job):
@@ -217,12 +244,15 @@ def renamed(state):
         return ("job", names[job.maker[1]]) if job.maker and job.maker[0] == "job" else job.maker
 
     queues = tuple(tuple(names[number] for number in queue) for queue in state.queues)
-    return state._replace(queues=queues, jobs=tuple((names[number], job._replace(maker=maker(job))) for number, job in state.jobs))
+    calls = tuple(sorted(((word, names[number] if word == "job" else number), step) for (word, number), step in state.calls))
+    return state._replace(
+        queues=queues, jobs=tuple((names[number], job._replace(maker=maker(job))) for number, job in state.jobs), calls=calls
+    )
 
 
-def explored(plan):
+def explored(plan, machine=None):
     """Visits the states of a plan. Returns their number, the fault of a bad state or None, and whether there are too many states."""
-    machine = Machine(plan)
+    machine = machine or Machine(plan)
     most = min(MOST_STATES, MOST_STATES_OF_A_GROWING_QUEUE if grows(plan) else MOST_STATES)
     first = renamed(machine.start())
     seen, front = {first}, [first]
@@ -238,7 +268,7 @@ def explored(plan):
             after, outcome = done
             if outcome.startswith("refused"):
                 return len(seen), f"{outcome} in {state}", False
-            goes_on = goes_on or event[0] in ("job", "take")
+            goes_on = goes_on or event[0] in ("job", "take", "leave", "spare")
             after = renamed(after)
             if after not in seen:
                 seen.add(after)
@@ -287,6 +317,23 @@ def plans():
     others = [pool for pool in pools if pool.queue < 2]
     for both, repeat in itertools.product([*itertools.product(unbounded, [*unbounded, *others]), *itertools.product(others, unbounded)], (False, True)):
         yield from plans_of_two([pool._replace(name=name) for pool, name in zip(both, "pq")], repeat, True)
+    yield from plans_with_timeouts()
+
+
+def plans_with_timeouts():
+    """Yields plans in which core threads of the pool, or of one of two pools or of both, may time out."""
+    bounded = [Pool("p", *sizes, first, core_timeout=True) for sizes in ((1, 1, 1), (1, 2, 1), (2, 2, 3)) for first in (False, True)]
+    synchronous = Pool("p", 1, 2, 0, False, True, core_timeout=True)
+    unbounded = [
+        without_bound(Pool("p", core, most, 1, first, core_timeout=True))
+        for core, most, first in ((1, 1, False), (1, 2, True), (2, 2, True), (2, NO_MAXIMUM, False))
+    ]
+    timed = [*bounded, synchronous, *unbounded]
+    yield from plans_of_one(timed)
+    others = [Pool("p", 1, 2, 1, False), Pool("p", 2, 2, 3, True), without_bound(Pool("p", 2, 2, 1, False))]
+    few = [bounded[2], bounded[5], *unbounded[1:]]
+    for both, repeat in itertools.product([*itertools.product(few, [*few, *others]), *itertools.product(others, few)], (False, True)):
+        yield from plans_of_two([pool._replace(name=name) for pool, name in zip(both, "pq")], repeat, True)
 
 
 def plans_of_one(pools):
@@ -318,9 +365,7 @@ def with_rejections(pool, is_synchronous):
 def text_of(plan):
     lines = []
     for pool in plan.pools:
-        lines += ["[[pool]]", f'name = "{pool.name}"', *size_lines(pool.core, pool.max, pool.queue, pool.unbounded)]
-        lines += ["prestart = true"] if pool.prestart else []
-        lines += ["may_reject = true"] if pool.may_reject else []
+        lines += ["[[pool]]", f'name = "{pool.name}"', *size_lines(pool, pool.max), *flag_lines(pool)]
     for one in plan.classes:
         lines += ["[[class]]", f'name = "{one.name}"', f'pool = "{plan.pools[one.pool].name}"', f"body = {body_text(plan, one.body)}"]
     for client in plan.clients:
@@ -329,12 +374,22 @@ def text_of(plan):
     return "\n".join(lines) + "\n"
 
 
-def size_lines(core, most, queue, unbounded):
-    """Returns the lines of a plan with the sizes of a pool. Beside an unbounded queue the maximum has no effect, so for an even core it is
-    above core, and otherwise it is unbounded too."""
-    if unbounded:
-        most, queue = ('"unbounded"' if core % 2 else core + 7), '"unbounded"'
-    return [f"core = {core}", f"max = {most}", f"queue = {queue}"]
+def size_lines(pool, most):
+    """Returns the lines of a plan with the sizes of a pool that has at most this number of threads. Beside an unbounded queue the maximum
+    has no effect unless core threads may time out, so for an even core it is above core, and otherwise it is unbounded too."""
+    queue = pool.queue
+    if pool.unbounded:
+        queue = '"unbounded"'
+        if not pool.core_timeout:
+            most = '"unbounded"' if pool.core % 2 else pool.core + 7
+        elif most == NO_MAXIMUM:
+            most = '"unbounded"'
+    return [f"core = {pool.core}", f"max = {most}", f"queue = {queue}"]
+
+
+def flag_lines(pool):
+    """Returns the lines of a plan with the keys of a pool that are true."""
+    return [f"{key} = true" for key in ("prestart", "core_timeout", "may_reject") if getattr(pool, key)]
 
 
 def body_text(plan, body):

@@ -3,10 +3,13 @@
 the crates.
 
 The random plans are those for which the second search of found_certs.py finds no certificate. In a third of them, pools may reject
-jobs, which is no refusal. In half of them, queues may be unbounded. For each of them:
+jobs, which is no refusal. In half of them, queues may be unbounded. In two fifths of them, core threads of pools may time out. For each
+of them:
 
 - Each event of a witness is possible, and only the last event may be a refused submit. If it is not, the named jobs are unfinished
   and wait only for each other after it.
+- If core threads may time out and `refute` says that the jobs wait forever, each pool in whose queue one of them waits has at least
+  core threads. With fewer, a further submit starts a thread.
 - If `refute` says that the plan is safe, and the plan has few states, no state of it is bad.
 - If `refute` does not decide, it reports at most as many searched states as requested.
 
@@ -37,6 +40,7 @@ from small_plans import DONE, Machine, explored
 
 SAFE, OPEN = 0, 4
 OPEN_NOW = "open"
+BELOW_CORE = "stuck below core"
 # The maximum number of states of a plan without a witness that are visited.
 small_plans.MOST_STATES = 3_000
 
@@ -99,7 +103,8 @@ def judged(program, plan, states):
         copied, _, rest = said.partition("\n%%\n")
         if copied.rstrip("\n") != plan.rstrip("\n"):
             return "witness", 0, "the plan is another one"
-        return replayed(plan, rest.split("\n") if rest else [])
+        kind, length, fault = replayed(plan, rest.split("\n") if rest else [])
+        return kind, length, fault or (kind == BELOW_CORE and fault_of_ending(program, plan, states)) or None
     status, said = refuted(program, plan, states)
     if status not in (SAFE, OPEN):
         return "no witness", 0, f"status {status}: {said}"
@@ -107,6 +112,12 @@ def judged(program, plan, states):
     reported = "reported safe" if status == SAFE else OPEN_NOW
     found = "not safe here" if bad else "too many states here" if cut else "safe here"
     return f"{reported}, {found}", 0, bad if status == SAFE else miscounted(said, states)
+
+
+def fault_of_ending(program, plan, states):
+    """Returns the fault of an answer that jobs wait forever although a submit may start a thread, or None."""
+    said = refuted(program, plan, states)[1].partition("\n")[0]
+    return f"it says {said!r}, but a submit may start a core thread" if said.startswith("stuck forever") else None
 
 
 def miscounted(said, states):
@@ -150,8 +161,15 @@ def replayed(text_of_plan, lines):
         return "refused", len(lines), None if outcome.startswith("refused") else "nothing is refused"
     if not wait_for_each_other(machine, state, members):
         return "stuck", len(lines), "the jobs do not wait only for each other"
-    is_full = all(machine.threads(state, of) == plan.pools[of].max for of in queued_in(machine, state, members))
-    return "stuck, pools at max" if is_full else "stuck below max", len(lines), None
+    return kind_of([(plan.pools[of], machine.threads(state, of)) for of in queued_in(machine, state, members)]), len(lines), None
+
+
+def kind_of(pools):
+    """Returns the kind of a witness, from the pools in whose queues members wait, each with its number of threads."""
+    if any(threads < pool.core for pool, threads in pools):
+        return BELOW_CORE
+    is_full = all(threads == pool.max or pool.unbounded for pool, threads in pools)
+    return "stuck, pools full" if is_full else "stuck below max"
 
 
 def wait_for_each_other(machine, state, members):

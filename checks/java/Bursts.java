@@ -22,7 +22,7 @@ final class Bursts {
             for (int at = 0; at < words.length; at++) {
                 numbers[at] = words[at].matches("\\d+") ? Integer.parseInt(words[at]) : 0;
             }
-            Plan.Pool pool = new Plan.Pool("p", numbers[1], numbers[2], numbers[3], words[4].equals("true"), false);
+            Plan.Pool pool = new Plan.Pool("p", numbers[1], numbers[2], numbers[3], words[4].equals("true"), false, false);
             return new Burst(pool, words[0], numbers[5], numbers[6], words[7].equals("true"), words[8].equals("true"), words[9].equals("true"),
                     Double.parseDouble(words[10]), numbers[11], words[12].equals("true"));
         }

@@ -1,13 +1,17 @@
 import java.util.List;
 import java.util.concurrent.BlockingQueue;
+import java.util.concurrent.CopyOnWriteArrayList;
 import java.util.concurrent.ThreadPoolExecutor;
 import java.util.concurrent.TimeUnit;
 
 /** An executor for a pool of a plan, whose queue has a gate that the driver controls. */
 final class GatedPool {
+    /** The keep-alive of core threads that may time out, in microseconds, once no driver ends it. */
+    private static final int SHORT = 20;
     final Plan.Pool pool;
     final Gate gate;
     private final BlockingQueue<Runnable> queue;
+    private final List<Thread> own = new CopyOnWriteArrayList<>();
     final ThreadPoolExecutor executor;
 
     GatedPool(Plan.Pool pool, String kind, List<Thread> threads) throws InterruptedException {
@@ -20,12 +24,22 @@ final class GatedPool {
             Thread thread = new Thread(work);
             thread.setDaemon(true);
             threads.add(thread);
+            own.add(thread);
             return thread;
         });
+        executor.allowCoreThreadTimeOut(pool.coreTimeout());
         if (pool.prestart()) {
             executor.prestartAllCoreThreads();
             gate.awaitIdle(pool.core());
         }
+    }
+
+    /** Lets all threads take jobs. If core threads may time out, the keep-alive is short. */
+    void open() {
+        if (pool.coreTimeout()) {
+            executor.setKeepAliveTime(SHORT, TimeUnit.MICROSECONDS);
+        }
+        gate.open();
     }
 
     /** Returns whether the job is in the queue, or an idle thread was handed it and has not taken it yet. */
@@ -35,6 +49,16 @@ final class GatedPool {
 
     int queued() {
         return queue.size() + gate.held();
+    }
+
+    /** Waits until each thread that the pool let end has ended: it may look at the pool until then. */
+    void awaitEnded() throws InterruptedException {
+        Rest.await(() -> own.stream().filter(Thread::isAlive).count() == executor.getPoolSize());
+    }
+
+    /** Waits until each thread that runs none of this number of jobs is idle. */
+    void awaitIdle(long running) throws InterruptedException {
+        Rest.await(() -> gate.idle() + running == executor.getPoolSize());
     }
 
     /** Returns the executor's own counts, and how many of its threads wait at the gate. */

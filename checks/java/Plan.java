@@ -4,7 +4,7 @@ import java.util.List;
 
 /** A plan as the Python side writes it: a line for each pool, class and client, with numbers in place of names. */
 record Plan(List<Pool> pools, List<Kind> classes, List<Kind> clients) {
-    record Pool(String name, int core, int max, int queue, boolean prestart, boolean mayReject) {
+    record Pool(String name, int core, int max, int queue, boolean prestart, boolean mayReject, boolean coreTimeout) {
         /** Returns whether the queue is unbounded: its capacity is that of a {@code LinkedBlockingQueue} that is made without one. */
         boolean isUnbounded() {
             return queue == Integer.MAX_VALUE;
@@ -24,7 +24,7 @@ record Plan(List<Pool> pools, List<Kind> classes, List<Kind> clients) {
             String[] words = line.split(" ");
             switch (words[0]) {
                 case "pool" -> plan.pools.add(new Pool(words[1], Integer.parseInt(words[2]), Integer.parseInt(words[3]),
-                        Integer.parseInt(words[4]), Boolean.parseBoolean(words[5]), Boolean.parseBoolean(words[6])));
+                        Integer.parseInt(words[4]), Boolean.parseBoolean(words[5]), Boolean.parseBoolean(words[6]), Boolean.parseBoolean(words[7])));
                 case "class" -> plan.classes.add(kind(words));
                 case "client" -> plan.clients.add(kind(words));
                 default -> throw new IllegalArgumentException(line);

@@ -125,10 +125,19 @@ final class Replay {
     private String submitted(Job job) throws InterruptedException {
         job.number = jobs.size();
         jobs.add(job);
-        if (poolOf(job.of).isQueued(job)) {
+        GatedPool pool = poolOf(job.of);
+        if (pool.isQueued(job)) {
+            // the pool had no thread if core threads may time out, and the submit has started one
+            if (pool.pool.coreTimeout() && pool.executor.getPoolSize() == 1) {
+                pool.awaitIdle(running(pool));
+            }
             return "queued job " + job.number;
         }
         return began(job) ? "started job " + job.number : "lost job " + job.number;
+    }
+
+    private long running(GatedPool pool) {
+        return jobs.stream().filter(job -> poolOf(job.of) == pool && runs(job)).count();
     }
 
     private static boolean began(Job job) throws InterruptedException {
@@ -168,7 +177,11 @@ final class Replay {
     }
 
     private String retire(GatedPool pool) throws InterruptedException {
-        return pool.gate.idle() > 0 && pool.gate.timeOut(pool.executor) ? "retired" : NOT_POSSIBLE;
+        if (pool.gate.idle() == 0 || !pool.gate.timeOut(pool.executor)) {
+            return NOT_POSSIBLE;
+        }
+        pool.awaitEnded();
+        return "retired";
     }
 
     // ---- what is seen of the executors
@@ -217,7 +230,7 @@ final class Replay {
         jobs.add(job);
     }
 
-    /** Lets jobs and threads run until the pools are idle or no thread makes progress. */
+    /** Lets jobs and threads run until the pools are idle or no thread makes progress. Core threads that may time out soon do. */
     String runFree(double part) throws InterruptedException {
         leaves = part;
         free = true;
@@ -226,7 +239,7 @@ final class Replay {
                 job.send(Actor.Order.RUN_FREE);
             }
         }
-        pools.forEach(pool -> pool.gate.open());
+        pools.forEach(GatedPool::open);
         int still = 0;
         for (long turns = 0; unfinished() > 0 && still < 100; turns++) {
             Rest.within(turns);

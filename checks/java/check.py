@@ -1,8 +1,8 @@
 #!/usr/bin/env python3
 """Compares unmodified executors of java.util.concurrent with the plans, the rules of docs/GUIDE.md and the promises.
 
-    python3 checks/java/check.py [PART ..]     # replays, interleavings, bursts, loops, permits, facts,
-                                               # services, learned; all by default
+    python3 checks/java/check.py [PART ..]     # replays, interleavings, bursts, loops, timeouts, permits,
+                                               # facts, services, learned; all by default
 
 README.md describes the parts. Each part must also find deliberate errors. The check needs a JDK, which is the one in JAVA_HOME if
 that is set. Without a JDK it prints a line that says so, and checks nothing.
@@ -32,12 +32,13 @@ import loops
 import permits
 import replays
 import services
+import timeouts
 from refused_growths import Unable, built
 
 PARTS = {"replays": replays.part, "interleavings": interleavings.part, "bursts": bursts.part, "loops": loops.part,
-         "permits": permits.part, "facts": facts.part, "services": services.part, "learned": learned.part}
+         "timeouts": timeouts.part, "permits": permits.part, "facts": facts.part, "services": services.part, "learned": learned.part}
 # The parts that need the program.
-ASKING = {"replays", "learned"}
+ASKING = {"replays", "timeouts", "learned"}
 LIBRARY = HERE.parent.parent / "java" / "sizing-recorder" / "src" / "main" / "java" / "sizing"
 SECONDS = 1800
 

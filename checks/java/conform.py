@@ -20,11 +20,14 @@ sys.path.insert(0, str(Path(__file__).resolve().parent.parent))
 
 from read_plans import read_plan
 from recording import read
+from small_plans import NO_MAXIMUM
 
 
 # The greatest number in a name NAME_2, NAME_3, and so on, which is that of every number in a recording. The capacity of an unbounded queue
 # is written so.
 MAX_NUMBER = 1_000_000_000
+# The greatest size of a plan that is a number. A recorded maximum above it is that of a pool without a maximum.
+MAX_SIZE = 1_000_000
 # The sorts of findings, in the order in which those of one line come.
 POOLS, LABELS, PATHS, COUNTS, GETS, VOIDS = range(6)
 
@@ -331,17 +334,22 @@ def differences(sizes, pool, is_first):
     """Yields the differences between a line of the pool and the plan. The number of prestarted threads counts only in the first line."""
     if sizes.core != pool.core:
         yield f"core {sizes.core}, plan {pool.core}"
-    # the maximum has no effect over an unbounded queue
-    if not pool.unbounded and sizes.max != pool.max:
-        yield f"max {sizes.max}, plan {pool.max}"
+    # the maximum has no effect over an unbounded queue, unless core threads may time out
+    if (not pool.unbounded or pool.core_timeout) and not is_maximum(sizes.max, pool):
+        yield f"max {sizes.max}, plan {'unbounded' if pool.max == NO_MAXIMUM else pool.max}"
     if sizes.kind not in kinds_of(pool):
         yield f"queue of another kind ({sizes.kind})"
     if sizes.queue != (MAX_NUMBER if pool.unbounded else pool.queue):
         yield f"queue {sizes.queue}, plan {'unbounded' if pool.unbounded else pool.queue}"
-    if sizes.timeout:
-        yield "core threads may time out"
+    if sizes.timeout != pool.core_timeout:
+        yield "core threads may time out" if sizes.timeout else "core threads never time out, plan core_timeout = true"
     if is_first and sizes.prestarted != (pool.core if pool.prestart else 0):
         yield f"{sizes.prestarted} threads prestarted, plan {pool.core if pool.prestart else 0}"
+
+
+def is_maximum(recorded, pool):
+    """Returns whether a recorded maximum is that of the pool."""
+    return recorded > MAX_SIZE if pool.max == NO_MAXIMUM else recorded == pool.max
 
 
 def kinds_of(pool):

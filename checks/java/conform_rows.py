@@ -15,6 +15,8 @@ pool = [{name = "p", core = 1, max = 1, queue = 2}]
 class = [{name = "a", pool = "p", body = ["work 1", "submit b as x", "get x"]}, {name = "b", pool = "p", body = []}]
 client = [{name = "c", count = 1, repeat = true, body = ["submit a as x", "get x", "submit b as y", "get y"]}]
 """
+TIMED = PLAN.replace("queue = 2", "queue = 2, core_timeout = true")
+WITHOUT_MAXIMUM = PLAN.replace("max = 1, queue = 2", 'max = "unbounded", queue = "unbounded", core_timeout = true')
 ONCE = PLAN.replace("repeat = true", "repeat = false")
 TWO_PATHS = PLAN.replace('class = [', 'class = [{name = "a_2", pool = "p", body = ["submit b as x", "submit b as y", "get y", "get x"]}, ').replace(
     '"submit b as y", "get y"]}]', '"submit a_2 as y", "get y"]}]')
@@ -127,6 +129,19 @@ ROWS = [
     ("prestarted in a further line", PLAN, [POOL.replace("prestarted 0", "prestarted 1")], [], []),
     ("another handler", PLAN, [POOL.replace("abort", "discard")], [], []),
     ("core threads that may time out", PLAN, [POOL.replace("timeout no", "timeout yes")], ["line 3: pool p: core threads may time out"], []),
+    ("a plan whose core threads may time out", TIMED, [POOL.replace("timeout no", "timeout yes")],
+     ["line 2: pool p: core threads never time out, plan core_timeout = true"], []),
+    ("both in a plan with a capacity", TIMED, [POOL.replace("timeout no", "timeout yes").replace("max 1", "max 2")],
+     ["line 2: pool p: core threads never time out, plan core_timeout = true", "line 3: pool p: max 2, plan 1"], []),
+    ("a plan without a maximum", WITHOUT_MAXIMUM,
+     [f"pool p core 1 max {max} queue linked 1000000000 timeout yes prestarted 0 handler abort" for max in (1_000_000_000, 1_000_001, 1_000_000, 1)],
+     ["line 2: pool p: max 1, plan unbounded", "line 2: pool p: queue of another kind (array)", "line 2: pool p: queue 2, plan unbounded",
+      "line 2: pool p: core threads never time out, plan core_timeout = true", "line 5: pool p: max 1000000, plan unbounded"], []),
+    ("a plan with a maximum that has an effect", WITHOUT_MAXIMUM.replace('max = "unbounded"', "max = 3"),
+     [f"pool p core 1 max {max} queue linked 1000000000 timeout yes prestarted 0 handler abort" for max in (3, 2, 1_000_000_000)],
+     ["line 2: pool p: max 1, plan 3", "line 2: pool p: queue of another kind (array)", "line 2: pool p: queue 2, plan unbounded",
+      "line 2: pool p: core threads never time out, plan core_timeout = true", "line 4: pool p: max 2, plan 3",
+      "line 5: pool p: max 1000000000, plan 3"], []),
     ("a synchronous queue", PLAN, [POOL.replace("array 2", "synchronous 0")],
      ["line 3: pool p: queue of another kind (synchronous)", "line 3: pool p: queue 0, plan 2"], []),
     ("a plan with a queue of 0", PLAN.replace("queue = 2", "queue = 0, may_reject = true"), [POOL.replace("array 2", "synchronous 0")],

@@ -42,6 +42,15 @@ About pools over a `LinkedBlockingQueue` without a capacity, which is the unboun
   after `shutdown`. With core 0 one thread starts.
 - If each of the n core threads runs a job that submits a job to the pool and gets it, all of them wait forever. A pool with n - 1
   such jobs at a time serves all rounds. Over a bounded queue that is full, a thread above core helps.
+
+About pools whose core threads may time out. Most have the sizes of Spring Boot's executor:
+
+- A submit compares the number of threads with core, and then offers the job. If the time of all idle threads ends in between, they end
+  although a job is queued, as long as another thread is left. If that one runs a job that gets the queued one, it waits forever, or until
+  a further submit starts a thread, since there are fewer than core. It does not wait if the inner job has a pool of its own.
+- The last thread does not end while a job is queued. If it ends before the offer, the submit that made the offer starts a thread.
+- A submit that made an offer and a thread that ends may each find no thread and a queued job, and then each starts one. So over any
+  queue a pool may have a thread above core. Over a queue of 1, core 1 and max 2 then refuse the third job.
 """
 
 EXECUTORS = {
@@ -112,8 +121,25 @@ UNBOUNDED_QUEUES = {
     "caller runs over a queue of 100": "by the caller 9900, queued 100",
     "a submit after shutdown": "accepted before true, after false",
 }
+WAITS = "outer done false, threads 1, at work 1, queued 1; after a further submit done true"
+CORE_TIMEOUTS = {
+    "core 8, 2 jobs, threads end before the offer": WAITS,
+    "core 8, 2 jobs, threads end after the offer": WAITS,
+    "core 8, 2 jobs, no core timeout": "outer done true",
+    "core 8, 2 jobs, queue 100": WAITS,
+    "core 8, 2 jobs, queue 100, no core timeout": "outer done true",
+    "core 8, 2 jobs in two pools, threads end before the offer": "outer done true",
+    "core 8, 2 jobs in two pools, threads end after the offer": "outer done true",
+    "core 1, the thread ends before the offer": "done true, by another thread true",
+    "core 1, the time of the thread ends before the offer": "done true, by another thread false",
+    "core 1, max 2, queue without a capacity": "threads 2, queued 1",
+    "core 1, max 1, queue without a capacity": "threads 1, queued 1",
+    "core 1, max 2, queue 1, 3 jobs": "threads 2, queued 1, a further job refused",
+    "core 1, max 2, queue 1, 3 jobs, no core timeout": "served served served",
+}
 # The facts, by the program that prints them.
-BY_HAND = {"Facts": EXECUTORS, "Rejections": REJECTIONS, "HandOvers": HAND_OVERS, "UnboundedQueues": UNBOUNDED_QUEUES}
+BY_HAND = {"Facts": EXECUTORS, "Rejections": REJECTIONS, "HandOvers": HAND_OVERS, "UnboundedQueues": UNBOUNDED_QUEUES,
+           "CoreTimeouts": CORE_TIMEOUTS}
 # Pairs that differ only in the cause of a fact, so their outcomes must differ.
 PAIRS = (("prestarted late", "not prestarted"), ("execute throws, max 2", "execute throws, max 3"),
          ("keep-alive, core 1, max 1", "keep-alive, core 1, max 2"),
@@ -137,7 +163,14 @@ PAIRS = (("prestarted late", "not prestarted"), ("execute throws, max 2", "execu
          ("three threads, 2 clients", "three threads, 3 clients"),
          ("core 2, max 8", "core 2, max 8, queue 100"), ("core 2, max 8", "core 0, max 8"),
          ("core 2, max 8, submitters", "core 2, max 8, queue 100, submitters"),
-         ("caller runs over a queue without a capacity", "caller runs over a queue of 100"))
+         ("caller runs over a queue without a capacity", "caller runs over a queue of 100"),
+         ("core 8, 2 jobs, threads end before the offer", "core 8, 2 jobs, no core timeout"),
+         ("core 8, 2 jobs, threads end before the offer", "core 8, 2 jobs in two pools, threads end before the offer"),
+         ("core 8, 2 jobs, threads end after the offer", "core 8, 2 jobs in two pools, threads end after the offer"),
+         ("core 8, 2 jobs, queue 100", "core 8, 2 jobs, queue 100, no core timeout"),
+         ("core 1, the thread ends before the offer", "core 1, the time of the thread ends before the offer"),
+         ("core 1, max 2, queue without a capacity", "core 1, max 1, queue without a capacity"),
+         ("core 1, max 2, queue 1, 3 jobs", "core 1, max 2, queue 1, 3 jobs, no core timeout"))
 
 
 def part(tools):

@@ -1,21 +1,31 @@
 """The texts of plans and cases that the Java programs of this folder read."""
 
+from small_plans import NO_MAXIMUM
 
 # The capacity of a LinkedBlockingQueue that is made without one.
 UNBOUNDED = 2_147_483_647
-# By how much the maximum of an executor is above core if its queue is unbounded. It has no effect.
+# By how much the maximum of an executor is above core if its queue is unbounded. It has no effect unless core threads may time out.
 MORE_THREADS = 3
+# The maximum of an executor that has none, as that of Spring Boot.
+NO_MOST = 2_147_483_647
 
 
 def plan_lines(plan):
     for pool in plan.pools:
-        most, queue = (pool.core + MORE_THREADS, UNBOUNDED) if pool.unbounded else (pool.max, pool.queue)
-        yield f"pool {pool.name} {pool.core} {most} {queue} {str(pool.prestart).lower()} {str(pool.may_reject).lower()}"
+        flags = " ".join(str(flag).lower() for flag in (pool.prestart, pool.may_reject, pool.core_timeout))
+        yield f"pool {pool.name} {pool.core} {most_of(pool)} {UNBOUNDED if pool.unbounded else pool.queue} {flags}"
     for one in plan.classes:
         yield " ".join(["class", str(one.pool), "false", *actions(one.body)])
     for client in plan.clients:
         yield " ".join(["client", str(client.count), str(client.repeat).lower(), *actions(client.body)])
     yield "events"
+
+
+def most_of(pool):
+    """Returns the maximum of the executor of a pool."""
+    if pool.unbounded and not pool.core_timeout:
+        return pool.core + MORE_THREADS
+    return NO_MOST if pool.max == NO_MAXIMUM else pool.max
 
 
 def actions(body):

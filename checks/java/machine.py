@@ -4,7 +4,8 @@ A submit is one event or, with `in_steps`, up to three: with fewer than core thr
 offered to the queue; and if the offer fails, the pool tries to add a thread. If the pool has all its threads, it refuses the job, or
 rejects it if it may: then the job is done at once. An actor can skip a submit, and then also skips its get. A queue of 0 is a
 `SynchronousQueue`: an offer succeeds if fewer jobs are queued than threads are idle, and a thread that was given a job does not end.
-An offer to an unbounded queue always succeeds.
+An offer to an unbounded queue always succeeds. If core threads may time out, each idle thread can end, except the last one while a job
+is queued. So an offer may find no thread any more, and then the submit starts one.
 """
 
 from small_plans import counts_text, queue_limit
@@ -63,9 +64,14 @@ class Machine:
         for pool, one in enumerate(self.plan.pools):
             if self.idle[pool] and self.queues[pool]:
                 found.append(f"take {one.name}")
-            if self.idle[pool] and self.threads(pool) > one.core and len(self.queues[pool]) <= self.limit(pool, self.idle[pool] - 1):
+            if self.idle[pool] and self.can_spare(pool) and len(self.queues[pool]) <= self.limit(pool, self.idle[pool] - 1):
                 found.append(f"retire {one.name}")
         return found
+
+    def can_spare(self, pool):
+        """Returns whether the pool has more threads than it keeps."""
+        one, threads = self.plan.pools[pool], self.threads(pool)
+        return threads > one.core or one.core_timeout and (threads > 1 or not self.queues[pool])
 
     @staticmethod
     def is_about(actor):
@@ -141,6 +147,7 @@ class Machine:
                 return actor.call
         if actor.call == "found core threads":
             if sizes.unbounded or len(self.queues[pool]) < self.limit(pool, self.idle[pool]):
+                self.look(pool)
                 return self.makes(actor, kind, pool, "queued")
             actor.call = "found the queue full"
             if self.in_steps:
@@ -153,6 +160,10 @@ class Machine:
         actor.call, actor.tried = None, True
         self.refusals += 1
         return f"refused by {sizes.name}"
+
+    def look(self, pool):
+        """Starts a thread if there is none, as a submit does after its offer."""
+        self.idle[pool] += not self.threads(pool)
 
     def makes(self, actor, kind, pool, stage):
         job = Job(self.plan.classes[kind].body, len(self.jobs), kind, pool, stage)

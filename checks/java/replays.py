@@ -18,22 +18,25 @@ LISTS = 1000
 REJECTING = 500
 # The number of lists for plans with unbounded queues.
 UNBOUNDED = 300
+# The number of lists for plans with pools whose core threads may time out.
+TIMED = 300
 # The number of plans on which each deliberate error is tried.
 SLIPPED = 100
 # The number of jobs that never finish after the events of an example, if all jobs and threads continue and no client acts. It is derived
 # by hand, and is 0 for all other examples.
 NEVER_FINISH = {
     "cross-pools": 4, "nested-one-worker": 2, "nested-unused-max": 2, "report-fan-out": 8, "stuck-by-a-dropped-get": 4,
-    "there-and-back": 3, "fixed-pool-unbounded": 8,
+    "there-and-back": 3, "fixed-pool-unbounded": 8, "nested-core-timeout": 2, "spring-boot-nested": 2,
 }
 PART_LEFT_OUT = 0.3
 
 
 def part(tools):
-    chance, rejecting, unbounded = random.Random(1), random.Random(2), random.Random(3)
+    chance, rejecting, unbounded, timed = (random.Random(seed) for seed in (1, 2, 3, 4))
     return [*examples(tools), *lists(tools, chance, "random replays"), *slips(tools, chance),
             *lists(tools, rejecting, "random replays with pools that may reject jobs", REJECTING, rejecting=True), *slips_of_rejections(tools, rejecting),
-            *lists(tools, unbounded, "random replays with unbounded queues", UNBOUNDED, unbounded=True), *slips_of_unbounded(tools, unbounded)]
+            *lists(tools, unbounded, "random replays with unbounded queues", UNBOUNDED, unbounded=True), *slips_of_unbounded(tools, unbounded),
+            *lists(tools, timed, "random replays with core timeouts", TIMED, timed=True), *slips_of_timed(tools, timed)]
 
 
 def numbered(answers):
@@ -126,6 +129,7 @@ def lists(tools, chance, name, number=LISTS, **kinds):
         count["rejected"] += one.machine.rejections
         count["with a queue of 0"] += any(not pool.queue for pool in one.plan.pools)
         count["with an unbounded queue"] += any(pool.unbounded for pool in one.plan.pools)
+        count["whose core threads may time out"] += any(pool.core_timeout for pool in one.plan.pools)
         count["stuck yes"] += one.answers.count("stuck yes")
         count["retired"] += one.answers.count("retired")
         count["certified"] += sure
@@ -250,6 +254,40 @@ def slips_of_unbounded(tools, chance):
     found["the same, in sizing's plan"] = sum(printed != wanted for printed, (_, _, wanted) in zip(answers, shown))
     printed = on_executors(tools, [one.case() for one in some])
     found["threads above core start"] = sum(by_rule(StartsThreadsFirst, one) != answers for one, answers in zip(some, printed))
+    print(f"deliberate errors, by the number of {SLIPPED} lists that find them: " + ", ".join(f"'{name}' {number}" for name, number in found.items()), flush=True)
+    return [f"replays: the deliberate error '{name}' is not found" for name, number in found.items() if not number]
+
+
+class LastThreadEnds(Machine):
+    """A machine with a deliberate error: if core threads may time out, the last thread ends although a job is queued."""
+
+    def can_spare(self, pool):
+        return self.plan.pools[pool].core_timeout or super().can_spare(pool)
+
+
+class StartsNoThread(Machine):
+    """A machine with a deliberate error: a submit whose offer succeeded does not look whether there is a thread."""
+
+    def look(self, pool):
+        return
+
+
+def slips_of_timed(tools, chance):
+    """Makes each deliberate error that concerns core timeouts, in the executors' pools, in the plan of `sizing replay` or in the machine, and
+    checks that it is found."""
+    some = [List(chance, plan_by_chance(chance, timed=True)) for _ in range(SLIPPED)]
+
+    def untimed(pool):
+        return {"core_timeout": False, "max": pool.core if pool.unbounded else pool.max}
+
+    printed = on_executors(tools, [one.case(with_pools(one.plan, untimed)) for one in some])
+    found = {"core threads never time out": sum(printed != one.wanted for one, printed in zip(some, printed))}
+    shown = list(filter(None, (one.of_program() for one in some)))
+    answers = [tools.sizing("replay", f"{text_of(with_pools(plan, untimed))}%%\n" + "\n".join(events))[1].splitlines() for plan, events, _ in shown]
+    found["the same, in sizing's plan"] = sum(printed != wanted for printed, (_, _, wanted) in zip(answers, shown))
+    for name, rule in (("the last thread ends", LastThreadEnds), ("no thread starts after an offer", StartsNoThread)):
+        wrong = [List(chance, plan_by_chance(chance, timed=True), rule) for _ in range(SLIPPED)]
+        found[name] = sum(printed != one.wanted for one, printed in zip(wrong, on_executors(tools, [one.case() for one in wrong])))
     print(f"deliberate errors, by the number of {SLIPPED} lists that find them: " + ", ".join(f"'{name}' {number}" for name, number in found.items()), flush=True)
     return [f"replays: the deliberate error '{name}' is not found" for name, number in found.items() if not number]
 

@@ -15,6 +15,7 @@ from conform import Comparison, compared
 from conform_rows import wrong_learned_rows, wrong_rows, wrong_stored_rows
 from read_plans import read_plan
 from recording import BadLine, read
+from small_plans import NO_MAXIMUM
 
 HERE = Path(__file__).resolve().parent / "services"
 EXAMPLE = Path(__file__).resolve().parent.parent.parent / "examples" / "recordings" / "web-and-database"
@@ -27,6 +28,7 @@ VOIDS = {
     "importer": [],
     "hurried-prices": ["job N of class slow in pool prices was cancelled"],
     "fixed-pools": [],
+    "spring-boot": [],
 }
 VOID = r"^line \d+: a yes is void from here on: "
 RUNS = 4
@@ -126,14 +128,19 @@ def other_plans(plan):
 
 
 def other_sizes(pool):
-    """Yields the changes of one size of a pool. Over an unbounded queue the maximum has no effect, and the queue gets a capacity."""
+    """Yields the changes of one size of a pool, and of whether core threads may time out. Over an unbounded queue the maximum has an effect only
+    if they may, and the queue gets a capacity."""
     if pool.unbounded:
         yield f"core {pool.core + 1}", {"core": pool.core + 1, "max": pool.core + 1}
         yield "queue 1000000", {"unbounded": False}
     else:
         for key, value in (("core", pool.core + 1), ("max", pool.max + 1), ("queue", pool.queue - 1)):
             yield f"{key} {value}", {key: value}
+    if pool.unbounded and pool.core_timeout:
+        most = pool.core if pool.max == NO_MAXIMUM else NO_MAXIMUM
+        yield f"max {most}", {"max": most}
     yield "prestart True", {"prestart": True}
+    yield f"core_timeout {not pool.core_timeout}", {"core_timeout": not pool.core_timeout}
 
 
 def put(entries, at, entry):

@@ -87,7 +87,7 @@ pub fn check(plan: &Plan, certificate: &Certificate) -> Answer {
             None if pool.unbounded => UNBOUNDED.into(),
             None => "may reject".into(),
         };
-        let (name, limit) = (&pool.name, pool.core - 1);
+        let (name, limit) = (&pool.name, pool.least_threads() - 1);
         writeln!(text, "pool {name}: {bound}, blocked {blocked} of {limit}").unwrap();
     }
     Answer { text: text.into_bytes(), is_no: !is_accepted }
@@ -231,7 +231,8 @@ fn each_of_blocked(
             }
         }
     }
-    visit(Condition { section, place: Place::Total, rule: Rule::B2, left: total(plan, vector), right: pool.core - 1 })
+    let (left, right) = (total(plan, vector), pool.least_threads() - 1);
+    visit(Condition { section, place: Place::Total, rule: Rule::B2, left, right })
 }
 
 /// Visits the rows of a vector: V2 to V7, with L5 in place of V5 if a get returns no weight.

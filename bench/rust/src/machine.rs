@@ -170,10 +170,11 @@ impl<'a> Machine<'a> {
     fn retire(&mut self, number: usize) -> Option<Outcome> {
         let sizes = &self.plan.pools[number];
         let pool = &mut self.state.pools[number];
-        if pool.idle == 0 || pool.threads <= sizes.core {
+        let is_spare = pool.threads > sizes.core || sizes.core_timeout && (pool.threads > 1 || pool.queue.is_empty());
+        if pool.idle == 0 || !is_spare {
             return None;
         }
-        if pool.queue.len() as u64 > queue_limit(sizes.queue, pool.idle - 1) {
+        if !sizes.unbounded && pool.queue.len() as u64 > queue_limit(sizes.queue, pool.idle - 1) {
             return None;
         }
         pool.idle -= 1;

@@ -12,6 +12,8 @@ pub const MOST_CLIENTS: usize = 256;
 pub const MOST_ACTIONS: usize = 256;
 const MOST_NAME: usize = 32;
 const MOST_SIZE: u64 = 1_000_000;
+/// The maximum of a pool that has none: its core threads may time out, its queue is unbounded, and its text gives none.
+const NO_MAXIMUM: u64 = 268_435_455;
 const SIZES: RangeInclusive<u64> = 1..=MOST_SIZE;
 
 pub struct Plan {
@@ -23,12 +25,15 @@ pub struct Plan {
 pub struct Pool {
     pub name: String,
     pub core: u64,
-    /// The maximum number of threads. It is core if the queue is unbounded: then no thread above core starts.
+    /// The maximum number of threads. It is core if the queue is unbounded and core threads never time out: then no thread
+    /// above core starts.
     pub max: u64,
     /// The capacity of the queue. Only a pool that may reject jobs can have 0, that of a `SynchronousQueue`. It has no
     /// effect if the queue is unbounded.
     pub queue: u64,
     pub prestart: bool,
+    /// Whether core threads may time out.
+    pub core_timeout: bool,
     pub may_reject: bool,
     pub unbounded: bool,
 }
@@ -76,14 +81,28 @@ impl Pool {
         }
     }
 
+    /// Returns the number of threads that the pool has at least while a job is queued.
+    pub fn least_threads(&self) -> u64 {
+        if self.core_timeout {
+            1
+        } else {
+            self.core
+        }
+    }
+
     /// Returns whether a certificate needs no bound of the pool's queue.
     pub fn needs_no_bound(&self) -> bool {
         self.may_reject || self.unbounded
     }
 
-    /// Returns the number of jobs that the pool may be given in all without ever being full.
+    /// Returns the number of jobs that the pool may be given in all without ever being full. If core threads may time out,
+    /// Java starts threads without a job, so only the queue counts.
     pub fn most_jobs(&self) -> u64 {
-        self.queue + self.max - self.first_threads()
+        if self.core_timeout {
+            self.queue
+        } else {
+            self.queue + self.max - self.first_threads()
+        }
     }
 }
 
@@ -176,9 +195,12 @@ fn pool(Object(text): Object<PoolText>) -> Pool {
     let core = text.core as u64;
     let (max, queue, unbounded) = match (text.max, text.queue) {
         (Size::Number(max), Size::Number(queue)) => (max as u64, queue as u64, false),
+        (Size::Number(max), Size::Unbounded) if text.core_timeout => (max as u64, MOST_SIZE, true),
+        (Size::Unbounded, _) if text.core_timeout => (NO_MAXIMUM, MOST_SIZE, true),
         _ => (core, MOST_SIZE, true),
     };
-    Pool { name: text.name, core, max, queue, prestart: text.prestart, may_reject: text.may_reject, unbounded }
+    let PoolText { name, prestart, core_timeout, may_reject, .. } = text;
+    Pool { name, core, max, queue, prestart, core_timeout, may_reject, unbounded }
 }
 
 /// A parsed action, with the names of its class and slot.

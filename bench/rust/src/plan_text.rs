@@ -34,6 +34,8 @@ pub struct PoolText {
     #[serde(default)]
     pub prestart: bool,
     #[serde(default)]
+    pub core_timeout: bool,
+    #[serde(default)]
     pub may_reject: bool,
 }
 
@@ -151,13 +153,15 @@ fn each<T>(values: Vec<Value>, read: fn(usize, Value) -> Result<T, Fault>) -> Re
 }
 
 fn pool(index: usize, value: Value) -> Result<PoolText, Fault> {
-    let mut keys = Keys::of(value, Entry::Pool(index), &["name", "core", "max", "queue", "prestart", "may_reject"])?;
+    let known = ["name", "core", "max", "queue", "prestart", "core_timeout", "may_reject"];
+    let mut keys = Keys::of(value, Entry::Pool(index), &known)?;
     Ok(PoolText {
         name: keys.text("name")?,
         core: keys.number("core")?,
         max: keys.size("max")?,
         queue: keys.size("queue")?,
         prestart: keys.flag("prestart")?,
+        core_timeout: keys.flag("core_timeout")?,
         may_reject: keys.flag("may_reject")?,
     })
 }

@@ -76,7 +76,7 @@ fn ranked(plan: &Plan, classes: &Classes) -> Option<Vec<(u64, Vector)>> {
         let mut has_moved = false;
         for (number, pool) in found.iter_mut().enumerate().filter(|(_, pool)| pool.is_none()) {
             let need = Need::AtGets { reach: &reach, rank };
-            let blocked = Target { pool: number, need, limit: Some(plan.pools[number].core - 1) };
+            let blocked = Target { pool: number, need, limit: Some(plan.pools[number].least_threads() - 1) };
             *pool = least_vector(plan, classes, &blocked).map(|vector| (rank, vector));
             has_moved |= pool.is_some();
         }

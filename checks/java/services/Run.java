@@ -81,6 +81,13 @@ final class Run {
         return pool(name, new ThreadPoolExecutor(sizes.core(), sizes.max(), 0, TimeUnit.SECONDS, settings.queueOf(sizes)));
     }
 
+    /** Creates a pool with an unbounded queue whose core threads time out after a millisecond. */
+    ExecutorService timedPool(String name, int core, int max) {
+        ThreadPoolExecutor executor = new ThreadPoolExecutor(core + moreThreads(), max, 1, TimeUnit.MILLISECONDS, new LinkedBlockingQueue<>());
+        executor.allowCoreThreadTimeOut(true);
+        return pool(name, executor);
+    }
+
     private int moreThreads() {
         return slip.equals("size") && executors.isEmpty() ? 1 : 0;
     }

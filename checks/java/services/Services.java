@@ -29,6 +29,7 @@ final class Services {
             case "importer" -> new Importer();
             case "hurried-prices" -> new HurriedPrices();
             case "fixed-pools" -> new FixedPools();
+            case "spring-boot" -> new SpringBoot();
             default -> throw new IllegalArgumentException(name);
         };
     }
