@@ -5,19 +5,22 @@ Each file headline/*.bug changes, for one bug, a definition, the code, and the l
 bug. In a copy of the crates with these changes, the lower crates must still be proved, and a law of a higher crate must be refused.
 README.md describes the form of such a file.
 
-The arguments name the bugs to try. Without arguments all bugs are tried. First the crates are proved without a bug, as far as
-earlier checks have not; each bug starts from the stored results.
+The arguments name the bugs to try. Without arguments all bugs are tried, several at once if the machine has the memory. First the
+crates are proved without a bug, as far as earlier checks have not; each bug starts from the stored results. With `--minutes N`, no
+bug is tried later than N minutes after the start.
 
-The last line is 'N refused by their laws, M not'. Exit status: 0 if each bug is refused by its law, 1 if one is accepted or is
-refused elsewhere, or the crates are not proved, 2 if a text to replace does not occur exactly once, or a bug does not exist.
+The last line is 'N refused by their laws, M not', and how many were not tried in time. Exit status: 0 if no bug is accepted or refused
+elsewhere, 1 if one is, or the crates are not proved, 2 if a text to replace does not occur exactly once, or a bug does not exist.
 """
 
-import resource
+import argparse
 import shutil
 import subprocess
 import sys
 import tempfile
 import textwrap
+import time
+from concurrent.futures import ThreadPoolExecutor
 from pathlib import Path
 
 HERE = Path(__file__).resolve().parent
@@ -26,10 +29,14 @@ BUGS = HERE / "headline"
 sys.dont_write_bytecode = True
 sys.path.insert(0, str(TOP / "tools"))
 from crates import below, copy_crates, lines_of_crates
+from kit import rt_module
+from lanes import side_by_side
 
 # The prover's messages about a goal that is not proved, as opposed to a text that it cannot parse.
 UNPROVED = ("the goal does not follow", "it is not proved that")
 ERROR = ": error: "
+# The memory that the check of the theorems takes, in GiB.
+CHECK_GIB = 3
 
 
 class Bug:
@@ -116,10 +123,12 @@ def attempt(bug, folder):
     return True, f"refused by {bug.refuses}, since {bug.law} is not proved", why
 
 
-def processor_seconds():
-    """Returns the processor time so far of all processes that this one waited for."""
-    used = resource.getrusage(resource.RUSAGE_CHILDREN)
-    return used.ru_utime + used.ru_stime
+def in_a_copy(bug, end):
+    """Tries a bug in a copy of the crates. Returns what `attempt` returns, or None if the time `end` has passed."""
+    if end is not None and time.monotonic() > end:
+        return None
+    with tempfile.TemporaryDirectory(prefix="headline_refuses.") as folder:
+        return attempt(bug, Path(folder))
 
 
 def proved_without_bugs(crates):
@@ -133,7 +142,12 @@ def proved_without_bugs(crates):
 
 
 def main():
-    names = sys.argv[1:] or sorted(path.stem for path in BUGS.glob("*.bug"))
+    parser = argparse.ArgumentParser(description=__doc__.splitlines()[0])
+    parser.add_argument("--minutes", type=float)
+    parser.add_argument("bugs", nargs="*")
+    words = parser.parse_args()
+    end = None if words.minutes is None else time.monotonic() + 60 * words.minutes
+    names = words.bugs or sorted(path.stem for path in BUGS.glob("*.bug"))
     try:
         bugs = [Bug(BUGS / f"{name}.bug") for name in names]
     except (LookupError, FileNotFoundError) as fault:
@@ -141,15 +155,17 @@ def main():
         return 2
     if not proved_without_bugs(sorted({bug.refuses for bug in bugs})):
         return 1
-    refused = 0
-    for bug in bugs:
-        began = processor_seconds()
-        with tempfile.TemporaryDirectory(prefix="headline_refuses.") as folder:
-            right, outcome, why = attempt(bug, Path(folder))
-        refused += right
-        print(f"{bug.name}: {outcome} ({processor_seconds() - began:.0f} s of processor time)\n    {why}", flush=True)
-    print(f"{refused} refused by their laws, {len(bugs) - refused} not")
-    return 0 if refused == len(bugs) else 1
+    refused = late = 0
+    with ThreadPoolExecutor(side_by_side(rt_module(), CHECK_GIB)) as pool:
+        for bug, outcome in zip(bugs, pool.map(lambda bug: in_a_copy(bug, end), bugs)):
+            if outcome is None:
+                late += 1
+                continue
+            right, said, why = outcome
+            refused += right
+            print(f"{bug.name}: {said}\n    {why}", flush=True)
+    print(f"{refused} refused by their laws, {len(bugs) - refused - late} not{f', {late} not tried in time' if late else ''}")
+    return 0 if refused + late == len(bugs) else 1
 
 
 if __name__ == "__main__":
