@@ -15,7 +15,7 @@ help:
 	      /^[a-z_-]+:/ && said != "" { sub(/:.*/, ""); printf "make %-13s %s\n", $$0, said } \
 	      !/^#/ { said = "" }' Makefile
 
-# Asks about the plans that README.md shows, before any proof: three to five minutes on a fresh machine.
+# Asks about the plans that README.md shows, before any proof: two to four minutes on a fresh machine.
 demo:
 	@examples/demo
 
