@@ -114,6 +114,10 @@ def cases_of_misplaced_files(program, folder):
     plan, certificate, events = (EXAMPLES / f"two-clients.{ending}" for ending in ("toml", "json", "events"))
     recording = EXAMPLES / "recordings/web-and-database.recording"
     bundle, returns, bad_events = (folder / name for name in ("bundle", "returns", "bad-events"))
+    other = EXAMPLES / "cross-pools.json"
+    bad_plan, bad_line = folder / "bad-plan", folder / "bad-line"
+    bad_plan.write_bytes(plan.read_bytes().replace(b"core = 1", b"core = 0"))
+    bad_line.write_bytes(b"client 0\nclient  1\n")
     text = b"%%\n".join(file.read_bytes() for file in (plan, certificate))
     bundle.write_bytes(text)
     returns.write_bytes(text.replace(b"\n", b"\r\n"))
@@ -128,7 +132,11 @@ def cases_of_misplaced_files(program, folder):
     plan_for_events = b"%s looks like a plan: name events in its place\n"
     certificate_for_events = b"%s looks like a certificate: name events in its place\n"
     no_recording = b"%s is not a recording: the first line of a recording is `recording 1`\n"
+    faulty_plan = b"`sizing ask %s` prints each fault of this plan with its line, and what would be right\n"
+    no_certificate = b"%%s is not a certificate for %s: `sizing ask --certificate %%s %s` writes one if the plan is safe\n" % (bytes(plan), bytes(plan))
+    malformed = b"each line of %s must be `client N`, `job N`, `take POOL`, `retire POOL` or `stuck N N ..`, with single spaces\n"
     no_plan, no_line, no_separator = b"fault 1 NotToml\n", b"fault 53 BadRecording at line 1: it is not a valid line\n", b"fault 50 NoSeparator\n"
+    bad_core = b"fault 8 BadNumber at pool 0\n"
     no_json, no_event = b"fault 30 NotJson\n", b"fault 51 BadEvent at line 1\n"
     for words, printed, hint, file in (
         (["check", plan], no_separator, alone, plan),
@@ -150,9 +158,16 @@ def cases_of_misplaced_files(program, folder):
         (["replay", plan, certificate], no_event, certificate_for_events, certificate),
         (["replay", plan, bad_events], no_event, with_returns, bad_events),
         (["replay", "-", bad_events], no_event, with_returns, bad_events),
+        (["check", bad_plan, certificate], bad_core, faulty_plan, bad_plan),
+        (["fit", bad_plan], bad_core, faulty_plan, bad_plan),
+        (["replay", bad_plan, bad_line], bad_core, faulty_plan, bad_plan),
+        (["conform", bad_plan, recording], bad_core, faulty_plan, bad_plan),
+        (["check", plan, other], b"fault 31 WrongShape\n", no_certificate, other),
+        (["explain", plan, other], b"fault 31 WrongShape\n", no_certificate, other),
+        (["replay", plan, bad_line], b"fault 51 BadEvent at line 2\n", malformed, bad_line),
     ):
         title = " ".join([words[0], *(Path(word).name for word in words[1:])])
-        yield title, lambda words=words: ends([program, *words], plan), (2, printed, hint % bytes(file))
+        yield title, lambda words=words: ends([program, *words], plan), (2, printed, hint.replace(b"%s", bytes(file)).replace(b"%%", b"%"))
 
 
 def cases_of_certificates(program, folder):

@@ -1,7 +1,8 @@
 //! Hints for standard error, which follow an answer or a fault. A hint says that a file lacks its
-//! second text, has a text of another kind or has wrong line ends. Other functions return why a
-//! file could not be read or written.
+//! second text, has a text of another kind, has wrong line ends, or what to do about its fault.
+//! Other functions return why a file could not be read or written.
 
+use plan_text::read_plan;
 use sizing_cli::{
     Command, RecordingCommand, ReviewCommand, StdFiles, Task, TextFiles, bundle_of, most_bytes,
     read_words,
@@ -9,6 +10,7 @@ use sizing_cli::{
 use std::alloc::Global;
 use std::fs::{self, File, Files};
 use std::io::ErrorKind;
+use support::number::MEMORY;
 
 const PLAN: &str = "a plan";
 
@@ -17,7 +19,7 @@ const CERTIFICATE: &str = "a certificate";
 /// A likely mistake in a file that the arguments name. The mistake explains why the command found a
 /// fault in a text.
 #[derive(Clone, Copy)]
-pub(crate) enum Hint {
+pub(crate) enum Hint<'a> {
     /// The file has only one text, but the command also needs a second text. The field is the name
     /// of this second text.
     MissingText(&'static str),
@@ -35,6 +37,14 @@ pub(crate) enum Hint {
     /// The command reads the file as events, but the first line of the file ends with a carriage
     /// return.
     ReturnsInEvents,
+    /// The plan in the file has a fault.
+    FaultyPlan,
+    /// The file has no certificate of the plan in the file `plan`, which has no fault.
+    NoCertificateOf {
+        plan: &'a str,
+    },
+    /// The file has a line that is no event, and the plan has no fault.
+    MalformedEvents,
 }
 
 /// Returns the reason why the file could not be read, or an empty text if the reason is not known.
@@ -100,17 +110,17 @@ pub(crate) fn hint_of<'a>(
     rt: &impl Files,
     alloc: Global,
     words: &'a [&'a str],
-) -> Option<(&'a str, Hint)> {
+) -> Option<(&'a str, Hint<'a>)> {
     let cli = read_words(alloc, words).ok()??;
     if let Some(name) = cli.first
         && let Some(text) = text_of(rt, alloc, cli.command, name)
-        && let Some(hint) = hint_of_first(cli.command, &text, cli.second.is_none())
+        && let Some(hint) = hint_of_first(alloc, cli.command, &text, cli.second.is_none())
     {
         return Some((name, hint));
     }
     let name = cli.second?;
     let text = text_of(rt, alloc, cli.command, name)?;
-    Some((name, hint_of_second(cli.command, &text)?))
+    Some((name, hint_of_second(cli.command, &text, cli.first)?))
 }
 
 /// Returns the content of the file, up to one byte more than the command's input may have. Returns
@@ -124,7 +134,12 @@ fn text_of(rt: &impl Files, alloc: Global, command: Command, name: &str) -> Opti
 /// Returns a hint about the first file, which has the content `text`. Returns `None` if the file
 /// shows no known mistake, and for `ask`, because its answer already explains the mistake.
 /// `is_alone` says whether the first file is the only file that the arguments name.
-fn hint_of_first(command: Command, text: &[u8], is_alone: bool) -> Option<Hint> {
+fn hint_of_first<'a>(
+    alloc: Global,
+    command: Command,
+    text: &[u8],
+    is_alone: bool,
+) -> Option<Hint<'a>> {
     if let Command::OnRecording(RecordingCommand::Learn { .. }) = command {
         return hint_of_recording(text);
     }
@@ -138,12 +153,30 @@ fn hint_of_first(command: Command, text: &[u8], is_alone: bool) -> Option<Hint> 
     if let Command::OnThreads(Task::Ask { .. }) = command {
         return None;
     }
-    hint_of_misplaced(text, PLAN)
+    if let Some(hint) = hint_of_misplaced(text, PLAN) {
+        return Some(hint);
+    }
+    if has_faulty_plan(alloc, text) {
+        Some(Hint::FaultyPlan)
+    } else {
+        None
+    }
+}
+
+/// Returns `true` if the text is neither a plan nor a bundle. Returns `false` if memory runs out.
+fn has_faulty_plan(alloc: Global, text: &[u8]) -> bool {
+    if bundle_of(text).is_some() {
+        return false;
+    }
+    match read_plan(alloc, text) {
+        Ok(_) => false,
+        Err(fault) => fault.number != MEMORY,
+    }
 }
 
 /// Returns the hint about a file that has only one text. The hint says that a carriage return
 /// follows the separator `%%`, or that the text `second` is missing.
-fn missing_text(text: &[u8], second: &'static str) -> Hint {
+fn missing_text<'a>(text: &[u8], second: &'static str) -> Hint<'a> {
     if has_line(text, b"%%\r") {
         Hint::ReturnAfterSeparator
     } else {
@@ -155,7 +188,7 @@ fn has_line(text: &[u8], wanted: &[u8]) -> bool {
     text.split(|byte| *byte == b'\n').any(|line| line == wanted)
 }
 
-fn hint_of_recording(text: &[u8]) -> Option<Hint> {
+fn hint_of_recording<'a>(text: &[u8]) -> Option<Hint<'a>> {
     if text.starts_with(b"recording 1") {
         None
     } else {
@@ -163,33 +196,39 @@ fn hint_of_recording(text: &[u8]) -> Option<Hint> {
     }
 }
 
-/// Returns a hint about the second file, which has the content `text`. Returns `None` if the file
-/// shows no known mistake, and for `ask`, because its answer already explains the mistake.
-fn hint_of_second(command: Command, text: &[u8]) -> Option<Hint> {
+/// Returns a hint about the second file, which has the content `text`, if the first one shows no
+/// known mistake. `plan` is the name of the first one. Returns `None` if the file shows no known
+/// mistake, and for `ask`, because its answer already explains the mistake.
+fn hint_of_second<'a>(command: Command, text: &[u8], plan: Option<&'a str>) -> Option<Hint<'a>> {
     match command {
         Command::OnRecording(RecordingCommand::Conform) => hint_of_recording(text),
-        Command::Sequential(ReviewCommand::Replay) => hint_of_events(text),
-        Command::Sequential(ReviewCommand::Check | ReviewCommand::Explain)
-        | Command::OnThreads(Task::Run { .. }) => hint_of_misplaced(text, CERTIFICATE),
+        Command::Sequential(ReviewCommand::Replay) => Some(hint_of_events(text)),
+        Command::Sequential(ReviewCommand::Check | ReviewCommand::Explain) => {
+            if let Some(hint) = hint_of_misplaced(text, CERTIFICATE) {
+                return Some(hint);
+            }
+            Some(Hint::NoCertificateOf { plan: plan? })
+        }
+        Command::OnThreads(Task::Run { .. }) => hint_of_misplaced(text, CERTIFICATE),
         // The answer of `ask` says so itself, and the other commands read one text.
         _ => None,
     }
 }
 
-fn hint_of_events(text: &[u8]) -> Option<Hint> {
+fn hint_of_events<'a>(text: &[u8]) -> Hint<'a> {
     if let Some(hint) = hint_of_misplaced(text, "events") {
-        return Some(hint);
+        return hint;
     }
     if ends_with_return(text) {
-        Some(Hint::ReturnsInEvents)
+        Hint::ReturnsInEvents
     } else {
-        None
+        Hint::MalformedEvents
     }
 }
 
 /// Returns a hint if the text looks like a text of a known kind other than `wanted`. Returns `None`
 /// otherwise.
-fn hint_of_misplaced(text: &[u8], wanted: &'static str) -> Option<Hint> {
+fn hint_of_misplaced<'a>(text: &[u8], wanted: &'static str) -> Option<Hint<'a>> {
     let found = kind_of(text)?;
     if found == wanted {
         None

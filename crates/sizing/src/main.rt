@@ -52,7 +52,7 @@ fn advise(rt: &HostRuntime, words: &[&str]) {
     }
 }
 
-fn print_hint(rt: &impl Eprint, name: &str, hint: Hint) -> io::Result<()> {
+fn print_hint(rt: &impl Eprint, name: &str, hint: Hint<'_>) -> io::Result<()> {
     match hint {
         Hint::MissingText(second) => {
             eprintln!(rt; "{name} has no line `%%`: name a second file with {second}")
@@ -73,6 +73,21 @@ fn print_hint(rt: &impl Eprint, name: &str, hint: Hint) -> io::Result<()> {
         Hint::ReturnsInEvents => {
             eprintln!(rt;
                 "the lines of {name} end with a carriage return: convert the file from CRLF to newlines alone"
+            )
+        }
+        Hint::FaultyPlan => {
+            eprintln!(rt;
+                "`sizing ask {name}` prints each fault of this plan with its line, and what would be right"
+            )
+        }
+        Hint::NoCertificateOf { plan } => {
+            eprintln!(rt;
+                "{name} is not a certificate for {plan}: `sizing ask --certificate {name} {plan}` writes one if the plan is safe"
+            )
+        }
+        Hint::MalformedEvents => {
+            eprintln!(rt;
+                "each line of {name} must be `client N`, `job N`, `take POOL`, `retire POOL` or `stuck N N ..`, with single spaces"
             )
         }
     }
