@@ -1,6 +1,6 @@
-//! Hints for standard error, which follow an answer or a fault. A hint says that a file lacks its
-//! second text, has a text of another kind or has wrong line ends. Other functions return why a
-//! file could not be read or written.
+//! Hints for standard error about likely mistakes in files. A hint says that a file lacks its
+//! second text, has a text of another kind or has wrong line ends. Other functions of this file
+//! return why a file could not be read or written.
 
 use sizing_cli::{
     Command, RecordingCommand, ReviewCommand, StdFiles, Task, TextFiles, bundle_of, most_bytes,
@@ -93,9 +93,9 @@ fn is_directory(rt: &impl Files, name: &str) -> bool {
     }
 }
 
-/// Returns a hint about a likely mistake in a file that the arguments `words` name, and the name of
-/// this file. Returns `None` if no file shows a known mistake. The caller must have run the
-/// command, which found a fault in a text.
+/// Returns a hint about a likely mistake in a file, and the name of this file. `words` are the
+/// arguments of the command line, which name the files. Returns `None` if no file shows a known
+/// mistake. The caller must have run the command, which found a fault in a text.
 pub(crate) fn hint_of<'a>(
     rt: &impl Files,
     alloc: Global,
@@ -122,8 +122,8 @@ fn text_of(rt: &impl Files, alloc: Global, command: Command, name: &str) -> Opti
 }
 
 /// Returns a hint about the first file, which has the content `text`. Returns `None` if the file
-/// shows no known mistake, and for `ask`, because its answer already explains the mistake.
-/// `is_alone` says whether the first file is the only file that the arguments name.
+/// shows no known mistake. Also returns `None` for `ask`, because its answer already explains the
+/// mistake. `is_alone` says whether the arguments name no other file.
 fn hint_of_first(command: Command, text: &[u8], is_alone: bool) -> Option<Hint> {
     if let Command::OnRecording(RecordingCommand::Learn { .. }) = command {
         return hint_of_recording(text);
@@ -164,7 +164,8 @@ fn hint_of_recording(text: &[u8]) -> Option<Hint> {
 }
 
 /// Returns a hint about the second file, which has the content `text`. Returns `None` if the file
-/// shows no known mistake, and for `ask`, because its answer already explains the mistake.
+/// shows no known mistake. Also returns `None` for `ask`, because its answer already explains the
+/// mistake, and for commands that read only one text.
 fn hint_of_second(command: Command, text: &[u8]) -> Option<Hint> {
     match command {
         Command::OnRecording(RecordingCommand::Conform) => hint_of_recording(text),
