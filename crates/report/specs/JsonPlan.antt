@@ -39,7 +39,7 @@ get_data place slot =
     (member (codes "line") (line_data place)
     (member (codes "slot") (number (unsigned slot)) no_members))))
 
--- the slot of the submit at position i of the body: its position; null if the body has no get of it
+-- the slot of the submit at position i of the body: this position, or null if the body has no get of its job
 abbrev pub slot_data : List Action → ℕ → Data
 slot_data body i = if has_get_of body i then number (unsigned i) else null
 
@@ -71,7 +71,7 @@ max_data pool = limit_data (has_no_max pool) pool.max
 abbrev pub queue_data : Pool → Data
 queue_data pool = limit_data pool.unbounded pool.queue
 
--- the members of a pool, without the flags that only some pools have
+-- the members that every pool has, without `core_timeout` and `may_reject`
 unfoldable pub pool_members : Option TextPlace → Pool → Members
 pool_members place pool =
     member (codes "column") (column_data place)
@@ -140,6 +140,6 @@ plan_data text places plan =
     plan_object (classes_data plan places.classes.items plan.classes) (clients_data plan places.clients.items plan.clients) (pools_data places.pools.items plan.pools)
     (text_data text)
 
--- the text alone, of which no plan was read
+-- the object for a text from which no plan was read: the text, and no pools, classes or client kinds
 abbrev pub text_only_data : List ℕ → Data
 text_only_data text = plan_object (array (items_of [])) (array (items_of [])) (array (items_of [])) (text_data text)
