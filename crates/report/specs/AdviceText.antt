@@ -55,12 +55,12 @@ advice_text plan (NotFound cause) = cause_advice_text cause
 abbrev pub maybe_words : List ℕ
 maybe_words = codes "neither a certificate for the declared sizes nor a counterexample was found: the sizes may be safe"
 
--- the words for what was not found: no counterexample, and no certificate for the declared sizes or for any sizes
+-- the words that say that no counterexample was found, and no certificate for the declared sizes or for any sizes
 abbrev pub open_words : SizesFound → List ℕ
 open_words (NotFound (Cause cause)) = codes "no certificate accepts this plan with any sizes, and no counterexample was found"
 open_words (NotFound (TooLarge p)) = maybe_words
 open_words (Found fit cert) = maybe_words
 
--- the last line of the answer NOT DECIDED, which says what was not found
+-- the last line of the answer NOT DECIDED
 abbrev pub open_text : SizesFound → List ℕ
 open_text sizes = open_words sizes ++ 10 ∷ []

@@ -68,8 +68,7 @@ started_words timeouts = if timeouts then codes "another thread" else codes "a t
 abbrev pub until_line : Bool → List ℕ
 until_line timeouts = codes "until a pool in whose queue one of them waits starts " ++ (started_words timeouts ++ 10 ∷ [])
 
--- the last line: the reason why jobs wait permanently, or what may end their wait. Empty if the witness ends with a refused
--- submit
+-- the last line: why the jobs wait permanently, or what may end their wait. Empty if the witness ends with a refused submit
 abbrev pub why_text : Plan → Ending → List ℕ
 why_text plan (Refused p) = []
 why_text plan (StuckForever members PoolsAreFull) = codes "forever: each pool in whose queue one of them waits has all its threads" ++ 10 ∷ []

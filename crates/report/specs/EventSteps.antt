@@ -55,8 +55,7 @@ pool_of_actor plan (Client kind c) = None
 pool_of_actor plan (Job class j) = Some (pool_of plan class)
 pool_of_actor plan (Pool p) = Some p
 
--- the pool that the event changed, or that refused or rejected a job; None if there is no such pool. `after` is the state after
--- it
+-- the pool that the event changed, or that refused or rejected a job; None if there is none. `after` is the state after the event
 abbrev pub changed_pool : Plan → State → Actor → Outcome → Option ℕ
 changed_pool plan after actor (Started j) = Some (pool_of plan (job_at after j).class)
 changed_pool plan after actor (Queued j) = Some (pool_of plan (job_at after j).class)

@@ -25,7 +25,7 @@ abbrev pub queue_from : ℕ → List ℕ → List EventStep → List ℕ
 queue_from p queue [] = queue
 queue_from p queue (step ∷ steps) = queue_from p (queue_with p queue step) steps
 
--- the queue of the pool after the steps, the first of which is from the start of the plan; empty if there is no pool
+-- the queue of the pool after the steps; empty if there is no pool. The first of the steps is from the start of the plan
 abbrev pub queue_after : List EventStep → Option PoolCounts → List ℕ
 queue_after steps None = []
 queue_after steps (Some counts) = queue_from counts.number [] steps

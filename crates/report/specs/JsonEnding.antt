@@ -33,7 +33,7 @@ awaited s j _ = []
 abbrev pub pool_name : Plan → ℕ → List ℕ
 pool_name plan k = (pool_at plan (pool_of plan k)).name
 
--- what job j of class k waits for: in a queue, the jobs that run in its pool; at an action, the job of `awaited`. Empty if j is
+-- what job j of class k waits for: in a queue, the jobs that run in its pool; at an action, the job of `awaited`. Empty if it is
 -- done
 abbrev pub wait_at : Plan → State → ℕ → ℕ → Stage → List Data
 wait_at plan s j k Queued = wait_data (codes "queue") (places_where (is_busy_in plan (pool_of plan k)) s.jobs) j (pool_name plan k) ∷ []

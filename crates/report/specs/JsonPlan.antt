@@ -49,11 +49,11 @@ action_data plan place body i (Work units) = work_data place units
 action_data plan place body i (Submit k) = submit_data place (class_at plan k).name (slot_data body i)
 action_data plan place body i (Get t) = get_data place t
 
--- an action of the body of the class or client kind at an index, with its position
+-- the action at position i of a body; `index` is the index of the class or client kind with this body
 abbrev pub action_entry : Plan → List BodyPlaces → ℕ → List Action → ℕ × Action → Data
 action_entry plan bodies index body (i, action) = action_data plan (action_place bodies index i) body i action
 
--- the body of the class or client kind at an index
+-- the list of the actions of a body; `index` is the index of the class or client kind with this body
 abbrev pub body_data : Plan → List BodyPlaces → ℕ → List Action → Data
 body_data plan bodies index body = array (items_of (map (action_entry plan bodies index body) (enumerate_from 0 body)))
 

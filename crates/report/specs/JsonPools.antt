@@ -70,8 +70,8 @@ bound_data plan p (Some bound) = if bounds_jobs plan p bound then fitting_data p
 unfoldable pub waiting_data : ℕ → ℕ → Data
 waiting_data left most = object (member (codes "left") (number (unsigned left)) (member (codes "most") (number (unsigned most)) no_members))
 
--- an object with two numbers; null if the maximum is not known. `most` is the maximum number of core threads that wait at counted gets
--- at once. `left` is the number of threads that the pool has at least while a job is queued (`least_threads`), minus `most`
+-- an object with two numbers; null if the maximum is not known. `most` is the maximum number of core threads that wait at counted
+-- gets at once. `left` is the number of threads that the pool has at least while a job is queued (`least_threads`), minus `most`
 abbrev pub blocked_of : Pool → Option ℕ → Data
 blocked_of pool None = null
 blocked_of pool (Some most) = waiting_data (least_threads pool - most) most
@@ -123,7 +123,7 @@ pool_data plan p pool rejection (Some part) = sized_pool plan p pool rejection (
 abbrev pub pool_entry : Plan → List PoolCert → List (Option ℕ) → ℕ × Pool → Data
 pool_entry plan parts rejections (p, pool) = pool_data plan p pool (rejection_at rejections p) (slice_get parts p)
 
--- the list of the pools; `parts` are their parts of a certificate, and `rejections` the numbers of events after which they reject
--- a job
+-- the list of the pools. `parts` has the certificate's part for each pool, and `rejections` the number of events after which it
+-- rejects a job
 abbrev pub pools_data : Plan → List PoolCert → List (Option ℕ) → Data
 pools_data plan parts rejections = array (items_of (map (pool_entry plan parts rejections) (enumerate_from 0 plan.pools)))

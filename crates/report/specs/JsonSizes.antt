@@ -78,8 +78,8 @@ cycle_data place class words =
     (member (codes "pool") null
     (member (codes "text") (string words) no_members))))))))
 
--- the object of the cause that a submit is repeated without limit and its jobs are never got. Its body is that of a class or of a
--- client kind, and the member for the other is null
+-- the object of the cause that a submit is repeated without limit and its jobs are never got. The submit is in the body of a
+-- class or of a client kind, and the member for the other is null
 unfoldable pub never_got_data : Option TextPlace → ℕ → Data → Data → List ℕ → Data
 never_got_data place action class client words =
     object (member (codes "action") (number (unsigned action))

@@ -1,5 +1,5 @@
--- What an event did, as the code computes it from live views. A live view has the live jobs, the pools and the
--- clients of a state.
+-- What an event did, as the code computes it from live views. A live view has the live jobs, the pools and the clients of a
+-- state.
 use Rattle.std.specs.Prelude.{◌≡◌, ℕ, List, ◌++◌, map, Option, Some, None, slice_get, option_map, option_and_then}
 use Rattle.job_bodies.specs.Plan.{Plan}
 use Rattle.written_machine.specs.declared.client_state.ClientState.{ClientState}
@@ -82,8 +82,8 @@ counts_seen view pool = option_and_then (pool_counts view) pool
 
 -- ---- the results
 
--- the result and the view that the code returns for event e in state s: what e did, or None if e is not possible, and the live
--- view of the state after it
+-- the code performs event e in state s: the result is what e did, or None if e is not possible, and `after` is the live view of
+-- the state after it
 abbrev pub Performs : Plan → State → Event → Option EventStep → View → Type 0
 Performs plan s e None after = (step plan s e ≡ None) × (after ≡ live_view plan s)
 Performs plan s e (Some what) after =

@@ -57,8 +57,8 @@ most_part bound (Some n) = codes "\\n" ++ most_text bound n
 abbrev pub no_bound_part : Pool → List ℕ
 no_bound_part pool = if pool.unbounded then [] else codes "\\nmay reject"
 
--- the text about the bound of the queue of pool p. It is that for a pool without a bound if there is none, or if its total does
--- not limit the jobs in an unbounded queue
+-- the text about the bound of the queue of pool p. If there is no bound, or its total does not limit the jobs in an unbounded
+-- queue, it is `no_bound_part`
 abbrev pub bound_of : Plan → ℕ → Pool → Option Bound → List ℕ
 bound_of plan p pool None = no_bound_part pool
 bound_of plan p pool (Some bound) = if bounds_jobs plan p bound then most_part bound (total_of plan (bound_vector bound)) else no_bound_part pool
@@ -174,7 +174,7 @@ abbrev pub graph_text : Plan → List PoolCert → Option Ranks → List ℕ
 graph_text plan parts ranks =
     head ++ (client_nodes plan.clients ++ (pool_boxes plan parts ++ (client_edges plan ++ (class_edges plan ranks ++ (codes "}" ++ 10 ∷ [])))))
 
--- the graph of a plan, with the bounds of its queues and the counted gets if a certificate accepts it
+-- the graph of a plan. If a certificate accepts the plan, the graph shows the bounds of the queues and the counted gets
 abbrev pub picture_text : Plan → PlanFinding → List ℕ
 picture_text plan (Safe cert rejections) = graph_text plan cert.pools (Some cert.ranks)
 picture_text plan (NotSafe witness sizes) = graph_text plan [] None

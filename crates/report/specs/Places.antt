@@ -1,4 +1,4 @@
--- The number of places that are enough in the queue of a pool, by a certificate.
+-- Queue capacities that are enough for the pools of a plan, by the bounds of a certificate.
 use Rattle.std.specs.Prelude.{ℕ, Bool, not, ◌&&◌, ◌||◌, ◌==◌, nat_le, List, slice_index, map, if◌then◌else◌, Option, Some, None}
 use Rattle.std.specs.List.{list_all, enumerate_from}
 use Rattle.job_bodies.specs.Plan.{Pool, Class, Plan, pool_at}
@@ -63,6 +63,6 @@ places_of plan p (Some bound) = places_of_bound plan p bound
 abbrev pub places_in : Plan → ℕ × PoolCert → Option ℕ
 places_in plan (p, part) = places_of plan p part.bound
 
--- the number of queue places for each pool, in the certificate's order
+-- for each pool of the certificate, the number of queue places that are enough; None if it is not known
 abbrev pub needed_places : Plan → Cert → List (Option ℕ)
 needed_places plan cert = map (places_in plan) (enumerate_from 0 cert.pools)

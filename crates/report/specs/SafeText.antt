@@ -113,8 +113,8 @@ no_bound_text plan p pool rejection = if pool.unbounded then growth_text (lost_t
 abbrev pub open_queue_text : Plan → ℕ → Pool → Option ℕ → List ℕ
 open_queue_text plan p pool rejection = codes ", queue " ++ queue_size pool ++ codes ": " ++ no_bound_text plan p pool rejection
 
--- the capacity of the queue of pool p, and its bound. The text is that for a pool without a bound if there is none, or if its
--- total does not limit the jobs in an unbounded queue
+-- the capacity of the queue of pool p, and its bound. If there is no bound, or its total does not limit the jobs in an unbounded
+-- queue, the text is `open_queue_text`
 abbrev pub queue_text : Plan → ℕ → Pool → Option ℕ → Option Bound → List ℕ
 queue_text plan p pool rejection None = open_queue_text plan p pool rejection
 queue_text plan p pool rejection (Some bound) = if bounds_jobs plan p bound then bounded_text plan pool bound else open_queue_text plan p pool rejection
@@ -140,8 +140,7 @@ waited_names plan p = flat_map (waited_name plan p) (enumerate_from 0 plan.pools
 abbrev pub waited_text : Plan → ℕ → List ℕ
 waited_text plan p = or_nobody (waited_names plan p)
 
--- the maximum number n of core threads that wait at counted gets at once, and the number of the other core threads; empty if n is
--- 0
+-- the maximum number n of core threads that wait at counted gets at once, and the number of the others; empty if n is 0
 abbrev pub waiting_text : Pool → ℕ → List ℕ
 waiting_text pool n =
     if n == 0

@@ -1,4 +1,4 @@
-//! The number of queue places that are enough for each pool, by a certificate.
+//! Queue capacities that are enough for the pools of a plan, by the bounds of a certificate.
 
 ghost use Rattle.std.specs.Prelude.{◌≡◌, IfOk, nat_le};
 ghost use Rattle.std.specs.List.{list_all, enumerate_from};

@@ -40,8 +40,8 @@ pub(crate) fn push_bound(
 }
 
 /// Appends the capacity of the pool's queue and the bound of the queue. If there is no bound, or
-/// the bound does not limit the jobs of the pool, appends the text of [`push_no_bound`] in its
-/// place.
+/// the bound does not limit the jobs of the pool, appends the text of [`push_no_bound`] in place of
+/// the bound.
 fn push_queue(
     alloc: Global,
     text: &mut String,

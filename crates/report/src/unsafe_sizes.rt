@@ -102,8 +102,8 @@ pub(crate) fn push_open(text: &mut String, sizes: &SizesFound) -> Result<(), All
     text.push('\n')
 }
 
-/// Returns the words for what was not found: no counterexample, and no certificate for the declared
-/// sizes. If no certificate accepts the plan with any sizes, the words say this instead.
+/// Returns the words that say what was not found: a counterexample, and a certificate for the
+/// declared sizes. If no certificate accepts the plan with any sizes, the words say so.
 pub(crate) fn open_words(sizes: &SizesFound) -> &'static str
     ensures { result.now ≡ spec.open_words sizes.now }
 {
