@@ -134,7 +134,7 @@ fn hint_of_first(command: Command, text: &[u8], is_alone: bool) -> Option<Hint> 
     {
         return Some(missing_text(text, second));
     }
-    // The answer of `ask` says so itself.
+    // The answer of `ask` explains the mistake itself.
     if let Command::OnThreads(Task::Ask { .. }) = command {
         return None;
     }
@@ -172,7 +172,7 @@ fn hint_of_second(command: Command, text: &[u8]) -> Option<Hint> {
         Command::Sequential(ReviewCommand::Replay) => hint_of_events(text),
         Command::Sequential(ReviewCommand::Check | ReviewCommand::Explain)
         | Command::OnThreads(Task::Run { .. }) => hint_of_misplaced(text, CERTIFICATE),
-        // The answer of `ask` says so itself, and the other commands read one text.
+        // The answer of `ask` explains the mistake itself, and the other commands read one text.
         _ => None,
     }
 }
