@@ -1,4 +1,4 @@
--- The numbers in texts: decimal digits without a leading zero, except 0 itself, with a value of at most 1,000,000,000.
+-- The numbers in texts. A number has decimal digits without a leading zero, except the number 0, and is at most 1,000,000,000.
 use Rattle.std.specs.Prelude.{ℕ, Bool, ◌==◌, ◌&&◌, not, nat_lt, nat_le, if◌then◌else◌, List, length, take, drop, slice_index, Option, Some, None, option_map}
 use Rattle.std.specs.Char.{is_ascii_digit}
 use Rattle.std.specs.List.{list_all, prefix_len}
@@ -6,7 +6,7 @@ use Rattle.std.specs.Str.Parse.{digits_value}
 use Rattle.line_words.specs.Pieces.{first_line, after_line}
 use Rattle.job_bodies.specs.declared.limits.TheConstants.{MAX_LINE_NUMBER}
 
--- whether the number is within the limit
+-- whether the number is at most the limit
 abbrev pub is_valid_number : ℕ → Bool
 is_valid_number n = nat_le n MAX_LINE_NUMBER
 
@@ -14,11 +14,11 @@ is_valid_number n = nat_le n MAX_LINE_NUMBER
 abbrev pub has_leading_zero : List ℕ → Bool
 has_leading_zero text = nat_lt 1 (length text) && slice_index text 0 == 48
 
--- whether the text is one digit, or several digits of which the first is not 0
+-- whether the text has only digits and at least one, without a leading zero
 unfoldable pub is_whole_number : List ℕ → Bool
 is_whole_number text = not (length text == 0) && not (has_leading_zero text) && list_all is_ascii_digit text
 
--- the number whose text this is; None if it is not the text of a number
+-- the number that the text spells; None if it spells no number
 unfoldable pub number_of : List ℕ → Option ℕ
 number_of text = if is_whole_number text && nat_le (digits_value 10 text) MAX_LINE_NUMBER then Some (digits_value 10 text) else None
 
@@ -26,10 +26,10 @@ number_of text = if is_whole_number text && nat_le (digits_value 10 text) MAX_LI
 abbrev pub digit_count : List ℕ → ℕ
 digit_count text = prefix_len is_ascii_digit text
 
--- the number at the start of the text, and the text after its digits; None if these digits are not the text of a number
+-- the number that the digits at the start of the text spell, and the text after these digits; None if the digits spell no number
 unfoldable pub leading_number : List ℕ → Option (ℕ × List ℕ)
 leading_number text = option_map (λ n. (n, drop (digit_count text) text)) (number_of (take (digit_count text) text))
 
--- the number that is the whole first line of the text, and the text after that line; None if the line is not the text of a number
+-- the number that the first line of the text spells, and the text after this line; None if the line spells no number
 abbrev pub split_number_line : List ℕ → Option (ℕ × List ℕ)
 split_number_line text = option_map (λ n. (n, after_line text)) (number_of (first_line text))

@@ -8,11 +8,11 @@ is_newline b = b == 10
 abbrev pub is_space : ℕ → Bool
 is_space b = b == 32
 
--- the text without its last byte if that is a newline, and otherwise the text
+-- the text without its last byte if this byte is a newline; otherwise the text unchanged
 unfoldable pub without_last_newline : List ℕ → List ℕ
 without_last_newline text = if slice_index text (length text - 1) == 10 then take (length text - 1) text else text
 
--- the lines of a text, without their newlines; the last line need not end with one, and an empty text has no lines
+-- the lines of a text, without their newlines. The last line can lack its newline. An empty text has no lines
 unfoldable pub lines_of : List ℕ → List (List ℕ)
 lines_of text = if length text == 0 then [] else slice_split is_newline (without_last_newline text)
 
@@ -28,6 +28,6 @@ after_line text = after_first is_newline text
 unfoldable pub split_space : List ℕ → Option (List ℕ × List ℕ)
 split_space text = option_map (λ place. (take place text, drop (place + 1) text)) (position is_space text)
 
--- the words of a text, which single spaces separate; between two adjacent spaces there is an empty word
+-- the words of a text: the parts between its spaces. Between two adjacent spaces there is an empty word
 unfoldable pub words_of : List ℕ → List (List ℕ)
 words_of text = slice_split is_space text

@@ -41,7 +41,7 @@ rule_name Safe = codes "safe"
 rule_name NotSafe = codes "not-safe"
 rule_name NotDecided = codes "not-decided"
 
--- what an annotation says
+-- an annotation: its rule, its message and its place
 pub record Remark : Type 0 where
   pub rule : Rule
   pub message : List ℕ
@@ -53,6 +53,6 @@ remark_of a = record { rule = a.rule; message = string_bytes a.message; place = 
 abbrev pub remarks_in : List Annotation → List Remark
 remarks_in = map remark_of
 
--- if the call succeeds, the new list has these remarks in addition
+-- if `result` is `Ok`, the list `new` is the list `old` with these remarks added at its end
 abbrev pub Adds : {X E : Type 0} → Result X E → List Annotation → List Annotation → List Remark → Type 0
 Adds result old new remarks = OnOk result (remarks_in new ≡ remarks_in old ++ remarks)

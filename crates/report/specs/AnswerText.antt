@@ -22,26 +22,26 @@ not_safe_head = codes "NOT SAFE" ++ 10 ∷ []
 abbrev pub not_decided_head : List ℕ
 not_decided_head = codes "NOT DECIDED" ++ 10 ∷ []
 
--- the sizes with which a certificate accepts the plan
+-- the lines with the sizes of `fit`, with which a certificate accepts the plan
 abbrev pub fit_part : Plan → Plan → List ℕ
 fit_part plan fit = (codes "with these sizes a certificate accepts the plan:" ++ 10 ∷ []) ++ sizes_text plan fit
 
--- the sizes that were found, or why there are none
+-- the lines with the sizes that were found, or with the reason why no sizes were found
 abbrev pub sizes_part : Plan → SizesFound → List ℕ
 sizes_part plan (Found fit cert) = fit_part plan fit
 sizes_part plan (NotFound cause) = no_sizes_text plan cause
 
--- the answer, and then the lines for each pool
+-- the text is the answer SAFE: its first line, the lines about the pools, and what the certificate guarantees
 abbrev pub TellsSafe : Plan → Cert → List (Option ℕ) → List ℕ → Type 0
 TellsSafe plan cert rejections text = text ≡ safe_head ++ safe_text plan cert rejections
 
--- the answer, the witness's story, the sizes, and the advice for them
+-- the text is the answer NOT SAFE: its first line, the description of the witness, the sizes, and the advice
 pub record TellsNotSafe (plan : Plan) (witness : Witness) (sizes : SizesFound) (text : List ℕ) : Type 0 where
   pub story : List ℕ
   pub is_story : IsDescription plan witness story
   pub is : text ≡ ((not_safe_head ++ story) ++ sizes_part plan sizes) ++ advice_text plan sizes
 
--- the answer, the sizes, the advice for them, and what is not decided
+-- the text is the answer NOT DECIDED: its first line, the sizes, the advice, and a line that says what was not found
 abbrev pub TellsNotDecided : Plan → SizesFound → List ℕ → Type 0
 TellsNotDecided plan sizes text = text ≡ ((not_decided_head ++ sizes_part plan sizes) ++ advice_text plan sizes) ++ open_text sizes
 

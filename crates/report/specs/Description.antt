@@ -22,14 +22,14 @@ ending_text plan (Refused p) = codes "refused by " ++ (pool_at plan p).name
 ending_text plan (StuckForever members reason) = codes "stuck forever: " ++ jobs_wait members.items
 ending_text plan (StuckNow members) = codes "stuck now: " ++ jobs_wait members.items
 
--- the client that performs the event, as a list, which is empty if no client does
+-- a list of the client that performs the event; empty if no client performs it
 abbrev pub active_client_of : Event → List ℕ
 active_client_of (Client client) = client ∷ []
 active_client_of (Job job) = []
 active_client_of (Take pool) = []
 active_client_of (Retire pool) = []
 
--- the number of the acting client for each event of a client, with duplicates
+-- the clients that perform the events, in the order of the events; a client occurs once for each event that it performs
 abbrev pub active_clients : List Event → List ℕ
 active_clients = flat_map active_client_of
 
@@ -43,7 +43,7 @@ pub record IsActiveClientCount (events : List Event) (count : ℕ) : Type 0 wher
 abbrev pub of_clients : ℕ → List ℕ
 of_clients count = if count == 1 then codes " of 1 client" else codes " of " ++ decimal count ++ codes " clients"
 
--- the first line: the ending of the witness, the number of its events, and the number of clients that act in the events
+-- the first line: the ending of the witness, the number of its events, and the number of clients that perform events
 abbrev pub head : Plan → Witness → ℕ → List ℕ
 head plan witness clients = (ending_text plan witness.ending ++ codes ", after " ++ decimal (length witness.events.items) ++ codes " events") ++ (of_clients clients ++ 10 ∷ [])
 
@@ -51,24 +51,24 @@ head plan witness clients = (ending_text plan witness.ending ++ codes ", after "
 abbrev pub has_timeouts : Plan → Bool
 has_timeouts plan = list_any (λ (pool : Pool). pool.core_timeout) plan.pools
 
--- why a pool starts no thread although it has fewer than its maximum. If core threads may time out, the pool can also start a thread below
--- core, and one above core in place of one that timed out
+-- the words for a pool that starts no thread although it has fewer than its maximum. If core threads may time out, the pool can
+-- start a thread below core. It can also start one above core in place of one that timed out
 unfoldable pub at_core_words : Bool → List ℕ
 at_core_words timeouts = if timeouts then codes "at least core threads and a queue that is never full" else codes "never starts one above core"
 
--- the last line about pools that start no thread although they may have fewer than their maximum
+-- the last line, if jobs wait permanently in the queue of a pool that starts no thread although it has fewer than its maximum
 abbrev pub at_core_line : Bool → List ℕ
 at_core_line timeouts = codes "forever: each pool in whose queue one of them waits has all its threads, or " ++ (at_core_words timeouts ++ 10 ∷ [])
 
--- the thread that may end a wait. If core threads may time out, it can be below core
+-- the words for the thread whose start may end a wait. If core threads may time out, this can be a core thread
 abbrev pub started_words : Bool → List ℕ
 started_words timeouts = if timeouts then codes "another thread" else codes "a thread above core"
 
--- the last line about a wait that a thread may end
+-- the last line, if the start of a thread may end the wait
 abbrev pub until_line : Bool → List ℕ
 until_line timeouts = codes "until a pool in whose queue one of them waits starts " ++ (started_words timeouts ++ 10 ∷ [])
 
--- the last line: the reason why jobs wait permanently, or what may end the wait; a refused submit has no such line
+-- the last line: why the jobs wait permanently, or what may end their wait. Empty if the witness ends with a refused submit
 abbrev pub why_text : Plan → Ending → List ℕ
 why_text plan (Refused p) = []
 why_text plan (StuckForever members PoolsAreFull) = codes "forever: each pool in whose queue one of them waits has all its threads" ++ 10 ∷ []

@@ -1,4 +1,4 @@
--- The events of a list that are performed from the start of a plan, with the states before and after each of them.
+-- The rows of a list of events. Each row is an event that was performed, with the states before and after it.
 use Rattle.std.specs.Prelude.{List, [], ◌∷◌, ◌++◌, Option, Some, None}
 use Rattle.job_bodies.specs.Plan.{Plan}
 use Rattle.written_machine.specs.declared.event.Event.{Event}
@@ -14,12 +14,12 @@ pub record EventRow : Type 0 where
   pub outcome : Outcome
   pub after : State
 
--- the row of the event, which has this result in state s; no row if the event is not possible
+-- the row of event e in state s; `Some` has the state after the event and its outcome. No row if e is not possible
 abbrev pub row_of : State → Event → Option (State × Outcome) → List EventRow
 row_of s e None = []
 row_of s e (Some x) = record { event = e; before = s; outcome = x.1; after = x.0 } ∷ []
 
--- a row for each event, from state s, up to the first event that is not possible
+-- the rows of the events from state s, before the first event that is not possible
 abbrev pub rows_from : Plan → Option State → List Event → List EventRow
 rows_from plan s [] = []
 rows_from plan None (e ∷ events) = []
@@ -34,6 +34,6 @@ abbrev pub last_state : State → List EventRow → State
 last_state s [] = s
 last_state s (row ∷ rows) = last_state row.after rows
 
--- the state after the events, up to the first one that is not possible
+-- the state after the events that come before the first event that is not possible
 abbrev pub state_at_end : Plan → List Event → State
 state_at_end plan events = last_state (start plan) (event_rows plan events)

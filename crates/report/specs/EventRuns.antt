@@ -1,4 +1,4 @@
--- Runs of equal steps, which clients of one kind do one after another.
+-- Runs: consecutive similar steps of clients of one kind. The numbers of the clients are consecutive.
 use Rattle.std.specs.Prelude.{ℕ, ◌+◌, ◌==◌, ◌&&◌, Bool, true, false, if◌then◌else◌, List, [], ◌∷◌, Option, Some, None}
 use Rattle.job_bodies.specs.Plan.{Plan}
 use Rattle.written_machine.specs.declared.event.Outcome.{Outcome}
@@ -13,7 +13,7 @@ use Rattle.report.specs.EventSteps.{step_of}
 
 -- ---- a step with the queue of its pool
 
--- a step, and the queue of its pool after the event, the head first; the queue is empty if the step has no pool
+-- a step, and the jobs in the queue of its pool after the event, from the head to the end; no jobs if the step has no pool
 pub record EventShown : Type 0 where
   pub step : EventStep
   pub queue : List ℕ
@@ -33,7 +33,7 @@ pub record Run : Type 0 where
   pub times : ℕ
   pub last : EventShown
 
--- whether both are clients of one kind, and the number of the second is greater by n
+-- whether both actors are clients of one kind, and the number of the second is n greater than the number of the first
 abbrev pub is_later_client : Actor → ℕ → Actor → Bool
 is_later_client (Client kind c) n (Client kind' c') = kind' == kind && c' == c + n
 is_later_client _ n _ = false
@@ -43,7 +43,7 @@ is_same_action None None = true
 is_same_action (Some i) (Some j) = j == i
 is_same_action _ _ = false
 
--- whether both are the same outcome of a client, and the number of a job that the second made is greater by n
+-- whether both are the same outcome of a client. If they create jobs, the number of the second job must be n greater
 abbrev pub is_later_outcome : Outcome → ℕ → Outcome → Bool
 is_later_outcome (Started j) n (Started j') = j' == j + n
 is_later_outcome (Queued j) n (Queued j') = j' == j + n
@@ -52,12 +52,12 @@ is_later_outcome (Worked u) n (Worked u') = true
 is_later_outcome Looped n Looped = true
 is_later_outcome _ n _ = false
 
--- whether the step belongs to the run that has n steps so far, of which this is the first
+-- whether the step continues a run of n steps, whose first step is `first`
 abbrev pub follows : EventStep → ℕ → EventStep → Bool
 follows first n step =
     is_later_client first.actor n step.actor && (is_same_action first.action step.action && is_later_outcome first.outcome n step.outcome)
 
--- the runs of the steps, after a run that has n steps so far, with this first and this last step
+-- the run of the n steps from `first` to `last`, extended by the steps that continue it, and then the runs of the other steps
 abbrev pub runs_from : EventStep → ℕ → EventShown → List EventShown → List Run
 runs_from first n last [] = record { first = first; times = n; last = last } ∷ []
 runs_from first n last (next ∷ rest) =

@@ -1,5 +1,5 @@
--- The effects of an event: the actor, the action, the outcome, the pool that the event changed or that refused or rejected a job, and the
--- class of the job that a thread took.
+-- What an event did: its actor, action and outcome, its pool, and the class of the job that a thread took. Its pool is the pool
+-- that it changed, or that refused or rejected a job.
 use Rattle.std.specs.Prelude.{ℕ, Option, Some, None, slice_get, option_map, option_and_then}
 use Rattle.job_bodies.specs.Plan.{Plan}
 use Rattle.written_machine.specs.declared.event.Event.{Event}
@@ -16,7 +16,7 @@ use Rattle.report.specs.EventRows.{EventRow}
 
 -- ---- the actor
 
--- the kind of the client with this number
+-- the index of the client kind of the client with this number
 abbrev pub kind_of : Plan → ℕ → ℕ
 kind_of plan c = (client_state (start plan) c).kind
 
@@ -37,7 +37,7 @@ position_of s (event.Client c) = (client_state s c).position
 position_of s (event.Job j) = position_at (job_at s j).stage
 position_of s _ = 0
 
--- the index of the action that had this outcome, which is the actor's position; None at the end of a body, and for an event of a pool
+-- the actor's position i, if the outcome is that of an action of its body; None at the end of a body, and for an event of a pool
 abbrev pub action_of : Outcome → ℕ → Option ℕ
 action_of (Started j) i = Some i
 action_of (Queued j) i = Some i
@@ -55,7 +55,7 @@ pool_of_actor plan (Client kind c) = None
 pool_of_actor plan (Job class j) = Some (pool_of plan class)
 pool_of_actor plan (Pool p) = Some p
 
--- the pool that the event changed or that refused or rejected a job, given the state after the event; None if there is none
+-- the pool that the event changed, or that refused or rejected a job; None if there is none. `after` is the state after the event
 abbrev pub changed_pool : Plan → State → Actor → Outcome → Option ℕ
 changed_pool plan after actor (Started j) = Some (pool_of plan (job_at after j).class)
 changed_pool plan after actor (Queued j) = Some (pool_of plan (job_at after j).class)
@@ -66,12 +66,12 @@ changed_pool plan after actor (Took j) = pool_of_actor plan actor
 changed_pool plan after actor Retired = pool_of_actor plan actor
 changed_pool plan after actor _ = None
 
--- pool p in state s; None if the plan has no such pool
+-- the number of threads and the number of idle threads of pool p in state s; None if the plan has no such pool
 abbrev pub counts_of : Plan → State → ℕ → Option PoolCounts
 counts_of plan s p =
     option_map (λ pool. record { number = p; threads = threads plan s p; idle = (pool_part s p).idle }) (slice_get plan.pools p)
 
--- the class of the job that a thread took, given the state after the event
+-- the class of the job that a thread took; None if no thread took a job. `after` is the state after the event
 abbrev pub taken_class : State → Outcome → Option ℕ
 taken_class after (Took j) = Some (job_at after j).class
 taken_class after _ = None

@@ -1,4 +1,4 @@
--- The finding about a plan on which an answer rests.
+-- When the finding about a plan is true. The answer is written from this finding.
 use Rattle.std.specs.Prelude.{◌≡◌, ◌≢◌, ℕ, false, List, length, slice_index_or, Option, None, IfSome, IsTrue}
 use Rattle.job_bodies.specs.Plan.{Plan}
 use Rattle.written_machine.specs.declared.event.Event.{Event}
@@ -14,12 +14,13 @@ use Rattle.size_search.specs.declared.found.SizesFound.TheVariants.{Found}
 use Rattle.report.specs.declared.finding.PlanFinding.{PlanFinding}
 use Rattle.report.specs.declared.finding.PlanFinding.TheVariants.{Safe, NotSafe, NotDecided}
 
--- the result of the search for sizes is true of the plan, and decides whether there are any
+-- the result of the search for sizes is true of the plan, and it decides whether sizes exist that a certificate accepts
 pub record IsKnown (plan : Plan) (sizes : SizesFound) : Type 0 where
   pub is_found : IsFound plan sizes
   pub is_decided : IsDecided plan sizes
 
--- no certificate was found: the steady one does not accept the plan, and the sizes that were found are not the declared ones
+-- no certificate for the declared sizes was found: the steady certificate does not accept the plan, and the search did not find
+-- the declared sizes
 pub record IsOpen (plan : Plan) (sizes : SizesFound) : Type 0 where
   pub known : IsKnown plan sizes
   pub not_steady : accepted plan (steady_cert plan) ≡ false
@@ -31,13 +32,14 @@ pub record RejectsAfter (plan : Plan) (p n : ℕ) : Type 0 where
   pub count : length events ≡ n
   pub ends : EndsRejected plan events p
 
--- each number of the list is the number of events after which the pool rejects a job
+-- each number in the list is the number of events after which the pool with the same index rejects a job
 abbrev pub AreRejections : Plan → List (Option ℕ) → Type 0
 AreRejections plan rejections = (p : ℕ) → IfSome (slice_index_or rejections p None) (RejectsAfter plan p)
 
--- the finding is true of the plan. Safe: the certificate accepts the plan, and the numbers of events are those of rejections. Not safe: the
--- witness is one of the plan, and the result of the search for sizes is true. Not decided: that result is true, and no certificate was
--- found (`IsOpen`)
+-- the finding is true of the plan:
+-- - Safe: the certificate accepts the plan, and each number is the number of events after which the pool rejects a job
+-- - NotSafe: the witness is a witness against the plan, and the result of the search for sizes is true
+-- - NotDecided: the result of the search for sizes is true, and no certificate was found (`IsOpen`)
 abbrev pub IsFinding : Plan → PlanFinding → Type 0
 IsFinding plan (Safe cert rejections) = IsTrue (accepted plan cert) × AreRejections plan rejections.items
 IsFinding plan (NotSafe witness sizes) = IsWitness plan witness.events.items witness.ending × IsKnown plan sizes

@@ -14,7 +14,7 @@ use Rattle.diagnostics.specs.declared.entry_places.PlanPlaces.{PlanPlaces}
 use Rattle.report.specs.declared.finding.PlanFinding.{PlanFinding}
 use Rattle.report.specs.Remarks.{AreRemarks}
 
--- the name of the command
+-- the name of the command for a rule
 abbrev pub command : Rule → List ℕ
 command (Fault number) = codes "error"
 command MoreFaults = codes "error"
@@ -31,11 +31,11 @@ title (Fault number) = rule_name (Fault number)
 title MoreFaults = rule_name MoreFaults
 title (Warning lint) = rule_name (Warning lint)
 
--- a character of a message
+-- a character of a message; `%`, a carriage return and a newline are escaped
 abbrev pub message_char : ℕ → List ℕ
 message_char c = if c == 37 then codes "%25" else if c == 13 then codes "%0D" else if c == 10 then codes "%0A" else encode_utf8 c
 
--- a character of the value of a property
+-- a character of a property's value; `:` and `,` are escaped, and so are the characters that are escaped in a message
 abbrev pub property_char : ℕ → List ℕ
 property_char c = if c == 58 then codes "%3A" else if c == 44 then codes "%2C" else message_char c
 
@@ -54,7 +54,7 @@ place_part (Some place) = codes ",line=" ++ (decimal place.line ++ (codes ",col=
 abbrev pub properties : List ℕ → Rule → Option TextPlace → List ℕ
 properties file rule place = codes " file=" ++ (property_text file ++ (place_part place ++ (codes ",title=" ++ title rule)))
 
--- the line of an annotation
+-- the command for an annotation, on a line of its own
 abbrev pub command_line : List ℕ → Remark → List ℕ
 command_line file remark = codes "::" ++ (command remark.rule ++ (properties file remark.rule remark.place ++ (codes "::" ++ (message_text remark.message ++ 10 ∷ []))))
 
@@ -62,7 +62,7 @@ command_line file remark = codes "::" ++ (command remark.rule ++ (properties fil
 abbrev pub github_text : List ℕ → List Remark → List ℕ
 github_text file = flat_map (command_line file)
 
--- a line for each remark about the finding
+-- the text has a line for each remark about the finding
 pub record TellsFinding (file : List ℕ) (places : PlanPlaces) (plan : Plan) (finding : PlanFinding) (warnings : List PlanWarning) (text : List ℕ) : Type 0 where
   pub remarks : List Remark
   pub are_remarks : AreRemarks places plan finding warnings remarks

@@ -20,7 +20,7 @@ use Rattle.report.specs.JsonWitness.{witness_data}
 
 -- ---- the object
 
--- the members of an answer that depend on more than its name and its file
+-- the members of an answer except its name, its file, the format and the version
 pub record Parts : Type 0 where
   pub assumptions : Data
   pub faults : Data
@@ -31,11 +31,11 @@ pub record Parts : Type 0 where
   pub warnings : Data
   pub witness : Data
 
--- the members that these parts give
+-- the members of an answer, which the code holds as `AnswerParts`
 abbrev pub parts_of : AnswerParts → Parts
 parts_of m = record { assumptions = view m.assumptions; faults = view m.faults; omitted = m.omitted; plan = view m.plan; pools = view m.pools; sizes = view m.sizes; warnings = view m.warnings; witness = view m.witness }
 
--- the object of an answer with this name, its keys in ascending order
+-- the object of an answer, with its keys in ascending order; `word` is the name of the answer, such as `NOT SAFE`
 unfoldable pub answer_data : List ℕ → List ℕ → Parts → Data
 answer_data word file parts =
     object (member (codes "answer") (string word)
@@ -58,7 +58,7 @@ word_of (Safe cert rejections) = codes "SAFE"
 word_of (NotSafe witness sizes) = codes "NOT SAFE"
 word_of (NotDecided sizes) = codes "NOT DECIDED"
 
--- what SAFE rests on
+-- the assumptions of the answer SAFE
 unfoldable pub safe_assumptions : Data
 safe_assumptions =
     array (item (string (codes "The service does what the plan says: these pools, these submitters, these bodies. A job may skip any submit together with its get. `sizing conform` compares a recorded test run with the plan."))
@@ -71,13 +71,13 @@ assumptions_data (Safe cert rejections) = safe_assumptions
 assumptions_data (NotSafe witness sizes) = array (items_of [])
 assumptions_data (NotDecided sizes) = array (items_of [])
 
--- the pools, with the bounds of the certificate that accepts the plan
+-- the pools of the plan; if a certificate accepts the plan, with the bounds of the certificate
 abbrev pub pools_of : Plan → PlanFinding → Data
 pools_of plan (Safe cert rejections) = pools_data plan cert.pools rejections.items
 pools_of plan (NotSafe witness sizes) = pools_data plan [] []
 pools_of plan (NotDecided sizes) = pools_data plan [] []
 
--- the result of the search for other sizes
+-- the result of the search for other sizes; null if the plan is safe
 abbrev pub sizes_of : PlanPlaces → Plan → PlanFinding → Data
 sizes_of places plan (Safe cert rejections) = null
 sizes_of places plan (NotSafe witness sizes) = sizes_data places plan sizes
@@ -91,7 +91,7 @@ witness_of places plan (NotDecided sizes) = null
 abbrev pub finding_parts : List ℕ → PlanPlaces → Plan → PlanFinding → List Warning → Parts
 finding_parts text places plan finding warnings = record { assumptions = assumptions_data finding; faults = array (items_of []); omitted = 0; plan = plan_data text places plan; pools = pools_of plan finding; sizes = sizes_of places plan finding; warnings = warnings_data warnings; witness = witness_of places plan finding }
 
--- the answer about a plan that was read from this text
+-- the answer with the finding about a plan; `text` is the text from which the plan was read
 abbrev pub finding_data : List ℕ → List ℕ → PlanPlaces → Plan → PlanFinding → List Warning → Data
 finding_data file text places plan finding warnings = answer_data (word_of finding) file (finding_parts text places plan finding warnings)
 
@@ -104,7 +104,7 @@ pub record TellsFinding (file text : List ℕ) (places : PlanPlaces) (plan : Pla
 abbrev pub fault_parts : Data → Data → ℕ → Parts
 fault_parts plan faults omitted = record { assumptions = array (items_of []); faults = faults; omitted = omitted; plan = plan; pools = array (items_of []); sizes = null; warnings = array (items_of []); witness = null }
 
--- the answer about a text with these faults, and a number of others that are left out
+-- the answer about a text with faults; `omitted` is the number of further faults, which are left out
 abbrev pub faulty_data : List ℕ → List ℕ → Data → ℕ → Data
 faulty_data file text faults omitted = answer_data (codes "FAULTS") file (fault_parts (text_only_data text) faults omitted)
 

@@ -90,7 +90,7 @@ pool_data plan (Some counts) queue = pool_state_data counts.idle (pool_at plan c
 
 -- ---- events
 
--- the members of an event
+-- the members of the object of an event
 pub record EventParts : Type 0 where
   pub action : Data
   pub actor : Data
@@ -112,7 +112,7 @@ event_data parts =
     (member (codes "pool") parts.pool
     (member (codes "times") (number_data parts.times) no_members))))))))
 
--- a run as one event
+-- the object of a run: the members of its first step, the pool after its last step, and the number of its steps
 abbrev pub run_data : Plan → PlanPlaces → Run → Data
 run_data plan places run = event_data (record {
   action = optional_number run.first.action;
@@ -125,6 +125,6 @@ run_data plan places run = event_data (record {
   times = run.times;
 })
 
--- the events from the start of the plan, each run of them as one
+-- the list of the events from the start of the plan, with one object for each run
 abbrev pub events_data : PlanPlaces → Plan → List Event → Data
 events_data places plan events = list_data (map (run_data plan places) (runs (map (shown_of plan) (event_rows plan events))))

@@ -24,10 +24,10 @@ fault_data place fault range words =
 abbrev pub diagnostic_data : Diagnostic → Data
 diagnostic_data diagnostic = fault_data (Some diagnostic.place) diagnostic.fault.number (range_data diagnostic.range) (string_bytes diagnostic.what)
 
--- all faults of a text, that which the plan parser reports first
+-- the list of the reported faults; its first element is the fault that the plan parser reports first
 abbrev pub faults_data : Faults → Data
 faults_data faults = array (items_of (diagnostic_data faults.first ∷ map diagnostic_data faults.others.items))
 
--- one fault without a place
+-- a list of one fault, which has no place in the plan's text
 abbrev pub single_fault_data : ℕ → List ℕ → Data
 single_fault_data fault words = array (items_of (fault_data None fault null words ∷ []))

@@ -6,8 +6,8 @@ use Rattle.serde_json.specs.Data.{Data}
 use Rattle.serde_json.specs.Written.{IsInOrder}
 use Rattle.diagnostics.specs.Lines.{HasNoNewline}
 
--- the text is the value, with each item and member once and in order, with no space between tokens and the shortest escapes, followed by
--- the only newline
+-- the text is the JSON text of the value, followed by a newline. It has each item and member once and in order, no space between
+-- tokens, the shortest escapes, and no other newline
 pub record IsLineOf (value : Data) (text : List ℕ) : Type 0 where
   pub json : List ℕ
   pub in_order : IsInOrder json value

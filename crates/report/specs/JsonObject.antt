@@ -7,22 +7,22 @@ use Rattle.serde_json.specs.View.{view, members_view}
 use Rattle.serde_json.specs.declared.value.Value.{Value}
 use Rattle.report.specs.declared.json_object.Object.{Object}
 
--- its members so far; None if memory ran out
+-- the members of the object so far; None if memory ran out
 unfoldable pub members_of : Object → Option Members
 members_of o = option_map (λ map. members_view map.entries) (result_ok o.members)
 
--- the members, and the member `key` with the value `true` if the flag is true
+-- the members and, if the flag is true, the member `key` with the value `true`
 abbrev pub with_flag : List ℕ → Bool → Members → Members
 with_flag key flag members = if flag then put key (boolean true) members else members
 
--- the object, unless memory ran out, with this member in addition
+-- unless memory ran out, `after` is `before` with the value d for the key `key`
 abbrev pub HasAlso : Object → List ℕ → Data → Object → Type 0
 HasAlso before key d after = IfSome (members_of after) (λ ms. IsSomeAnd (members_of before) (λ old. ms ≡ put key d old))
 
--- the same with the value `true` if the flag is true; unchanged otherwise
+-- unless memory ran out, `after` is `before` and, if the flag is true, has the value `true` for the key `key`
 abbrev pub HasFlag : Object → List ℕ → Bool → Object → Type 0
 HasFlag before key flag after = IfSome (members_of after) (λ ms. IsSomeAnd (members_of before) (λ old. ms ≡ with_flag key flag old))
 
--- the same of a value for which memory may have run out
+-- unless memory ran out, `after` is `before` with the value in `part` for the key `key`
 abbrev pub HasPart : Object → List ℕ → Result Value AllocError → Object → Type 0
 HasPart before key part after = IfSome (members_of after) (λ ms. IsOkAnd part (λ value. IsSomeAnd (members_of before) (λ old. ms ≡ put key (view value) old)))

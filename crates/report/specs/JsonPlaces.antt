@@ -1,4 +1,4 @@
--- The places of a plan's entries and of what a cause names, and lines and columns as JSON.
+-- The places of a plan's entries, the place of the cause why no sizes were found, and lines and columns as JSON.
 use Rattle.std.specs.Prelude.{ℕ, List, Option, Some, None, option_and_then, slice_get, slice_index_or}
 use Rattle.serde_json.specs.Data.{Data, null, number, unsigned}
 use Rattle.plan_text.specs.declared.place.TextPlace.{TextPlace}
@@ -19,7 +19,7 @@ abbrev pub column_data : Option TextPlace → Data
 column_data None = null
 column_data (Some place) = number (unsigned place.column)
 
--- the places of a pool of which none is known
+-- the places of a pool, if none of them is known
 abbrev pub no_pool_places : PoolPlaces
 no_pool_places = record { name = None; core = None; max = None; queue = None; core_timeout = None }
 
@@ -31,7 +31,7 @@ pool_places_at pools p = slice_index_or pools p no_pool_places
 abbrev pub name_place : List BodyPlaces → ℕ → Option TextPlace
 name_place bodies index = option_and_then (λ body. body.name) (slice_get bodies index)
 
--- the place of an action, from the places of the actions of its body
+-- the place of an action; `actions` are the places of the actions of its body
 abbrev pub listed_place : List (Option TextPlace) → ℕ → Option TextPlace
 listed_place actions action = slice_index_or actions action None
 
@@ -39,8 +39,8 @@ listed_place actions action = slice_index_or actions action None
 abbrev pub action_place : List BodyPlaces → ℕ → ℕ → Option TextPlace
 action_place bodies index action = option_and_then (λ body. listed_place body.actions.items action) (slice_get bodies index)
 
--- the place of the class, the action or the pool that the cause names; of a pool whose core threads may time out, that of the key
--- `core_timeout`
+-- the place of what the cause names: a class, an action, the key `core_timeout` of a pool or, for sizes above the limit, a pool's
+-- name
 abbrev pub cause_place : PlanPlaces → NoSizes → Option TextPlace
 cause_place places (Cause (Circle k)) = name_place places.classes.items k
 cause_place places (Cause (ClientNeverGets c i)) = action_place places.clients.items c i

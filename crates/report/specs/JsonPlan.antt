@@ -39,7 +39,7 @@ get_data place slot =
     (member (codes "line") (line_data place)
     (member (codes "slot") (number (unsigned slot)) no_members))))
 
--- the slot of the submit at position i of the body: its position; null if the body has no get of it
+-- the slot of the submit at position i of the body: this position, or null if the body has no get of its job
 abbrev pub slot_data : List Action → ℕ → Data
 slot_data body i = if has_get_of body i then number (unsigned i) else null
 
@@ -49,11 +49,11 @@ action_data plan place body i (Work units) = work_data place units
 action_data plan place body i (Submit k) = submit_data place (class_at plan k).name (slot_data body i)
 action_data plan place body i (Get t) = get_data place t
 
--- an action of the body of the class or client kind at an index, with its position
+-- the action at position i of a body; `index` is the index of the class or client kind with this body
 abbrev pub action_entry : Plan → List BodyPlaces → ℕ → List Action → ℕ × Action → Data
 action_entry plan bodies index body (i, action) = action_data plan (action_place bodies index i) body i action
 
--- the body of the class or client kind at an index
+-- the list of the actions of a body; `index` is the index of the class or client kind with this body
 abbrev pub body_data : Plan → List BodyPlaces → ℕ → List Action → Data
 body_data plan bodies index body = array (items_of (map (action_entry plan bodies index body) (enumerate_from 0 body)))
 
@@ -71,7 +71,7 @@ max_data pool = limit_data (has_no_max pool) pool.max
 abbrev pub queue_data : Pool → Data
 queue_data pool = limit_data pool.unbounded pool.queue
 
--- the members of a pool, without the flags that only some pools have
+-- the members that every pool has, without `core_timeout` and `may_reject`
 unfoldable pub pool_members : Option TextPlace → Pool → Members
 pool_members place pool =
     member (codes "column") (column_data place)
@@ -140,6 +140,6 @@ plan_data text places plan =
     plan_object (classes_data plan places.classes.items plan.classes) (clients_data plan places.clients.items plan.clients) (pools_data places.pools.items plan.pools)
     (text_data text)
 
--- the text alone, of which no plan was read
+-- the object for a text from which no plan was read: the text, and no pools, classes or client kinds
 abbrev pub text_only_data : List ℕ → Data
 text_only_data text = plan_object (array (items_of [])) (array (items_of [])) (array (items_of [])) (text_data text)

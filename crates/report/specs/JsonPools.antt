@@ -24,7 +24,7 @@ share_data jobs name = object (member (codes "jobs") (number (unsigned jobs)) (m
 abbrev pub share_of : ℕ → List ℕ → List Data
 share_of share name = if share == 0 then [] else share_data share name ∷ []
 
--- the share of a kind of clients
+-- the share of a client kind
 abbrev pub client_share : Plan → ℕ × ℕ → List Data
 client_share plan (kind, share) = share_of share (client_at plan kind).name
 
@@ -38,7 +38,8 @@ clients_data plan shares = array (items_of (flat_map (client_share plan) (enumer
 abbrev pub threads_data : Plan → List ℕ → Data
 threads_data plan shares = array (items_of (flat_map (thread_share plan) (enumerate_from 0 shares)))
 
--- whether the total bounds the jobs in the queue at one time, or those that are ever submitted to the pool
+-- the kind of a bound: `standing` if its total limits the jobs in the queue at one time, and `lifetime` if it limits the jobs
+-- that are ever submitted to the pool
 abbrev pub kind_of : Bound → List ℕ
 kind_of (Standing v) = codes "standing"
 kind_of (Lifetime v) = codes "lifetime"
@@ -50,7 +51,7 @@ bound_object clients kind threads n =
     (member (codes "threads") threads
     (member (codes "total") (number (unsigned n)) no_members))))
 
--- the bound by a vector of this kind
+-- the object of a bound; v is its vector, and `kind` is `standing` or `lifetime`
 abbrev pub vector_data : Plan → List ℕ → Vector → Data
 vector_data plan kind v = bound_object (clients_data plan (client_shares plan v)) kind (threads_data plan (worker_shares plan v)) (total plan v)
 
@@ -58,8 +59,8 @@ vector_data plan kind v = bound_object (clients_data plan (client_shares plan v)
 abbrev pub fitting_data : Plan → Bound → Data
 fitting_data plan bound = if vector_fits plan (bound_vector bound) then vector_data plan (kind_of bound) (bound_vector bound) else null
 
--- the bound of pool p; null if there is none, if its vector does not fit the plan, or if its total does not bound the jobs in an unbounded
--- queue
+-- the bound of the queue of pool p. Null if there is no bound, if its vector does not fit the plan, or if its total does not
+-- limit the jobs in an unbounded queue
 abbrev pub bound_data : Plan → ℕ → Option Bound → Data
 bound_data plan p None = null
 bound_data plan p (Some bound) = if bounds_jobs plan p bound then fitting_data plan bound else null
@@ -69,8 +70,8 @@ bound_data plan p (Some bound) = if bounds_jobs plan p bound then fitting_data p
 unfoldable pub waiting_data : ℕ → ℕ → Data
 waiting_data left most = object (member (codes "left") (number (unsigned left)) (member (codes "most") (number (unsigned most)) no_members))
 
--- the maximum number of core threads that wait at counted gets at once, and how many other threads the pool has at least while a job is
--- queued: the other core threads or, if core threads may time out, none besides the last thread; null if the maximum is not known
+-- an object with two numbers; null if the maximum is not known. `most` is the maximum number of core threads that wait at counted
+-- gets at once. `left` is the number of threads that the pool has at least while a job is queued (`least_threads`), minus `most`
 abbrev pub blocked_of : Pool → Option ℕ → Data
 blocked_of pool None = null
 blocked_of pool (Some most) = waiting_data (least_threads pool - most) most
@@ -95,11 +96,11 @@ sized_members blocked bound pool waits_for =
     (member (codes "queue") (queue_data pool)
     (member (codes "waits_for") waits_for no_members)))))))
 
--- the members of a pool; it has `core_timeout` only if that is true
+-- the members of a pool, with `core_timeout` only if its core threads may time out
 abbrev pub pool_members : Data → Data → Pool → Data → Members
 pool_members blocked bound pool waits_for = with_flag (codes "core_timeout") pool.core_timeout (sized_members blocked bound pool waits_for)
 
--- the JSON object of a pool that may reject jobs by the plan
+-- the object of a pool that the plan allows to reject jobs
 abbrev pub rejecting_object : Data → Data → Pool → Data → Data → Data
 rejecting_object blocked bound pool rejects_after waits_for =
     object (put (codes "rejects_after") rejects_after (put (codes "may_reject") (boolean true) (pool_members blocked bound pool waits_for)))
@@ -109,12 +110,12 @@ abbrev pub rejects_data : Option ℕ → Data
 rejects_data None = null
 rejects_data (Some events) = number (unsigned events)
 
--- the JSON object of pool p. It has the number of events after which p rejects a job only if p may reject jobs
+-- the object of pool p. It has the members `may_reject` and `rejects_after` only if the plan allows p to reject jobs
 abbrev pub sized_pool : Plan → ℕ → Pool → Option ℕ → Data → Data → Data
 sized_pool plan p pool rejection blocked bound =
     if pool.may_reject then rejecting_object blocked bound pool (rejects_data rejection) (waits_data plan p) else object (pool_members blocked bound pool (waits_data plan p))
 
--- pool p, with the certificate's part for it if there is one
+-- the object of pool p; `Some` has the certificate's part for p
 abbrev pub pool_data : Plan → ℕ → Pool → Option ℕ → Option PoolCert → Data
 pool_data plan p pool rejection None = sized_pool plan p pool rejection null null
 pool_data plan p pool rejection (Some part) = sized_pool plan p pool rejection (blocked_data plan pool part.blocked) (bound_data plan p part.bound)
@@ -122,6 +123,7 @@ pool_data plan p pool rejection (Some part) = sized_pool plan p pool rejection (
 abbrev pub pool_entry : Plan → List PoolCert → List (Option ℕ) → ℕ × Pool → Data
 pool_entry plan parts rejections (p, pool) = pool_data plan p pool (rejection_at rejections p) (slice_get parts p)
 
--- the pools, each with its part of a certificate and the number of events after which it rejects a job
+-- the list of the pools. `parts` has the certificate's part for each pool, and `rejections` the number of events after which it
+-- rejects a job
 abbrev pub pools_data : Plan → List PoolCert → List (Option ℕ) → Data
 pools_data plan parts rejections = array (items_of (map (pool_entry plan parts rejections) (enumerate_from 0 plan.pools)))

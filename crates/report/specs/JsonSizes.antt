@@ -1,4 +1,4 @@
--- The sizes that were found as JSON, or why there are none.
+-- The sizes that were found, or the cause why no sizes were found, as JSON.
 use Rattle.std.specs.Prelude.{ℕ, ◌==◌, ◌||◌, if◌then◌else◌, List, [], ◌∷◌, ◌++◌, map, codes, Option, Some, None, slice_get}
 use Rattle.std.specs.List.{enumerate_from}
 use Rattle.serde_json.specs.Data.{Data, null, number, unsigned, string, array, object, member, no_members}
@@ -27,16 +27,16 @@ change_data key place now value =
     (member (codes "now") now
     (member (codes "value") value no_members)))))
 
--- the change of one size, or nothing if it keeps its value
+-- the change of one size from `now` to `value`; empty if the two are equal
 abbrev pub change_of : List ℕ → Option TextPlace → ℕ → ℕ → List Data
 change_of key place now value = if now == value then [] else change_data key place (number (unsigned now)) (number (unsigned value)) ∷ []
 
--- the change of a pool's maximum, or nothing if it keeps its value or has no effect
+-- the change of a pool's maximum; empty if the maximum does not change or has no effect
 abbrev pub max_change : Option TextPlace → Pool → Pool → List Data
 max_change place declared fit =
     if has_useless_max fit || declared.max == fit.max then [] else change_data (codes "max") place (max_data declared) (max_data fit) ∷ []
 
--- the change of a pool's queue, or nothing if it keeps its capacity or has none
+-- the change of the capacity of a pool's queue; empty if the capacity does not change, or if the queue is unbounded
 abbrev pub queue_change : Option TextPlace → Pool → Pool → List Data
 queue_change place declared fit = if fit.unbounded then [] else change_of (codes "queue") place declared.queue fit.queue
 
@@ -47,7 +47,7 @@ limit_changes places declared fit = max_change places.max declared fit ++ queue_
 abbrev pub declared_changes : PoolPlaces → Pool → Pool → List Data
 declared_changes places declared fit = change_of (codes "core") places.core declared.core fit.core ++ limit_changes places declared fit
 
--- the same; none if no pool is declared
+-- the changes of a pool's sizes; empty if there is no declared pool
 abbrev pub changes_of : PoolPlaces → Option Pool → Pool → List Data
 changes_of places None fit = []
 changes_of places (Some declared) fit = declared_changes places declared fit
@@ -60,13 +60,13 @@ size_data changes fit =
     (member (codes "name") (string fit.name)
     (member (codes "queue") (queue_data fit) no_members)))))
 
--- the sizes of pool p, with what changes in the declared ones
+-- the sizes that were found for pool p, and the changes from its declared sizes
 abbrev pub size_entry : List PoolPlaces → Plan → ℕ × Pool → Data
 size_entry places plan (p, fit) = size_data (changes_of (pool_places_at places p) (slice_get plan.pools p) fit) fit
 
 -- ---- the cause why there are no sizes
 
--- a class whose jobs submit jobs of the same class
+-- the object of the cause that jobs of a class submit jobs of the same class
 unfoldable pub cycle_data : Option TextPlace → List ℕ → List ℕ → Data
 cycle_data place class words =
     object (member (codes "action") null
@@ -78,7 +78,8 @@ cycle_data place class words =
     (member (codes "pool") null
     (member (codes "text") (string words) no_members))))))))
 
--- a submit of a client kind, or of a class, that is made without limit and whose jobs are never got
+-- the object of the cause that a submit is repeated without limit and its jobs are never got. The submit is in the body of a
+-- class or of a client kind, and the member for the other is null
 unfoldable pub never_got_data : Option TextPlace → ℕ → Data → Data → List ℕ → Data
 never_got_data place action class client words =
     object (member (codes "action") (number (unsigned action))
@@ -90,7 +91,7 @@ never_got_data place action class client words =
     (member (codes "pool") null
     (member (codes "text") (string words) no_members))))))))
 
--- a cause that names a pool
+-- the object of a cause that names a pool
 unfoldable pub pool_cause_data : List ℕ → Option TextPlace → List ℕ → List ℕ → Data
 pool_cause_data kind place pool words =
     object (member (codes "action") null
@@ -102,7 +103,7 @@ pool_cause_data kind place pool words =
     (member (codes "pool") (string pool)
     (member (codes "text") (string words) no_members))))))))
 
--- the cause with its place, in these words
+-- the object of a cause, with its place and its message `words`
 abbrev pub cause_object : Plan → NoSizes → Option TextPlace → List ℕ → Data
 cause_object plan (Cause (Circle k)) place words = cycle_data place (class_at plan k).name words
 cause_object plan (Cause (ClientNeverGets c i)) place words = never_got_data place i null (string (client_at plan c).name) words
@@ -121,7 +122,7 @@ sizes_object cause pools = object (member (codes "cause") cause (member (codes "
 abbrev pub pools_data : List PoolPlaces → Plan → List Pool → Data
 pools_data places plan fitted = array (items_of (map (size_entry places plan) (enumerate_from 0 fitted)))
 
--- the result of the search for sizes
+-- the object with the result of the search for sizes
 abbrev pub sizes_data : PlanPlaces → Plan → SizesFound → Data
 sizes_data places plan (Found fit cert) = sizes_object null (pools_data places.pools.items plan fit.pools)
 sizes_data places plan (NotFound cause) = sizes_object (cause_data places plan cause) (array (items_of []))

@@ -11,11 +11,11 @@ use Rattle.report.specs.EventRows.{state_at_end}
 use Rattle.report.specs.JsonEvents.{list_data, events_data}
 use Rattle.report.specs.JsonEnding.{ending_data}
 
--- a line as `replay` reads it
+-- one of the lines that `replay` reads
 abbrev pub replay_line : Plan → Line → Data
 replay_line plan line = string (line_text plan line)
 
--- the lines of the witness, as `replay` reads them
+-- the list of the lines of the witness that `replay` reads
 abbrev pub replay_data : Plan → Witness → Data
 replay_data plan witness = list_data (map (replay_line plan) (witness_lines witness))
 
@@ -23,7 +23,7 @@ unfoldable pub witness_parts : Data → Data → Data → Data
 witness_parts ending events replay =
     object (member (codes "ending") ending (member (codes "events") events (member (codes "replay") replay no_members)))
 
--- how the witness ends, its events, and its lines
+-- the object of a witness: its ending, its events, and the lines that `replay` reads
 unfoldable pub witness_data : PlanPlaces → Plan → Witness → Data
 witness_data places plan witness =
     witness_parts (ending_data plan (state_at_end plan witness.events.items) witness.ending) (events_data places plan witness.events.items) (replay_data plan witness)

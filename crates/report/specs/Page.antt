@@ -8,7 +8,7 @@ use Rattle.report_page.specs.Page.{page_of}
 use Rattle.report.specs.declared.finding.PlanFinding.{PlanFinding}
 use Rattle.report.specs.Json as json
 
--- the page shows an answer in JSON that has the property
+-- the page is that of a JSON text for which `Answers` holds
 pub record Shows (Answers : List ℕ → Type 0) (page : List ℕ) : Type 0 where
   pub line : List ℕ
   pub answers : Answers line

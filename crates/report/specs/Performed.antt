@@ -1,4 +1,5 @@
--- The code's view of an event: what the live views before and after it show.
+-- What an event did, as the code computes it from live views. A live view has the live jobs, the pools and the clients of a
+-- state.
 use Rattle.std.specs.Prelude.{◌≡◌, ℕ, List, ◌++◌, map, Option, Some, None, slice_get, option_map, option_and_then}
 use Rattle.job_bodies.specs.Plan.{Plan}
 use Rattle.written_machine.specs.declared.client_state.ClientState.{ClientState}
@@ -35,7 +36,7 @@ abbrev pub kind_or : Option ClientState → ℕ
 kind_or None = 0
 kind_or (Some client) = client.kind
 
--- the actor, given the clients at the start of the plan
+-- the actor of the event; `kinds` are the clients at the start of the plan
 abbrev pub actor_seen : List ClientState → View → Event → Actor
 actor_seen kinds view (event.Client c) = actor.Client (kind_or (slice_get kinds c)) c
 actor_seen kinds view (event.Job j) = actor.Job (class_seen view j) j
@@ -81,20 +82,21 @@ counts_seen view pool = option_and_then (pool_counts view) pool
 
 -- ---- the results
 
--- the result for one event in state s, and the live view after it
+-- the code performs event e in state s: the result is what e did, or None if e is not possible, and `after` is the live view of
+-- the state after it
 abbrev pub Performs : Plan → State → Event → Option EventStep → View → Type 0
 Performs plan s e None after = (step plan s e ≡ None) × (after ≡ live_view plan s)
 Performs plan s e (Some what) after =
     (s' : State) × (outcome : Outcome) × (step plan s e ≡ Some (s', outcome)) × (after ≡ live_view plan s')
     × (what ≡ step_of plan (record { event = e; before = s; outcome = outcome; after = s' }))
 
--- what the events do from state s was appended, and the view is that of the state after them
+-- `new` is `old`, followed by what the events do from state s; `after` is the live view of the state after them
 pub record Appends (plan : Plan) (s : State) (events : List Event) (old new : List EventStep) (after : View) : Type 0 where
   pub steps : new ≡ old ++ map (step_of plan) (rows_from plan (Some s) events)
   pub seen : after ≡ live_view plan (last_state s (rows_from plan (Some s) events))
   pub reached : IsReached plan (last_state s (rows_from plan (Some s) events))
 
--- the steps are what the events do from the start of the plan, and the view is that of the state after them
+-- `steps` are what the events do from the start of the plan; `after` is the live view of the state after them
 pub record PerformsAll (plan : Plan) (events : List Event) (after : View) (steps : List EventStep) : Type 0 where
   pub each : steps ≡ map (step_of plan) (event_rows plan events)
   pub seen : after ≡ live_view plan (state_at_end plan events)

@@ -1,5 +1,5 @@
--- A picture of a plan, as a Graphviz graph: nodes for kinds of clients and for classes, a box for each pool, and edges for
--- submits and gets.
+-- A picture of a plan, as a Graphviz graph: nodes for client kinds and for classes, a box for each pool, and edges for submits
+-- and gets.
 use Rattle.std.specs.Prelude.{ℕ, Bool, false, true, ◌==◌, ◌&&◌, if◌then◌else◌, List, [], ◌∷◌, ◌++◌, length, codes, decimal, Option, Some, None, slice_get}
 use Rattle.std.specs.List.{count_by, enumerate_from, flat_map, list_any, range_with_len}
 use Rattle.job_bodies.specs.declared.action.Action.{Action}
@@ -20,7 +20,7 @@ abbrev pub rounds : Bool → List ℕ
 rounds true = codes "again and again"
 rounds false = codes "once"
 
--- the node of a kind of clients
+-- the node of a client kind
 abbrev pub client_node : ℕ × Client → List ℕ
 client_node (c, client) =
     codes "  client" ++ (decimal c ++ (codes " [shape=ellipse label=\"" ++ (decimal client.count ++ (codes " " ++ (client.name ++ (codes "\\n" ++ (rounds client.repeat ++ (codes "\"]" ++ 10 ∷ []))))))))
@@ -44,21 +44,21 @@ hidden_line p = codes "    pool" ++ (decimal p ++ (codes " [style=invis label=\"
 abbrev pub has_class : List Class → ℕ → Bool
 has_class classes p = list_any (λ class. class.pool == p) classes
 
--- a node that is not visible, if no class belongs to pool p: Graphviz draws no box around nothing
+-- an invisible node, if no class belongs to pool p, because Graphviz draws no box without nodes
 abbrev pub hidden_node : List Class → ℕ → List ℕ
 hidden_node classes p = if has_class classes p then [] else hidden_line p
 
--- the maximum number of jobs that the bound shows, in a line of its own
+-- a line break, and what the total of the bound limits; empty if there is no total
 abbrev pub most_part : Bound → Option ℕ → List ℕ
 most_part bound None = []
 most_part bound (Some n) = codes "\\n" ++ most_text bound n
 
--- the text for a pool without a bound: it may reject jobs. Empty if its queue is unbounded
+-- a line break and `may reject`, for a pool without a bound; empty if the queue of the pool is unbounded
 abbrev pub no_bound_part : Pool → List ℕ
 no_bound_part pool = if pool.unbounded then [] else codes "\\nmay reject"
 
--- the bound of the queue of pool p. If there is none, or if its total does not bound the jobs in an unbounded queue, the text for a pool
--- without a bound
+-- the text about the bound of the queue of pool p. If there is no bound, or its total does not limit the jobs in an unbounded
+-- queue, it is `no_bound_part`
 abbrev pub bound_of : Plan → ℕ → Pool → Option Bound → List ℕ
 bound_of plan p pool None = no_bound_part pool
 bound_of plan p pool (Some bound) = if bounds_jobs plan p bound then most_part bound (total_of plan (bound_vector bound)) else no_bound_part pool
@@ -84,7 +84,7 @@ box_nodes classes p = class_nodes classes p ++ (hidden_node classes p ++ (codes 
 unfoldable pub box_text : Plan → ℕ → Pool → Option PoolCert → List ℕ
 box_text plan p pool part = box_start p (pool_label plan p pool part) ++ box_nodes plan.classes p
 
--- the same, with the part of the certificate for the pool
+-- the box of pool p; `parts` are the parts of the certificate, one for each pool
 abbrev pub pool_box : Plan → List PoolCert → ℕ × Pool → List ℕ
 pool_box plan parts (p, pool) = box_text plan p pool (slice_get parts p)
 
@@ -109,11 +109,11 @@ gets_class body k _ = false
 abbrev pub has_get : List Action → ℕ → Bool
 has_get body k = list_any (gets_class body k) body
 
--- the action at a position of the body of class n is a counted get of a job of class k
+-- the action at position i of the body of class n is a counted get of a job of class k
 abbrev pub is_counted_get : Plan → Ranks → ℕ → List Action → ℕ → ℕ × Action → Bool
 is_counted_get plan ranks n body k (i, action) = gets_class body k action && is_counted plan ranks n i
 
--- by these ranks, a get of a job of class k in the body of class n is counted
+-- the body of class n has a counted get of a job of class k; false if there are no ranks, or if they do not fit the plan
 abbrev pub has_counted_get : Plan → Option Ranks → ℕ → List Action → ℕ → Bool
 has_counted_get plan None n body k = false
 has_counted_get plan (Some ranks) n body k = ranks_fit plan ranks && list_any (is_counted_get plan ranks n body k) (enumerate_from 0 body)
@@ -122,11 +122,11 @@ has_counted_get plan (Some ranks) n body k = ranks_fit plan ranks && list_any (i
 abbrev pub edge : List ℕ → ℕ → ℕ → List ℕ
 edge kind n k = codes "  " ++ (kind ++ (decimal n ++ (codes " -> class" ++ decimal k)))
 
--- the label of an edge for more than one submit
+-- the label with the number of submits; empty for one submit
 abbrev pub times_label : ℕ → List ℕ
 times_label times = if times == 1 then [] else codes " [label=\"" ++ (decimal times ++ codes "\"]")
 
--- the edge for this number of submits, if there are any
+-- the edge for `times` submits of jobs of class k; empty if `times` is 0
 abbrev pub submit_edge : List ℕ → ℕ → ℕ → ℕ → List ℕ
 submit_edge kind n k times = if times == 0 then [] else edge kind n k ++ (times_label times ++ 10 ∷ [])
 
@@ -136,11 +136,11 @@ style counted = if counted then codes "dashed,bold" else codes "dashed"
 abbrev pub style_part : List ℕ → List ℕ
 style_part words = codes " [style=\"" ++ (words ++ (codes "\" arrowhead=none constraint=false]" ++ 10 ∷ []))
 
--- the edge for gets, if there are any
+-- the edge for gets of jobs of class k, bold if one of them is counted; empty if there are no gets
 abbrev pub get_edge : List ℕ → ℕ → ℕ → Bool → Bool → List ℕ
 get_edge kind n k gets counted = if gets then edge kind n k ++ style_part (style counted) else []
 
--- the edges from a kind of clients to class k
+-- the edges from a client kind to class k
 abbrev pub client_edges_to : ℕ → List Action → ℕ → List ℕ
 client_edges_to c body k = submit_edge (codes "client") c k (submit_count body k) ++ get_edge (codes "client") c k (has_get body k) false
 
@@ -169,12 +169,12 @@ head =
     (codes "digraph plan {" ++ 10 ∷ []) ++ ((codes "  rankdir=LR" ++ 10 ∷ []) ++ ((codes "  node [fontname=\"sans-serif\" fontsize=11]" ++ 10 ∷ [])
     ++ (codes "  edge [fontname=\"sans-serif\" fontsize=9]" ++ 10 ∷ [])))
 
--- the nodes of the kinds of clients, the boxes of the pools, and the edges from the kinds of clients and from the classes
+-- the nodes of the client kinds, the boxes of the pools, and the edges from the client kinds and from the classes
 abbrev pub graph_text : Plan → List PoolCert → Option Ranks → List ℕ
 graph_text plan parts ranks =
     head ++ (client_nodes plan.clients ++ (pool_boxes plan parts ++ (client_edges plan ++ (class_edges plan ranks ++ (codes "}" ++ 10 ∷ [])))))
 
--- the graph of a plan, with the bounds of its queues and the counted gets if a certificate accepts it
+-- the graph of a plan. If a certificate accepts the plan, the graph shows the bounds of the queues and the counted gets
 abbrev pub picture_text : Plan → PlanFinding → List ℕ
 picture_text plan (Safe cert rejections) = graph_text plan cert.pools (Some cert.ranks)
 picture_text plan (NotSafe witness sizes) = graph_text plan [] None

@@ -1,4 +1,4 @@
--- The remarks of an answer.
+-- The remarks of an answer: its faults, or its warnings and its finding.
 use Rattle.std.specs.Prelude.{◌≡◌, ℕ, ◌==◌, ◌||◌, if◌then◌else◌, List, [], ◌∷◌, ◌++◌, map, codes, decimal, slice_get, slice_index_or, Option, Some, None, string_bytes}
 use Rattle.std.specs.List.{flat_map, enumerate_from}
 use Rattle.std.specs.Str.Lines.{lines}
@@ -28,7 +28,7 @@ use Rattle.report.specs.JsonPlaces.{pool_places_at, cause_place}
 use Rattle.report.specs.SafeText.{safe_words}
 use Rattle.report.specs.Sizes.{has_useless_max, max_size}
 
--- one remark, as a list
+-- a list of one remark
 abbrev pub one : Rule → List ℕ → Option TextPlace → List Remark
 one r message place = record { rule = r; message = message; place = place } ∷ []
 
@@ -66,22 +66,23 @@ warning_remarks = map warning_remark
 
 -- ---- sizes to change, or the cause why there are none
 
--- the words for a size that changes, as `pool web: queue 10 -> 13`
+-- the words for a size that changes, such as `pool web: queue 10 -> 13`
 abbrev pub change_words : List ℕ → List ℕ → List ℕ → List ℕ → List ℕ
 change_words pool key declared fit = codes "pool " ++ (pool ++ (codes ": " ++ (key ++ (codes " " ++ (declared ++ (codes " -> " ++ fit))))))
 
--- the remark about a size, from the declared and the fitted one, if it changes
+-- the remark about the size `key` of a pool; none if the size does not change. `size` has the declared value and the value that
+-- was found
 abbrev pub change_remarks : Rule → Option TextPlace → List ℕ → List ℕ → ℕ × ℕ → List Remark
 change_remarks r place pool key size = if size.0 == size.1 then [] else one r (change_words pool key (decimal size.0) (decimal size.1)) place
 
 abbrev pub max_words : Pool → Pool → List ℕ
 max_words declared fit = change_words declared.name (codes "max") (max_size declared) (max_size fit)
 
--- the remark about the maximum, if it changes and has an effect
+-- the remark about the maximum; none if the maximum does not change or has no effect
 abbrev pub max_remarks : Rule → Option TextPlace → Pool → Pool → List Remark
 max_remarks r place declared fit = if has_useless_max fit || declared.max == fit.max then [] else one r (max_words declared fit) place
 
--- the remark about the queue, if it changes and has a capacity
+-- the remark about the capacity of the queue; none if the capacity does not change, or if the queue is unbounded
 abbrev pub queue_remarks : Rule → Option TextPlace → Pool → Pool → List Remark
 queue_remarks r place declared fit = if fit.unbounded then [] else change_remarks r place declared.name (codes "queue") (declared.queue, fit.queue)
 
@@ -96,7 +97,7 @@ abbrev pub declared_remarks : Rule → PoolPlaces → Option Pool → Pool → L
 declared_remarks r places None fit = []
 declared_remarks r places (Some declared) fit = pool_remarks r places declared fit
 
--- the remarks about the sizes of the fitted pool with this number
+-- the remarks about the sizes of pool p that change; `fit` is the pool with the sizes that were found
 abbrev pub fitted_remarks : Rule → PlanPlaces → Plan → ℕ × Pool → List Remark
 fitted_remarks r places plan (p, fit) = declared_remarks r (pool_places_at places.pools.items p) (slice_get plan.pools p) fit
 
@@ -121,7 +122,7 @@ not_decided_remarks places plan sizes = one rule.NotDecided (open_words sizes) N
 abbrev pub first_line : List ℕ → List ℕ
 first_line text = slice_index_or (lines text) 0 []
 
--- the place of the name of the pool that refuses a submit
+-- the place of the name of the pool that refuses a submit; None if the witness ends in another way
 abbrev pub ending_place : PlanPlaces → Ending → Option TextPlace
 ending_place places (Refused p) = (pool_places_at places.pools.items p).name
 ending_place places (StuckForever members reason) = None
@@ -131,13 +132,13 @@ abbrev pub not_safe_remarks : PlanPlaces → Plan → Witness → SizesFound →
 not_safe_remarks places plan witness sizes description =
     one rule.NotSafe (first_line description) (ending_place places witness.ending) ++ sizes_remarks rule.NotSafe places plan sizes
 
--- the warnings, the first line of a description of the witness, and the sizes
+-- the remarks of the answer NOT SAFE: the warnings, the first line of the witness's description, and the sizes
 pub record AreNotSafe (places : PlanPlaces) (plan : Plan) (witness : Witness) (sizes : SizesFound) (warnings : List Warning) (remarks : List Remark) : Type 0 where
   pub description : List ℕ
   pub is_description : IsDescription plan witness description
   pub are : remarks ≡ warning_remarks warnings ++ not_safe_remarks places plan witness sizes description
 
--- a remark for each warning, and those about the finding
+-- the remarks of an answer: one for each warning, and then those about the finding
 abbrev pub AreRemarks : PlanPlaces → Plan → PlanFinding → List Warning → List Remark → Type 0
 AreRemarks places plan (Safe cert rejections) warnings remarks = remarks ≡ warning_remarks warnings ++ safe_remarks plan cert
 AreRemarks places plan (NotSafe witness sizes) warnings remarks = AreNotSafe places plan witness sizes warnings remarks

@@ -71,7 +71,7 @@ rule_data name = object (member (codes "id") (string name) no_members)
 abbrev pub has_name : List (List ℕ) → List ℕ → Bool
 has_name names name = list_any (λ each. bytes_eq each name) names
 
--- the names with one more, if it is new
+-- the names, followed by `name` unless they have it
 abbrev pub with_name : List (List ℕ) → List ℕ → List (List ℕ)
 with_name names name = if has_name names name then names else names ++ name ∷ []
 
@@ -106,7 +106,7 @@ log_data results driver =
 abbrev pub sarif_data : List ℕ → List Remark → Data
 sarif_data file remarks = log_data (results_data file remarks) (driver_data (rules_data remarks))
 
--- a log with the remarks about the finding
+-- the text is a log with the remarks about the finding
 pub record TellsFinding (file : List ℕ) (places : PlanPlaces) (plan : Plan) (finding : PlanFinding) (warnings : List PlanWarning) (text : List ℕ) : Type 0 where
   pub remarks : List Remark
   pub are_remarks : AreRemarks places plan finding warnings remarks

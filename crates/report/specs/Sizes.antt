@@ -1,11 +1,12 @@
--- The lines with the sizes of a fitted plan, next to the declared ones.
+-- The lines with the sizes of a fitted plan, next to the declared sizes. A fitted plan is the plan with the sizes that a search
+-- found.
 use Rattle.std.specs.Prelude.{◌≡◌, ℕ, ◌+◌, ◌==◌, not, ◌&&◌, Bool, if◌then◌else◌, List, [], ◌∷◌, ◌++◌, codes, decimal}
 use Rattle.std.specs.List.{flat_map, sum_by, zip}
 use Rattle.job_bodies.specs.Plan.{Pool, Plan}
 use Rattle.job_bodies.specs.WellFormed.{has_no_max}
 use Rattle.size_search.specs.Widened.{outline}
 
--- a size, followed by the declared one if it differs
+-- a size of the fitted plan, followed by the declared size if it differs, such as `2 (now 1)`
 abbrev pub size_text : ℕ → ℕ → List ℕ
 size_text declared fit = decimal fit ++ (if declared == fit then [] else codes " (now " ++ decimal declared ++ codes ")")
 
@@ -28,24 +29,25 @@ max_part declared fit = if has_useless_max fit then [] else codes ", max " ++ ma
 abbrev pub queue_part : Pool → Pool → List ℕ
 queue_part declared fit = if fit.unbounded then codes ", queue unbounded" else codes ", queue " ++ size_text declared.queue fit.queue
 
--- the line of a pool
+-- the line of a pool, such as `pool pages: core 1, max 1, queue 2 (now 1)`
 abbrev pub pool_text : Pool → Pool → List ℕ
 pool_text declared fit = codes "pool " ++ fit.name ++ codes ": core " ++ size_text declared.core fit.core ++ max_part declared fit ++ queue_part declared fit ++ 10 ∷ []
 
--- 1 if the size changes
+-- 1 if the size changes, and otherwise 0
 abbrev pub changed : ℕ → ℕ → ℕ
 changed declared fit = if declared == fit then 0 else 1
 
--- 1 if a size of the pool changes
+-- 1 if a size of the pool changes, and otherwise 0
 abbrev pub any_changed : Pool → Pool → ℕ
 any_changed declared fit = if declared.core == fit.core && declared.max == fit.max && declared.queue == fit.queue then 0 else 1
 
--- the number of sizes of the pool that change; if the maximum has no effect, all changes count as one, because only the core has an effect
+-- the number of sizes of the pool that change. If the maximum has no effect, 1 if any size changes and otherwise 0, because then
+-- only the core size has an effect
 abbrev pub pool_changes : Pool → Pool → ℕ
 pool_changes declared fit =
     if has_useless_max fit then any_changed declared fit else changed declared.core fit.core + changed declared.max fit.max + changed declared.queue fit.queue
 
--- each pool as it is declared, and as it is fitted
+-- the pools of both plans in pairs: each declared pool with the fitted one
 abbrev pub both_pools : Plan → Plan → List (Pool × Pool)
 both_pools declared fit = zip declared.pools fit.pools
 
@@ -63,6 +65,6 @@ changes declared fit = sum_by both_changes (both_pools declared fit)
 abbrev pub sizes_text : Plan → Plan → List ℕ
 sizes_text declared fit = flat_map both_text (both_pools declared fit) ++ (codes "changes " ++ (decimal (changes declared fit) ++ 10 ∷ []))
 
--- a plan that differs from the declared one only in sizes, with no size changed, is the declared one
+-- if a plan differs from the declared plan at most in its sizes, and no size changes, then it is the declared plan
 abbrev pub UnchangedSizesAreTheDeclaredPlan : Type 0
 UnchangedSizesAreTheDeclaredPlan = (declared fit : Plan) → outline fit ≡ outline declared → changes declared fit ≡ 0 → fit ≡ declared

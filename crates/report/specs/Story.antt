@@ -20,7 +20,7 @@ use Rattle.report.specs.JsonEnding.{awaited, pool_name}
 
 -- ---- one step
 
--- a client is named by its client kind, and a job by its class
+-- the kind and the name of an actor, such as `client web`. A client has the name of its client kind, and a job that of its class
 abbrev pub actor_text : Plan → Actor → List ℕ
 actor_text plan (Client kind c) = codes "client " ++ (client_at plan kind).name
 actor_text plan (Job class j) = codes "job " ++ (class_at plan class).name
@@ -46,12 +46,12 @@ may_time_out plan (Client kind c) = false
 may_time_out plan (Job class j) = false
 may_time_out plan (Pool p) = (pool_at plan p).core_timeout
 
--- the end of an idle thread
+-- the words for the end of an idle thread; `timeout` says whether core threads of its pool may time out
 abbrev pub retired_words : Bool → List ℕ
 retired_words timeout = if timeout then codes "an idle thread times out" else codes "a thread ends"
 
--- what the actor did, given the name of the class that it submitted and of the class of the job that it took, and whether its thread may
--- time out
+-- what the actor did. `submitted` is the name of the class whose job it submitted, and `taken` that of the class whose job it
+-- took. `timeout` says whether it is a thread of a pool whose core threads may time out
 abbrev pub act_text : Plan → List ℕ → List ℕ → Bool → Outcome → List ℕ
 act_text plan submitted taken timeout (Started j) = (codes "submits " ++ submitted) ++ codes " (a new thread starts it)"
 act_text plan submitted taken timeout (Queued j) = (codes "submits " ++ submitted) ++ codes " (queued)"
@@ -69,26 +69,26 @@ step_text plan step = act_text plan (submitted_name plan step.actor step.action)
 
 -- ---- turns
 
--- consecutive steps of one actor; `is_ended` if with the last one a client begins again or a thread times out; `end` is the number of steps
--- up to the last one
+-- a turn: consecutive steps of one actor. `is_ended` says whether in its last step a client begins again or a thread times out.
+-- `end` is the number of steps in this turn and in all turns before it
 pub record Turn : Type 0 where
   pub actor : Actor
   pub text : List ℕ
   pub is_ended : Bool
   pub end : ℕ
 
--- a thread ends in a pool whose core threads may time out; this step is a turn of its own, so that a line counts those that follow each
--- other
+-- a thread times out: it ends in a pool whose core threads may time out. This step is a turn of its own, so that one line counts
+-- consecutive timeouts
 abbrev pub is_timeout : Plan → Actor → Outcome → Bool
 is_timeout plan actor Retired = may_time_out plan actor
 is_timeout plan actor _ = false
 
--- a client that begins again ends its turn, and so does a thread that times out
+-- whether the step ends its turn: a client begins again, or a thread times out
 abbrev pub ends_turn : Plan → Actor → Outcome → Bool
 ends_turn plan actor Looped = true
 ends_turn plan actor outcome = is_timeout plan actor outcome
 
--- the turn that the step begins, after this number of steps
+-- the turn that begins with the step; `before` is the number of steps before it
 abbrev pub new_turn : Plan → ℕ → EventStep → Turn
 new_turn plan before step =
     record { actor = step.actor; text = (actor_text plan step.actor ++ codes ": ") ++ step_text plan step; is_ended = ends_turn plan step.actor step.outcome; end = before + 1 }
@@ -108,7 +108,7 @@ is_same_actor _ _ = false
 abbrev pub is_continued : Plan → Turn → EventStep → Bool
 is_continued plan turn step = not turn.is_ended && not (is_timeout plan step.actor step.outcome) && is_same_actor turn.actor step.actor
 
--- this turn, with the steps that continue it, and the turns after it
+-- `turn`, extended by the steps that continue it, and then the turns of the other steps
 abbrev pub turns_from : Plan → Turn → List EventStep → List Turn
 turns_from plan turn [] = turn ∷ []
 turns_from plan turn (step ∷ rest) =
@@ -123,7 +123,8 @@ turns plan (step ∷ rest) = turns_from plan (new_turn plan 0 step) rest
 
 -- ---- lines
 
--- consecutive turns with the same text, which are one line; `end` is the number of steps up to the last one
+-- a line: consecutive turns with the same text. `times` is their number, and `end` the number of steps in them and in all turns
+-- before them
 pub record Line : Type 0 where
   pub text : List ℕ
   pub times : ℕ
@@ -135,7 +136,7 @@ new_line turn = record { text = turn.text; times = 1; end = turn.end }
 abbrev pub longer_line : Line → Turn → Line
 longer_line line turn = record { text = line.text; times = line.times + 1; end = turn.end }
 
--- this line, with the turns that continue it, and the lines after it
+-- `line`, extended by the turns that have the same text, and then the lines of the other turns
 abbrev pub lines_from : Line → List Turn → List Line
 lines_from line [] = line ∷ []
 lines_from line (turn ∷ rest) =
@@ -143,7 +144,7 @@ lines_from line (turn ∷ rest) =
     then lines_from (longer_line line turn) rest
     else line ∷ lines_from (new_line turn) rest
 
--- the turns as lines, each with as many turns as possible
+-- the turns as lines, each for as many turns as possible
 abbrev pub lines : List Turn → List Line
 lines [] = []
 lines (turn ∷ rest) = lines_from (new_line turn) rest
@@ -161,11 +162,11 @@ end_of (Some line) = line.end
 abbrev pub events_left_out : ℕ → List ℕ
 events_left_out events = codes "  .. " ++ decimal events ++ codes " events .." ++ 10 ∷ []
 
--- the line in place of those that are left out: the number of their events
+-- the line that replaces the lines in the middle, with the number of the events that they show
 abbrev pub omitted_text : List Line → List ℕ
 omitted_text all = events_left_out (end_of (slice_get all (length all - 11)) - end_of (slice_get all 8))
 
--- at most 20 lines: of more, the first 9, a line for those that are left out, and the last 10
+-- the lines, if there are at most 20. Otherwise the first 9, a line that replaces those in the middle, and the last 10
 abbrev pub lines_text : List Line → List ℕ
 lines_text all =
     if nat_le (length all) 20
@@ -177,7 +178,8 @@ steps_text plan steps = lines_text (lines (turns plan steps))
 
 -- ---- pools
 
--- the most threads that the pool has at one time; with an unbounded queue core, unless core threads may time out
+-- the greatest number of threads that the pool can have: its maximum, or core if its queue is unbounded and core threads never
+-- time out
 abbrev pub most_threads : PoolView → ℕ
 most_threads pool = if pool.unbounded && not pool.core_timeout then pool.core else pool.max
 
@@ -207,7 +209,7 @@ pools_text plan s = flat_map (pool_line plan s) (enumerate_from 0 plan.pools)
 abbrev pub job_text : Plan → ℕ → ℕ → List ℕ
 job_text plan j k = codes "job " ++ decimal j ++ codes " (" ++ (class_at plan k).name ++ codes ")"
 
--- job j of class k waits for this job of class k'
+-- the line that says that job j of class k waits for the job `child` of class k'
 abbrev pub awaited_text : Plan → ℕ → ℕ → ℕ → ℕ → List ℕ
 awaited_text plan j k k' child = ((job_text plan j k ++ codes " waits for ") ++ job_text plan child k') ++ 10 ∷ []
 
@@ -217,16 +219,16 @@ in_queue_of pool = codes " waits in the queue of " ++ (pool ++ (codes ", whose t
 abbrev pub queued_text : Plan → ℕ → ℕ → List ℕ
 queued_text plan j k = job_text plan j k ++ in_queue_of (pool_name plan k)
 
--- the class that the submit at position t of class k submits
+-- the class of the jobs that the submit at position t of the body of class k creates
 abbrev pub submitted_in : Plan → ℕ → ℕ → ℕ
 submitted_in plan k t = submitted_class (class_at plan k).body t
 
--- the class of the job for which a job of class k waits at this action
+-- the class of the job for which a job of class k waits at this action; 0 if the action is not a get
 abbrev pub awaited_class : Plan → ℕ → Option Action → ℕ
 awaited_class plan k (Some (Get t)) = submitted_in plan k t
 awaited_class plan k _ = 0
 
--- what job j of class k waits for; nothing if it is done
+-- the line that says what job j of class k waits for; empty if it is done
 abbrev pub wait_text : Plan → State → ℕ → ℕ → Stage → List ℕ
 wait_text plan s j k state.Stage.Queued = queued_text plan j k
 wait_text plan s j k (state.Stage.At i) =
@@ -239,7 +241,7 @@ wait_of plan s j = wait_text plan s j (job_at s j).class (job_at s j).stage
 abbrev pub more_jobs : ℕ → List ℕ
 more_jobs more = codes "and " ++ decimal more ++ codes " more jobs" ++ 10 ∷ []
 
--- the number of members that are not listed
+-- the line with the number of members that are not listed; empty if all are listed
 abbrev pub more_text : ℕ → List ℕ
 more_text members = if nat_le members 20 then [] else more_jobs (members - 20)
 
@@ -249,7 +251,8 @@ waits_text plan s members = flat_map (wait_of plan s) (take 20 members) ++ more_
 
 -- ---- the story
 
--- the story of the events from the start of the plan, up to the first event that is not possible
+-- the story of the events from the start of the plan, up to the first event that is not possible. `members` are the jobs that
+-- wait
 abbrev pub story_text : Plan → List Event → List ℕ → List ℕ
 story_text plan events members =
     (steps_text plan (map (step_of plan) (event_rows plan events)) ++ pools_text plan (state_at_end plan events)) ++ waits_text plan (state_at_end plan events) members

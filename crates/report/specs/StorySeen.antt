@@ -1,4 +1,5 @@
--- What the code stores of a story's turns and lines, and what a live view shows of the state after the events.
+-- The turns and lines of a story as the code holds them, and the lines about pools and jobs as the code computes them from a live
+-- view.
 use Rattle.std.specs.Prelude.{ℕ, ◌-◌, List, [], ◌++◌, length, map, flat_map, take, drop, string_bytes, Option, Some, None, slice_get}
 use Rattle.job_bodies.specs.Plan.{Plan, Pool, class_at}
 use Rattle.interleaving.specs.declared.job_view.Phase.{Phase}
@@ -17,7 +18,7 @@ turn_seen turn = record { actor = turn.actor; text = string_bytes turn.text; is_
 abbrev pub line_seen : CodeLine → Line
 line_seen line = record { text = line.text.now; times = line.times; end = line.end }
 
--- the first 9 lines, a line for those that are left out, and the last 10
+-- the first 9 lines, a line that replaces those in the middle, and the last 10
 abbrev pub shortened_seen : List CodeLine → List ℕ
 shortened_seen all =
     (flat_map line_text (map line_seen (take 9 all)) ++ events_left_out (end_of (slice_get (map line_seen all) (length all - 11)) - end_of (slice_get (map line_seen all) 8)))

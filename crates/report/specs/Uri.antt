@@ -3,7 +3,7 @@ use Rattle.std.specs.Prelude.{ℕ, Bool, true, false, ◌+◌, ◌/◌, ◌%◌,
 use Rattle.std.specs.List.{flat_map, list_any, starts_with}
 use Rattle.std.specs.Char.{is_ascii_alphanumeric}
 
--- what a path may have beside letters and digits: the other unreserved characters, the sub-delimiters, `:`, `@` and `/`
+-- the characters of a path besides letters and digits: the other unreserved characters, the sub-delimiters, `:`, `@` and `/`
 abbrev pub path_marks : List ℕ
 path_marks = codes "-._~!$&'()*+,;=:@/"
 
@@ -25,16 +25,16 @@ path_byte byte = if is_path_byte byte then byte ∷ [] else escape byte
 abbrev pub path_text : List ℕ → List ℕ
 path_text = flat_map path_byte
 
--- there is a colon before the first slash, as after a scheme
+-- the name has a colon before its first slash, so that its start would be read as a scheme
 abbrev pub has_early_colon : List ℕ → Bool
 has_early_colon [] = false
 has_early_colon (byte ∷ rest) = if byte == 58 then true else (if byte == 47 then false else has_early_colon rest)
 
--- the name begins with two slashes, as a URI reference with a host does
+-- the name begins with two slashes, so that its start would be read as a host
 abbrev pub has_two_slashes : List ℕ → Bool
 has_two_slashes name = starts_with nat_eq name (codes "//")
 
--- the start that keeps a name from being read as one with a scheme or a host
+-- the prefix that keeps the start of the name from being read as a scheme or a host
 abbrev pub path_start : List ℕ → List ℕ
 path_start name = if has_two_slashes name then codes "/." else (if has_early_colon name then codes "./" else [])
 

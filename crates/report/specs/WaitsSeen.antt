@@ -1,4 +1,4 @@
--- What jobs wait for, as a live view shows it.
+-- What jobs wait for, as the code computes it from a live view.
 use Rattle.std.specs.Prelude.{ℕ, List, [], ◌∷◌, codes, Option, Some, None, slice_get}
 use Rattle.std.specs.Option.{option_to_list}
 use Rattle.serde_json.specs.Data.{Data}

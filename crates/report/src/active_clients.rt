@@ -20,8 +20,8 @@ pub(crate) fn active_client_count(alloc: Global, events: &[Event]) -> Result<usi
     Ok(clients.len())
 }
 
-/// Returns, for each event in which a client acts, the number of this client, in the order of the
-/// events. A client that acts in several events occurs once for each of them.
+/// Returns the number of the client that performs each event, in the order of the events. Skips the
+/// events that no client performs. A client that performs several events occurs several times.
 fn active_clients(alloc: Global, mut events: &[Event]) -> Result<Vec<usize>, AllocError>
     ensures { IfOk result (λ clients. clients.items ≡ spec.active_clients events.now) }
 {

@@ -15,7 +15,7 @@ pub(crate) enum Rule {
     Fault(u8),
     /// The faults that are left out, because at most 100 are reported.
     MoreFaults,
-    /// A warning about a plan that has this lint.
+    /// The warning that the plan has this lint.
     Warning(Lint),
     /// The answer SAFE.
     Safe,

@@ -22,8 +22,8 @@ use std::alloc::{AllocError, Global};
 
 // ---- faults
 
-/// Returns an annotation for each fault in the list `faults`. If further faults are left out, one
-/// more annotation has their number.
+/// Returns one annotation for each fault that `faults` lists. If `faults` omits further faults, a
+/// last annotation gives their number, such as `... and 3 more faults`.
 pub(crate) fn fault_annotations(
     alloc: Global,
     faults: &Faults,
@@ -62,8 +62,8 @@ fn push_fault(
     push(alloc, found, rule, &fault.what, Some(fault.place))
 }
 
-/// Appends an annotation with `omitted`, the number of faults that are left out. Appends nothing if
-/// this number is 0.
+/// Appends an annotation with the number of omitted faults, such as `... and 3 more faults`.
+/// Appends nothing if `omitted` is 0.
 fn push_omitted(
     alloc: Global,
     found: &mut Vec<Annotation>,
@@ -87,8 +87,8 @@ fn omitted_words(alloc: Global, omitted: usize) -> Result<String, AllocError>
     }
 }
 
-/// Returns an annotation for the fault with this number, which has no place in the plan's text.
-/// `words` is the message of the fault.
+/// Returns a list of one annotation, for a fault without a place in the plan's text. `number` is
+/// the number of the fault, and `words` is its message.
 pub(crate) fn single_fault(
     alloc: Global,
     number: u8,
@@ -102,7 +102,7 @@ pub(crate) fn single_fault(
     Ok(found)
 }
 
-/// Appends an annotation with a copy of the message.
+/// Appends an annotation with this rule, this place and a copy of `message`.
 pub(crate) fn push(
     alloc: Global,
     found: &mut Vec<Annotation>,
@@ -123,9 +123,9 @@ pub(crate) fn push(
 
 // ---- findings
 
-/// Returns the annotations of a finding about a plan: one for each warning, and one for the
-/// finding. If the plan is not known to be safe, also returns those for the result of the search
-/// for sizes.
+/// Returns one annotation for each warning, and one for the finding. If the finding is not SAFE,
+/// also returns those that [`push_sizes_found`] appends: one for each size to change or, if no
+/// sizes were found, one with the reason.
 pub(crate) fn annotations_of(
     alloc: Global,
     places: &PlanPlaces,
@@ -234,8 +234,7 @@ fn push_warning(
 }
 
 /// Appends the annotations of the answer NOT SAFE: one with the first line of `description`, and
-/// those for the result of the search for sizes. `description` is the text that describes the
-/// events of the witness.
+/// those of [`push_sizes_found`]. `description` is the text that describes the witness.
 fn push_not_safe(
     alloc: Global,
     found: &mut Vec<Annotation>,
@@ -263,8 +262,8 @@ fn first_line(text: &str) -> &str
     }
 }
 
-/// Returns the place of the name of the pool that refuses the last submit of the witness. Returns
-/// `None` if the witness ends in another way, or if the place is not known.
+/// Returns the place of the name of the pool that refuses the last submit. Returns `None` if the
+/// witness does not end with a refused submit, or if the place is not known.
 fn ending_place(places: &PlanPlaces, ending: &Ending) -> Option<TextPlace>
     ensures { result ≡ spec.ending_place places.now ending.now }
 {

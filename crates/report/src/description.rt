@@ -115,7 +115,7 @@ fn push_at_core(text: &mut String, timeouts: bool) -> Result<(), AllocError>
     )
 }
 
-/// Appends a line that consists of these two parts.
+/// Appends `front`, then `rest`, and then a newline.
 fn push_two_parts(text: &mut String, front: &str, rest: &str) -> Result<(), AllocError>
     ensures { Pushes result text.old text.new (front.now ++ (rest.now ++ 10 ∷ [])) }
 {
@@ -141,9 +141,10 @@ fn has_timeouts(plan: &Plan) -> bool
     plan.pools().iter().any(|pool| pool.core_timeout)
 }
 
-/// Returns the text for a pool that starts no thread although it has fewer than its maximum. If
-/// core threads may time out, the pool can have fewer than core threads, and then it can start one.
-/// It can also start one above core in place of a thread that timed out.
+/// Returns the words for a pool that starts no thread although it has fewer than its maximum.
+/// `timeouts` says whether core threads may time out. If they may, the pool can start a thread
+/// while it has fewer than core. It can also start one above core in place of a thread that timed
+/// out. So the words then say that it has at least core threads and a queue that is never full.
 #[tactic(auto, unfolding(crate::specs::Description::at_core_words))]
 fn at_core_words(timeouts: bool) -> &'static str
     ensures { result.now ≡ spec.at_core_words timeouts }
@@ -155,8 +156,8 @@ fn at_core_words(timeouts: bool) -> &'static str
     }
 }
 
-/// Returns the text for the thread that may end a wait. If core threads may time out, this thread
-/// can be a core thread.
+/// Returns the words for the thread whose start may end a wait, such as `a thread above core`. If
+/// core threads may time out, this thread can be a core thread, and the words are `another thread`.
 fn started_words(timeouts: bool) -> &'static str
     ensures { result.now ≡ spec.started_words timeouts }
 {

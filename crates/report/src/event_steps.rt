@@ -39,20 +39,21 @@ pub(crate) struct PoolCounts {
 #[derive(Clone, Copy)]
 pub(crate) struct EventStep {
     pub(crate) actor: Actor,
-    /// The index of the performed action in the actor's body. It is `None` if the event is not an
-    /// action: at the end of a body, and for an event of a pool.
+    /// The index of the performed action in the actor's body. It is `None` for an event at the end
+    /// of a body, and for an event of a pool.
     pub(crate) action: Option<usize>,
     pub(crate) outcome: Outcome,
-    /// The pool that the event changed, or that refused or rejected a submit, with its number of
-    /// threads after the event. It is `None` if the event concerns no pool.
+    /// The pool that the event changed, with the numbers of its threads and idle threads after the
+    /// event. For a refused or rejected submit, this is the pool that refused or rejected it. It is
+    /// `None` if the event concerns no pool.
     pub(crate) pool: Option<PoolCounts>,
     /// The index of the class of the job that a thread took from a queue. It is `None` if no thread
     /// took a job.
     pub(crate) taken: Option<usize>,
 }
 
-/// Performs the events in `world`, which must be a new world of the plan, and returns what each
-/// event did. Stops before the first event that is not possible.
+/// Performs the events in `world`, and returns what each event did. Stops before the first event
+/// that is not possible. `world` must be in the plan's initial state.
 ///
 /// # Errors
 ///
@@ -186,9 +187,9 @@ fn action_of(outcome: Outcome, position: usize) -> Option<usize>
     }
 }
 
-/// Returns the index of the pool that an event with this outcome changed, or that refused or
-/// rejected a submit. Returns `None` if the event concerns no pool. `world` is the world after the
-/// event.
+/// Returns the index of the pool that an event with this actor and outcome changed. For a refused
+/// or rejected submit, this is the pool that refused or rejected it. Returns `None` if the event
+/// concerns no pool. `world` is the world after the event.
 fn changed_pool(plan: &Plan, world: &World, actor: Actor, outcome: Outcome) -> Option<usize>
     ensures { result ≡ performed.changed_pool_seen plan.now world.now.view actor outcome }
 {

@@ -9,8 +9,8 @@ use size_search::SizesFound;
 #[derive(Drop)]
 pub enum PlanFinding {
     /// A certificate accepts the plan. The first field is this certificate. The second field has an
-    /// element for each pool: if the pool was found to reject a job, the number of events after
-    /// which it rejects one, and otherwise `None`. Elements at the end can be missing.
+    /// element for each pool: the number of events after which the pool rejects a job. The element
+    /// is `None` if no rejection was found. Elements at the end can be missing.
     Safe(Cert, Vec<Option<u64>>),
     /// A witness shows that the plan is not safe. The fields are the witness and the result of the
     /// search for other sizes.

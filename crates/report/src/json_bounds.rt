@@ -1,6 +1,7 @@
-//! The bound of a queue as JSON, with the shares in it, and the maximum number of core threads that
-//! wait. The bound is the total of a vector. The share of a client kind in the bound is the weight
-//! of all its clients, and the share of a pool is the weight of all its threads.
+//! Two members of a pool's JSON object: the bound of its queue, and the maximum number of its core
+//! threads that wait. The bound is the total of a vector, and is split into shares. The share of a
+//! client kind is the weight of all its clients. The share of a pool is the weight of all its
+//! threads.
 
 ghost use Rattle.std.specs.Prelude.{◌≡◌, ◌++◌, IfOk, IsTrue, OnOk, map};
 ghost use Rattle.serde_json.specs.View.{view};
@@ -21,7 +22,7 @@ use weights::{Bound, Vector};
 ///
 /// - there is no bound,
 /// - the vector of the bound does not fit the plan, or
-/// - the queue is unbounded and the total does not limit its jobs.
+/// - the queue is unbounded, and the total does not limit the jobs in it.
 pub(crate) fn bound_value(
     alloc: Global,
     plan: &Plan,
@@ -133,11 +134,10 @@ fn push_share(
     Ok(())
 }
 
-/// Creates a JSON object with two numbers: the maximum number of core threads that wait at counted
-/// gets at once, and the number of other threads that the pool has at least while a job is queued.
-/// These are the other core threads. If core threads may time out, only one thread is sure to be
-/// left. A counted get can block a thread that other jobs need. The value is null if the vector
-/// `blocked` does not fit the plan.
+/// Creates a JSON object with two numbers. `most` is the maximum number of core threads that wait
+/// at counted gets at once. A counted get can block a thread that other jobs need. `left` is the
+/// number of threads that the pool has at least while a job is queued, minus `most` and not below
+/// 0. The value is null if the vector `blocked` does not fit the plan.
 #[tactic(auto, unfolding(crate::specs::JsonPools::waiting_data))]
 pub(crate) fn blocked_value(
     alloc: Global,

@@ -16,8 +16,8 @@ use size_search::{Cause, NoSizes};
 use std::alloc::{AllocError, Global};
 
 /// Converts the reason why no sizes were found to a JSON object. The object has the kind of the
-/// reason, its place in the plan's text, and a message. It also has the class, client kind, pool or
-/// action that the reason names. A member is null if the reason names nothing of its kind.
+/// reason, its place in the plan's text, and a message. It also has the members `action`, `class`,
+/// `client` and `pool`. Each of these is null unless the reason names it.
 pub(crate) fn cause_value(
     alloc: Global,
     places: &PlanPlaces,

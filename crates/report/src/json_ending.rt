@@ -137,9 +137,9 @@ fn push_wait(
     }
 }
 
-/// Appends a JSON value that says that the job `number` of the pool `pool` waits for the jobs
-/// `awaited`. `place` is `queue` if the job waits in the pool's queue, and `get` if it waits at a
-/// get.
+/// Appends a JSON object with the number of a waiting job, its pool, and the jobs `awaited` for
+/// which it waits. `place` is `queue` if the job waits in the pool's queue, and `get` if it waits
+/// at a get.
 #[tactic(auto, using(std::proofs::lemmas::List::map_push), unfolding(crate::specs::JsonEnding::wait_data))]
 fn push_wait_for(
     values: &mut Vec<Value>,

@@ -1,8 +1,14 @@
-//! The events of a witness as JSON, in runs. A witness is a list of events after which a submit is
-//! refused or jobs wait only for each other. A run is one JSON object. Consecutive steps of clients
-//! of one kind form a run if the clients have consecutive numbers and each does the same: it works,
-//! starts its body again, or submits a job that is queued, started or rejected. Submitted jobs must
-//! have consecutive numbers, too. Any other step is a run of its own.
+//! The events of a witness as JSON. A witness is a list of events after which a submit is refused
+//! or jobs wait only for each other.
+//!
+//! Consecutive similar steps form a run, and each run is one JSON object. Steps are similar if
+//!
+//! - their actors are clients of one kind, with consecutive numbers,
+//! - their actions and outcomes are the same: each client works, starts its body again, or submits
+//!   a job that is queued, started or rejected, and
+//! - the submitted jobs have consecutive numbers.
+//!
+//! Any other step is a run of its own.
 
 ghost use Rattle.std.specs.Prelude.{◌≡◌, ◌+◌, ◌==◌, ◌++◌, ◌∷◌, [], map, IfOk, OnOk};
 ghost use Rattle.serde_json.specs.View.{view};

@@ -11,7 +11,8 @@ use std::alloc::{AllocError, Global};
 /// A JSON object that is being built. If memory runs out, the object keeps the error until
 /// [`done`](Object::done) returns it. So a function that builds an object has no early return.
 ///
-/// The proof of a function takes longest for what the function drops at each early return.
+/// This makes proofs fast, because most of a proof's time is for what a function drops at its early
+/// returns.
 #[derive(Drop)]
 pub(crate) struct Object {
     alloc: Global,
@@ -56,7 +57,7 @@ impl Object {
         }
     }
 
-    /// Adds a member with a value that was built if memory sufficed.
+    /// Adds a member with the value in `part`. If `part` is an error, the object keeps this error.
     #[tactic(auto, unfolding(crate::specs::JsonObject::members_of))]
     pub(crate) fn part(self, key: &str, part: Result<Value, AllocError>) -> Object
         ensures { spec.HasPart self key.now part result }

@@ -31,8 +31,8 @@ pub(crate) fn column_value(place: Option<TextPlace>) -> Value
     }
 }
 
-/// Returns the places of the name, the sizes and `core_timeout` of the pool with this index. If there is no such pool,
-/// each place is `None`.
+/// Returns the places of the name, the sizes and `core_timeout` of the pool with this index. If
+/// there is no such pool, each place is `None`.
 pub(crate) fn pool_places_at(pools: &[PoolPlaces], pool: usize) -> PoolPlaces
     ensures { result ≡ spec.pool_places_at pools.now pool }
 {
@@ -79,9 +79,8 @@ fn place_at(actions: &[Option<TextPlace>], action: usize) -> Option<TextPlace>
     }
 }
 
-/// Returns the place of the class, the action or the pool that the reason `cause` names. If core
-/// threads of the pool may time out, this is the place of its `core_timeout`. Returns `None` if the
-/// place is not known.
+/// Returns the place of what the reason `cause` names: a class, an action, the `core_timeout` of a
+/// pool or, if sizes are above the limit, a pool's name. Returns `None` if the place is not known.
 pub(crate) fn cause_place(places: &PlanPlaces, cause: NoSizes) -> Option<TextPlace>
     ensures { result ≡ spec.cause_place places.now cause }
 {

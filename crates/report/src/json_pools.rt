@@ -1,8 +1,10 @@
-//! Pools as JSON: their sizes and the pools for which their jobs wait. If a certificate accepts the
-//! plan, also the bound of each queue and the maximum number of core threads that wait. Only a pool
-//! that may reject jobs by the plan has the members `may_reject` and `rejects_after`, the number of
-//! events after which it rejects a job. Only a pool whose core threads may time out has the member
-//! `core_timeout`.
+//! Pools as JSON. Each pool has its sizes, and the names of the pools for which its jobs wait. If a
+//! certificate accepts the plan, it also has the bound of its queue and the maximum number of its
+//! core threads that wait.
+//!
+//! Some members exist only in certain pools. `may_reject` and `rejects_after` exist only if the
+//! plan allows the pool to reject jobs. `rejects_after` is the number of events after which the
+//! pool rejects a job. `core_timeout` exists only if core threads of the pool may time out.
 
 ghost use Rattle.std.specs.Prelude.{◌≡◌, IfOk, IfSome, option_map, map, string_bytes};
 ghost use Rattle.serde_json.specs.Data.{array, string};
@@ -20,9 +22,9 @@ use job_bodies::{Plan, Pool};
 use serde_json::Value;
 use std::alloc::{AllocError, Global};
 
-/// Converts the pools of a plan to JSON. `parts` has, for each pool, its part of the certificate.
-/// `rejections` has, for each pool, the number of events after which it rejects a job, if this
-/// number is known. Both lists are empty if no certificate accepts the plan.
+/// Converts the pools of a plan to JSON. `parts` has the certificate's part for each pool.
+/// `rejections` has the number of events after which each pool rejects a job, or `None` if this
+/// number is not known. Both lists are empty if no certificate accepts the plan.
 pub(crate) fn pools_value(
     alloc: Global,
     plan: &Plan,

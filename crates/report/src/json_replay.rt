@@ -1,5 +1,5 @@
-//! The JSON list of the event lines of a witness, which is a list of events after which a submit is
-//! refused or jobs wait only for each other. `replay` reads lines of this form.
+//! The event lines of a witness as a JSON list. The command `replay` reads lines of this form. A
+//! witness is a list of events after which a submit is refused or jobs wait only for each other.
 
 ghost use Rattle.std.specs.Prelude.{◌≡◌, ◌++◌, ◌∷◌, map, flat_map, codes, decimal, string_bytes, IfOk, OnOk};
 ghost use Rattle.serde_json.specs.View.{view};

@@ -51,7 +51,7 @@ pub(crate) fn empty_list(alloc: Global) -> Value
     Value::Array(Vec::new(alloc))
 }
 
-/// Creates a JSON list with only this value, which was built if memory sufficed.
+/// Creates a JSON list of one value. If `value` is an error, returns this error.
 pub(crate) fn single_list(
     alloc: Global,
     value: Result<Value, AllocError>,

@@ -6,9 +6,9 @@ ghost use Rattle.report.specs.LostSubmits as spec;
 use job_bodies::{Action, Class, Client, Plan, has_get_of};
 use std::alloc::{AllocError, Global};
 
-/// Returns a text for each body and each class of jobs that the body submits to this pool and never
-/// gets. An example is `client visitor submits append without a get`. The texts about client kinds
-/// come first, then those about classes, each in plan order.
+/// Returns texts such as `client visitor submits append without a get`. There is one for each class
+/// of the pool and each body that submits a job of this class and never gets it. The texts about
+/// client kinds come first, then those about classes, each in plan order.
 pub(crate) fn lost_texts(alloc: Global, plan: &Plan, pool: usize) -> Result<Vec<String>, AllocError>
     ensures { IfOk result
         (λ texts. map string_bytes texts.items ≡ spec.lost_texts plan.now pool) }

@@ -35,11 +35,11 @@ pub fn picture_of(alloc: Global, plan: &Plan, finding: &PlanFinding) -> Result<S
     }
 }
 
-/// Returns the Graphviz graph of a plan. The gets that the ranks count are bold.
+/// Returns the Graphviz graph of a plan.
 ///
-/// - `parts` has, for each pool, its part of the certificate, and is empty if there is no
-///   certificate.
-/// - `ranks` has the ranks of the certificate, or is `None` if there is no certificate.
+/// - `parts` has the certificate's part for each pool. It is empty if there is no certificate.
+/// - `ranks` has the ranks of the certificate, which decide whether a get is counted. It is `None`
+///   if there is no certificate. Counted gets are bold.
 fn graph_of(
     alloc: Global,
     plan: &Plan,
@@ -199,12 +199,12 @@ fn push_bound(
     }
 }
 
-/// Appends the bound that the certificate has for the pool's queue, except in these cases:
+/// Appends the bound of the pool's queue. If there is no bound for a queue of limited capacity,
+/// appends that the pool may reject jobs. Appends nothing if
 ///
-/// - If there is no bound for a queue of limited capacity, appends that the pool may reject jobs.
-/// - If there is no bound for an unbounded queue, or the bound does not limit the jobs in this
-///   queue, appends nothing.
-/// - If the vector of the bound does not fit the plan, appends nothing.
+/// - there is no bound for an unbounded queue,
+/// - the bound does not limit the jobs in an unbounded queue, or
+/// - the vector of the bound does not fit the plan.
 fn push_bound_of(
     text: &mut String,
     plan: &Plan,

@@ -1,4 +1,4 @@
-//! The number of queue places that are enough for each pool, by a certificate.
+//! Queue capacities that are enough for the pools of a plan, by the bounds of a certificate.
 
 ghost use Rattle.std.specs.Prelude.{◌≡◌, IfOk, nat_le};
 ghost use Rattle.std.specs.List.{list_all, enumerate_from};
@@ -11,13 +11,14 @@ use job_bodies::{Class, Plan, Pool};
 use std::alloc::{AllocError, Global};
 use weights::{Bound, Vector};
 
-/// Returns, for each pool of the certificate, a queue capacity that its bound proves to be enough:
-/// the total of its standing vector. The capacity is `None` if the pool
+/// Returns a sufficient queue capacity for each pool of the certificate: the total of the pool's
+/// standing vector. The element is `None` if
 ///
-/// - has a lifetime vector or no vector,
-/// - has a vector that does not fit the plan, or
-/// - has an unbounded queue, and some queued job of the pool has no weight in the vector, or the
-///   threads of a pool without a maximum have a weight in it.
+/// - the pool has a lifetime vector or no vector,
+/// - the vector does not fit the plan,
+/// - the queue is unbounded, and some queued job of the pool has no weight in the vector, or
+/// - the queue is unbounded, and the threads of a pool without a maximum have a weight in the
+///   vector.
 ///
 /// # Errors
 ///
@@ -71,12 +72,14 @@ pub fn total_of(plan: &Plan, vector: &Vector) -> Option<u64>
     }
 }
 
-/// Returns whether the total of the bound limits the number of jobs of the pool.
+/// Returns whether the total of the bound limits the number of jobs of the pool. If the queue is
+/// bounded, returns `true`, because the conditions on the bound demand it. If the queue is
+/// unbounded, all of these must hold:
 ///
-/// - If the queue is bounded, the result is `true`, because the conditions on the bound demand it.
-/// - If the queue is unbounded, the result is whether the vector fits the plan and gives each job
-///   of the pool a weight of at least 1, and the threads of pools without a maximum no weight. A
-///   standing vector need give this weight only to queued jobs.
+/// - The vector fits the plan.
+/// - The vector gives each job of the pool a weight of at least 1. In a standing vector, only
+///   queued jobs need this weight.
+/// - The vector gives no weight to the threads of a pool without a maximum.
 pub(crate) fn bounds_jobs(plan: &Plan, pool: usize, bound: &Bound) -> bool
     ensures { result ≡ spec.bounds_jobs plan.now pool bound.now }
 {
@@ -94,9 +97,9 @@ pub(crate) fn is_unbounded(plan: &Plan, pool: usize) -> bool
     }
 }
 
-/// Returns whether the bound's vector fits the plan and gives each job of the pool a weight of at
-/// least 1. In a standing vector, only queued jobs need this weight. The threads of a pool without
-/// a maximum must have no weight in the vector.
+/// Returns whether the bound's vector fits the plan, gives each job of the pool a weight of at
+/// least 1, and gives no weight to the threads of a pool without a maximum. In a standing vector,
+/// only queued jobs need the weight of at least 1.
 fn counts_jobs(plan: &Plan, pool: usize, bound: &Bound) -> bool
     ensures { result ≡ spec.counts_jobs plan.now pool bound.now }
 {
@@ -143,8 +146,7 @@ fn counts_classes(pool: usize, bound: &Bound, classes: &[Class]) -> bool
         .all(|(number, class)| counts_if_of(pool, bound, number, class))
 }
 
-/// Returns whether the class belongs to another pool, or the bound's vector gives each job of the
-/// class a weight of at least 1. A standing vector need give this weight only to queued jobs.
+/// Returns whether the class belongs to another pool, or [`counts_class`] returns `true` for it.
 /// `number` is the number of the class.
 fn counts_if_of(pool: usize, bound: &Bound, number: usize, class: &Class) -> bool
     ensures { result ≡ spec.counts_if_of pool bound.now (number, class.now) }

@@ -1,7 +1,7 @@
 //! The text for a plan that a certificate accepts. For each pool it lists the bound of its queue,
-//! the pools for which its jobs wait, and the maximum number of its core threads that wait at counted
-//! gets at once. A counted get can block a thread that other jobs need. For a pool that may reject
-//! jobs by the plan, the text also lists the submits to it.
+//! the pools for which its jobs wait, and the maximum number of its core threads that wait at
+//! counted gets at once. A counted get can block a thread that other jobs need. If the certificate
+//! has no bound for a queue of limited capacity, the text also lists the submits to its pool.
 
 ghost use Rattle.std.specs.Prelude.{◌≡◌, ◌++◌};
 ghost use Rattle.std.specs.List.{list_any, enumerate_from};
@@ -17,9 +17,9 @@ use job_bodies::{Plan, Pool};
 use std::alloc::{AllocError, Global};
 use weights::{Bound, Vector};
 
-/// Appends the lines of each pool that has a part of the certificate, and a last line that says
-/// what the certificate guarantees. `rejections` has, for each pool, the number of events after
-/// which the pool rejects a job, if this number is known.
+/// Appends the lines of each pool for which the certificate has a part, and a last line with what
+/// the certificate guarantees. `rejections` has the number of events after which each pool rejects
+/// a job, or `None` if this number is not known.
 pub(crate) fn push_safe(
     alloc: Global,
     text: &mut String,
@@ -35,8 +35,9 @@ pub(crate) fn push_safe(
     text.push('\n')
 }
 
-/// Returns the words that say what the certificate guarantees: no refused submit and no deadlock.
-/// The words about submits exclude the pools for which [`may_reject_jobs`] returns `true`.
+/// Returns the words for what the certificate guarantees: no submit is refused, and no jobs wait
+/// for each other forever. If [`may_reject_jobs`] returns `true` for a pool, the words exclude
+/// submits to such pools.
 pub(crate) fn safe_words(plan: &Plan, cert: &Cert) -> &'static str
     ensures { result.now ≡ spec.safe_words plan.now cert.now }
 {
@@ -131,7 +132,8 @@ fn push_lines(
     push_rest(alloc, text, plan, number, pool, &part.bound, &part.blocked)
 }
 
-/// Appends the lines of a pool after that of its bound.
+/// Appends the remaining lines of a pool: the line of [`push_waits`], and those of
+/// [`push_pool_submits`].
 fn push_rest(
     alloc: Global,
     text: &mut String,

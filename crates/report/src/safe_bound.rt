@@ -1,7 +1,7 @@
-//! The line of a pool in the text for a plan that a certificate accepts: the number of its threads,
-//! the bound of its queue and the shares in the bound. The bound is the total of a vector. The
-//! share of a client kind in the bound is the weight of all its clients, and the share of a pool is
-//! the weight of all its threads.
+//! The line of a pool's threads and queue in the text for a plan that a certificate accepts. It has
+//! the number of threads, the bound of the queue, and the shares in the bound. The bound is the
+//! total of a vector. The share of a client kind is the weight of all its clients. The share of a
+//! pool is the weight of all its threads.
 
 ghost use Rattle.std.specs.Prelude.{◌≡◌, ◌++◌, IsTrue, OnOk, map, string_bytes};
 ghost use Rattle.support.specs.Pushed.{Pushes};
@@ -17,7 +17,9 @@ use job_bodies::{Plan, Pool};
 use std::alloc::{AllocError, Global};
 use weights::{Bound, Vector};
 
-/// Appends the line with the number of the pool's threads and the bound of its queue.
+/// Appends the line with the number of the pool's threads and the bound of its queue. `number` is
+/// the number of the pool. `rejection` is the number of events after which the pool rejects a job,
+/// or `None` if it is not known.
 pub(crate) fn push_bound(
     alloc: Global,
     text: &mut String,
@@ -37,9 +39,9 @@ pub(crate) fn push_bound(
     text.push('\n')
 }
 
-/// Appends the capacity of the pool's queue. Also appends the bound that the certificate has for
-/// this queue, if the bound limits the jobs of the pool. Otherwise appends the text of
-/// [`push_no_bound`].
+/// Appends the capacity of the pool's queue and the bound of the queue. If there is no bound, or
+/// the bound does not limit the jobs of the pool, appends the text of [`push_no_bound`] in place of
+/// the bound.
 fn push_queue(
     alloc: Global,
     text: &mut String,
@@ -90,9 +92,9 @@ pub(crate) fn push_queue_size(text: &mut String, pool: &Pool) -> Result<(), Allo
     write!(text, "{queue}")
 }
 
-/// Appends why the certificate has no bound for the queue, if the queue is unbounded. Otherwise
-/// appends that the pool may reject jobs, and after how many events it rejects one, if this number
-/// is known.
+/// Appends the text for a queue without a bound. If the queue is unbounded, the text is the reason
+/// why there is no bound. Otherwise it says that the pool may reject jobs and, if `rejection` is
+/// known, after how many events.
 fn push_no_bound(
     alloc: Global,
     text: &mut String,
@@ -111,9 +113,9 @@ fn push_no_bound(
     }
 }
 
-/// Appends why the certificate has no bound for the unbounded queue of the pool. This is a text for
-/// each body that submits a job to the pool and never gets this job. If there is no such body,
-/// appends that no bound is known.
+/// Appends the reason why the pool's unbounded queue has no bound: the texts about the bodies that
+/// submit a job to the pool and never get it. If there is no such body, appends
+/// `no bound is known`.
 fn push_growth(
     alloc: Global,
     text: &mut String,
@@ -131,8 +133,7 @@ fn push_growth(
     push_separated(alloc, text, &lost)
 }
 
-/// Appends that a pool may reject jobs, and after how many events it rejects one, if this number is
-/// known.
+/// Appends that a pool may reject jobs and, if `rejection` is known, after how many events.
 fn push_rejection(text: &mut String, rejection: Option<u64>) -> Result<(), AllocError>
     ensures { Pushes result text.old text.new (spec.rejects_text rejection) }
 {
@@ -164,9 +165,8 @@ fn push_bounded(
     push_places(alloc, text, plan, bound)
 }
 
-/// Returns the words that precede the bound of a pool's queue. They say that the pool never rejects
-/// jobs, if the plan allows this pool to reject jobs and its queue is bounded. Otherwise they are
-/// empty.
+/// Returns `never rejects: ` if the plan allows the pool to reject jobs and the pool's queue is
+/// bounded. Otherwise returns an empty text. The bound of the queue follows this text.
 fn never_words(pool: &Pool) -> &'static str
     ensures { result.now ≡ spec.never_text pool.now }
 {
@@ -226,7 +226,8 @@ pub(crate) fn push_threads(text: &mut String, pool: &Pool) -> Result<(), AllocEr
     }
 }
 
-/// Appends the number of threads of a pool whose core threads may time out, and that they may.
+/// Appends the threads of a pool whose core threads may time out, such as
+/// `2 to 4 threads that may time out`.
 fn push_timeouts(text: &mut String, pool: &Pool) -> Result<(), AllocError>
     ensures { Pushes result text.old text.new (spec.timeouts_text pool.now) }
 {

@@ -34,8 +34,8 @@ pub(crate) fn push_waits(
 }
 
 /// Appends the maximum number of core threads that wait at counted gets at once, and the number of
-/// the other core threads. The maximum is the total of the vector `blocked`. Appends nothing if it
-/// is 0, or if the vector does not fit the plan.
+/// the other core threads. The maximum is the total of the vector `blocked`. Appends nothing if
+/// this total is 0, or if the vector does not fit the plan.
 fn push_left(
     text: &mut String,
     plan: &Plan,

@@ -78,7 +78,7 @@ fn log_of(alloc: Global, file: &str, annotations: &[Annotation]) -> Result<Strin
     line_of(alloc, &value)
 }
 
-/// Creates the log of these annotations of a file.
+/// Creates the SARIF log with these annotations of the file.
 #[tactic(auto, unfolding(crate::specs::Sarif::log_data))]
 fn sarif_value(alloc: Global, file: &str, annotations: &[Annotation]) -> Result<Value, AllocError>
     ensures { IfOk result
@@ -181,7 +181,7 @@ fn file_value(alloc: Global, file: &str) -> Result<Value, AllocError>
 
 // ---- rules
 
-/// Creates the SARIF list of the annotations' rules, each once.
+/// Creates the SARIF list of rules. Each rule of the annotations occurs once.
 fn rules_value(alloc: Global, annotations: &[Annotation]) -> Result<Value, AllocError>
     ensures { IfOk result (λ value. view value ≡ spec.rules_data (remarks_in annotations.now)) }
 {

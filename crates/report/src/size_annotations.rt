@@ -1,4 +1,5 @@
-//! The annotations for the sizes to change, or for the reason why no sizes were found.
+//! Annotations about sizes: one for each size to change or, if no sizes were found, one with the
+//! reason.
 
 ghost use Rattle.std.specs.Prelude.{◌≡◌, IfOk, decimal, option_map, string_bytes};
 ghost use Rattle.report.specs.Annotations.{Adds};

@@ -96,7 +96,8 @@ fn push_size(text: &mut String, declared: u64, fit: u64) -> Result<(), AllocErro
 }
 
 /// Returns the number of sizes of the pool that change. If the maximum [has no
-/// effect](has_useless_max), all sizes count as one, because only the core size has an effect.
+/// effect](has_useless_max), returns 1 if any size changes and 0 otherwise, because then only the
+/// core size has an effect.
 fn pool_changes(declared: &Pool, fit: &Pool) -> u64
     ensures { result ≡ spec.pool_changes declared.now fit.now }
 {

@@ -89,9 +89,12 @@ pub(crate) fn may_time_out(plan: &Plan, actor: Actor) -> bool
     }
 }
 
-/// Appends what an actor did. `submitted` is the name of the class whose job the actor submitted.
-/// `taken` is the name of the class whose job the actor took. `timeout` is whether the actor is a
-/// thread of a pool whose core threads may time out. What the outcome does not need is ignored.
+/// Appends what an actor did in a step with this outcome. Ignores the parameters that the outcome
+/// does not need.
+///
+/// - `submitted` is the name of the class whose job the actor submitted.
+/// - `taken` is the name of the class whose job the actor took.
+/// - `timeout` says whether the actor is a thread of a pool whose core threads may time out.
 fn push_act(
     text: &mut String,
     plan: &Plan,
@@ -138,8 +141,8 @@ fn push_submit(text: &mut String, class: &str, answer: &str) -> Result<(), Alloc
     text.push_str(answer)
 }
 
-/// Appends a submit whose job the pool refused or rejected. `answer` has the words before the
-/// pool's name.
+/// Appends that the actor submitted a job of the class `class`, which the pool `pool` refused or
+/// rejected. `answer` is the text between the two names, such as ` (refused by `.
 fn push_not_taken(
     text: &mut String,
     class: &str,

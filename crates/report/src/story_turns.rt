@@ -13,15 +13,15 @@ use interleaving::Outcome;
 use job_bodies::Plan;
 use std::alloc::{AllocError, Global};
 
-/// A turn: consecutive steps of one actor, such as `client web: works, submits page (queued)`. If a
-/// client starts its body again, its next step begins a new turn. A thread that times out is a turn
-/// of its own.
+/// A turn: consecutive steps of one actor, such as `client web: works, submits page (queued)`. A
+/// client's turn ends when the client starts its body again. A thread that times out is a turn of
+/// its own.
 #[derive(Drop)]
 pub(crate) struct Turn {
     pub(crate) actor: Actor,
     pub(crate) text: String,
-    /// Whether the last step of this turn is that the client starts its body again or that a thread
-    /// times out.
+    /// Whether the next step must begin a new turn. This is so if in the last step of this turn the
+    /// client starts its body again or a thread times out.
     pub(crate) is_ended: bool,
     /// The number of steps in this turn and in all turns before it.
     pub(crate) end: usize,
@@ -61,8 +61,8 @@ fn push_turns(
     push_turns_from(turns, alloc, plan, turn, rest, steps.len())
 }
 
-/// Appends the turn `turn` and the turns of `steps`. If the first of these steps continue `turn`,
-/// they become part of it. `all` is the number of steps of all turns.
+/// Appends `turn`, and then the turns of `steps`, which follow it. The first of these steps become
+/// part of `turn` if they continue it. `all` is at least the number of steps in all turns.
 fn push_turns_from(
     turns: &mut Vec<Turn>,
     alloc: Global,
@@ -136,8 +136,8 @@ fn new_turn(
     })
 }
 
-/// Returns whether a step of this actor with this outcome ends its turn: whether the client starts
-/// its body again, or a thread times out.
+/// Returns whether a step of this actor with this outcome ends its turn. It does if the client
+/// starts its body again or a thread times out.
 fn ends_turn(plan: &Plan, actor: Actor, outcome: Outcome) -> bool
     ensures { result ≡ spec.ends_turn plan.now actor outcome }
 {
@@ -147,7 +147,8 @@ fn ends_turn(plan: &Plan, actor: Actor, outcome: Outcome) -> bool
     }
 }
 
-/// Returns whether a thread ends in a pool whose core threads may time out.
+/// Returns whether a thread times out in this step: it ends in a pool whose core threads may time
+/// out.
 fn is_timeout(plan: &Plan, actor: Actor, outcome: Outcome) -> bool
     ensures { result ≡ spec.is_timeout plan.now actor outcome }
 {

@@ -138,7 +138,7 @@ fn push_awaited(
     text.push('\n')
 }
 
-/// Returns the index of the class that the body of the class `class` submits at the position
+/// Returns the index of the class whose job the body of the class `class` submits at the position
 /// `submit`. Returns 0 if there is no submit at this position.
 fn submitted_in(plan: &Plan, class: usize, submit: usize) -> usize
     ensures { result ≡ spec.submitted_in plan.now class submit }

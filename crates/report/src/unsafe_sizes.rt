@@ -94,7 +94,7 @@ fn push_advice_for_cause(text: &mut String, cause: NoSizes) -> Result<(), AllocE
     }
 }
 
-/// Appends the line of the answer NOT DECIDED that says what was not found.
+/// Appends the last line of the answer NOT DECIDED, with the words of [`open_words`].
 pub(crate) fn push_open(text: &mut String, sizes: &SizesFound) -> Result<(), AllocError>
     ensures { Pushes result text.old text.new (spec.open_text sizes.now) }
 {
@@ -102,7 +102,8 @@ pub(crate) fn push_open(text: &mut String, sizes: &SizesFound) -> Result<(), All
     text.push('\n')
 }
 
-/// Returns the text of the answer NOT DECIDED that says what was not found.
+/// Returns the words that say what was not found: a counterexample, and a certificate for the
+/// declared sizes. If no certificate accepts the plan with any sizes, the words say so.
 pub(crate) fn open_words(sizes: &SizesFound) -> &'static str
     ensures { result.now ≡ spec.open_words sizes.now }
 {

@@ -1,5 +1,5 @@
-//! The page of an answer. It is a template with a placeholder, which the answer's JSON text
-//! replaces.
+//! The HTML page of an answer. The page is a template in which the answer's JSON text replaces a
+//! placeholder.
 
 ghost use Rattle.std.specs.Prelude.{◌≡◌, ◌++◌, IfOk, string_bytes};
 ghost use Rattle.support.specs.Pushed.{Pushes};
@@ -19,8 +19,8 @@ pub fn page_of(alloc: Global, json: &str) -> Result<String, AllocError>
     page_between(alloc, BEFORE, json, AFTER)
 }
 
-/// Returns a page with three parts, one after the other: the text `before`, the JSON text and the
-/// text `after`. The JSON text is escaped for a script element.
+/// Returns a page that consists of the text `before`, the JSON text and the text `after`, in this
+/// order. The JSON text is escaped for a script element.
 fn page_between(alloc: Global, before: &str, json: &str, after: &str) -> Result<String, AllocError>
     ensures { IfOk result (λ page.
         string_bytes page ≡ (before.now ++ spec.script_text json.now) ++ after.now) }

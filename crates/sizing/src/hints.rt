@@ -1,6 +1,6 @@
-//! Hints for standard error, which follow an answer or a fault. A hint says that a file lacks its
+//! Hints for standard error about likely mistakes in files. A hint says that a file lacks its
 //! second text, has a text of another kind, has wrong line ends, or what to do about its fault.
-//! Other functions return why a file could not be read or written.
+//! Other functions of this file return why a file could not be read or written.
 
 use plan_text::read_plan;
 use sizing_cli::{
@@ -103,9 +103,9 @@ fn is_directory(rt: &impl Files, name: &str) -> bool {
     }
 }
 
-/// Returns a hint about a likely mistake in a file that the arguments `words` name, and the name of
-/// this file. Returns `None` if no file shows a known mistake. The caller must have run the
-/// command, which found a fault in a text.
+/// Returns a hint about a likely mistake in a file, and the name of this file. `words` are the
+/// arguments of the command line, which name the files. Returns `None` if no file shows a known
+/// mistake. The caller must have run the command, which found a fault in a text.
 pub(crate) fn hint_of<'a>(
     rt: &impl Files,
     alloc: Global,
@@ -132,8 +132,8 @@ fn text_of(rt: &impl Files, alloc: Global, command: Command, name: &str) -> Opti
 }
 
 /// Returns a hint about the first file, which has the content `text`. Returns `None` if the file
-/// shows no known mistake, and for `ask`, because its answer already explains the mistake.
-/// `is_alone` says whether the first file is the only file that the arguments name.
+/// shows no known mistake. Also returns `None` for `ask`, because its answer already explains the
+/// mistake. `is_alone` says whether the arguments name no other file.
 fn hint_of_first<'a>(
     alloc: Global,
     command: Command,
@@ -149,7 +149,7 @@ fn hint_of_first<'a>(
     {
         return Some(missing_text(text, second));
     }
-    // The answer of `ask` says so itself.
+    // The answer of `ask` explains the mistake itself.
     if let Command::OnThreads(Task::Ask { .. }) = command {
         return None;
     }
@@ -196,9 +196,10 @@ fn hint_of_recording<'a>(text: &[u8]) -> Option<Hint<'a>> {
     }
 }
 
-/// Returns a hint about the second file, which has the content `text`, if the first one shows no
-/// known mistake. `plan` is the name of the first one. Returns `None` if the file shows no known
-/// mistake, and for `ask`, because its answer already explains the mistake.
+/// Returns a hint about the second file, which has the content `text`. The first file, which has
+/// the name `plan`, must show no known mistake. Returns `None` if the second file shows none either,
+/// for `ask`, because its answer already explains the mistake, and for commands that read only one
+/// text.
 fn hint_of_second<'a>(command: Command, text: &[u8], plan: Option<&'a str>) -> Option<Hint<'a>> {
     match command {
         Command::OnRecording(RecordingCommand::Conform) => hint_of_recording(text),
@@ -210,7 +211,7 @@ fn hint_of_second<'a>(command: Command, text: &[u8], plan: Option<&'a str>) -> O
             Some(Hint::NoCertificateOf { plan: plan? })
         }
         Command::OnThreads(Task::Run { .. }) => hint_of_misplaced(text, CERTIFICATE),
-        // The answer of `ask` says so itself, and the other commands read one text.
+        // The answer of `ask` explains the mistake itself, and the other commands read one text.
         _ => None,
     }
 }

@@ -211,9 +211,9 @@ fn push_times(text: &mut String, times: usize) -> Result<(), AllocError>
     write!(text, " [label=\"{times}\"]")
 }
 
-/// Appends one edge for the gets of jobs of the class `class`. The name of the node at which the
-/// edge starts is `kind` followed by `number`. If `counted` is true, the edge is bold. If `gets` is
-/// false, appends nothing.
+/// Appends one dashed edge for the gets of jobs of the class `class`. The name of the node at which
+/// the edge starts is `kind` followed by `number`. `counted` says whether one of the gets is
+/// counted; the edge is bold if so. Appends nothing if `gets` is false, because there are no gets.
 fn push_get_edge(
     text: &mut String,
     kind: &str,
