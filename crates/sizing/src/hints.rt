@@ -112,15 +112,18 @@ pub(crate) fn hint_of<'a>(
     words: &'a [&'a str],
 ) -> Option<(&'a str, Hint<'a>)> {
     let cli = read_words(alloc, words).ok()??;
+    let mut plan = None;
     if let Some(name) = cli.first
         && let Some(text) = text_of(rt, alloc, cli.command, name)
-        && let Some(hint) = hint_of_first(alloc, cli.command, &text, cli.second.is_none())
     {
-        return Some((name, hint));
+        if let Some(hint) = hint_of_first(alloc, cli.command, &text, cli.second.is_none()) {
+            return Some((name, hint));
+        }
+        plan = Some(name);
     }
     let name = cli.second?;
     let text = text_of(rt, alloc, cli.command, name)?;
-    Some((name, hint_of_second(cli.command, &text, cli.first)?))
+    Some((name, hint_of_second(cli.command, &text, plan)?))
 }
 
 /// Returns the content of the file, up to one byte more than the command's input may have. Returns
@@ -196,14 +199,14 @@ fn hint_of_recording<'a>(text: &[u8]) -> Option<Hint<'a>> {
     }
 }
 
-/// Returns a hint about the second file, which has the content `text`. The first file, which has
-/// the name `plan`, must show no known mistake. Returns `None` if the second file shows none either,
-/// for `ask`, because its answer already explains the mistake, and for commands that read only one
-/// text.
+/// Returns a hint about the second file, which has the content `text`. `plan` is the name of the
+/// first file, or `None` if that was read from standard input; the first file must show no known
+/// mistake. Returns `None` if the second file shows none either, for `ask`, because its answer
+/// already explains the mistake, and for commands that read only one text.
 fn hint_of_second<'a>(command: Command, text: &[u8], plan: Option<&'a str>) -> Option<Hint<'a>> {
     match command {
         Command::OnRecording(RecordingCommand::Conform) => hint_of_recording(text),
-        Command::Sequential(ReviewCommand::Replay) => Some(hint_of_events(text)),
+        Command::Sequential(ReviewCommand::Replay) => hint_of_events(text, plan.is_some()),
         Command::Sequential(ReviewCommand::Check | ReviewCommand::Explain) => {
             if let Some(hint) = hint_of_misplaced(text, CERTIFICATE) {
                 return Some(hint);
@@ -216,14 +219,18 @@ fn hint_of_second<'a>(command: Command, text: &[u8], plan: Option<&'a str>) -> O
     }
 }
 
-fn hint_of_events<'a>(text: &[u8]) -> Hint<'a> {
+/// Returns a hint about a file of events. `has_plan` says whether the plan is known to have no
+/// fault, so that the events have one.
+fn hint_of_events<'a>(text: &[u8], has_plan: bool) -> Option<Hint<'a>> {
     if let Some(hint) = hint_of_misplaced(text, "events") {
-        return hint;
+        return Some(hint);
     }
     if ends_with_return(text) {
-        Hint::ReturnsInEvents
+        Some(Hint::ReturnsInEvents)
+    } else if has_plan {
+        Some(Hint::MalformedEvents)
     } else {
-        Hint::MalformedEvents
+        None
     }
 }
 
