@@ -13,8 +13,7 @@ use crate::limits::{MAX_CLASSES, MAX_CLIENT_KINDS, MAX_POOLS};
 use crate::{Class, Client, Part, PlanFault, Pool};
 use support::number::TOO_MANY;
 
-/// Checks that the lists of pools, classes and client kinds each have at most the number of entries
-/// that a plan may have.
+/// Checks that none of the three lists has more entries than a plan may have.
 pub(crate) fn check_counts(
     pools: &[Pool],
     classes: &[Class],

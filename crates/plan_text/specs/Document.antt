@@ -32,8 +32,8 @@ text_of bytes = ensure (is_utf8 bytes) (at_text NOT_TOML) >>= λ _. Ok bytes
 abbrev pub table_of : List ℕ → Result Members PlanFault
 table_of text = ok_or (parse_document text) (at_text NOT_TOML)
 
--- the TOML table of the bytes; a fault if there are more bytes than a plan may have, if they are not UTF-8 or not TOML, or if the table has
--- a key that no plan has
+-- the TOML table of the bytes, or their first fault: too many bytes, not UTF-8, not TOML, or a top-level key that is none of
+-- `pool`, `class` and `client`
 unfoldable pub document_of : List ℕ → Result Members PlanFault
 document_of bytes =
     ensure (nat_le (length bytes) MAX_PLAN_BYTES) (at_text TOO_MANY) >>= λ _.

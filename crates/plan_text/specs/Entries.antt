@@ -29,7 +29,7 @@ pub record Entries : Type 0 where
   pub classes : List ClassEntry
   pub clients : List ClientEntry
 
--- no list of the entries and no body is longer than its limit
+-- no list of entries and no body is longer than its limit
 pub record AreWithinLimits (entries : Entries) : Type 0 where
   pub few_pools : nat_le (length entries.pools) MAX_POOLS ≡ true
   pub few_classes : nat_le (length entries.classes) MAX_CLASSES ≡ true
