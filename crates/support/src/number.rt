@@ -57,12 +57,12 @@ pub const CERT_TOO_LONG: u8 = 34;
 
 /// A run exceeds one of its limits.
 pub const RUN_TOO_LARGE: u8 = 40;
-/// A client or a pool has a receipt for an event of another client or pool, or for an event outside
-/// the history. The history lists the events of a run in order. A receipt is a thread's record of
-/// an event that the thread performed.
+/// A client or a pool has a receipt for an event of another client or pool, or for an event that is
+/// not in the history. A receipt is a thread's record of an event that the thread performed. The
+/// history lists the events of a run in order.
 pub const STRANGE: u8 = 41;
-/// The results of several threads contradict each other. Either the history and the receipts of a
-/// run are not those of a complete run, or the parts of a search do not fit together.
+/// The results of several threads contradict each other. In a run, the history and the receipts are
+/// not those of a complete run. In a search, the parts of the search do not fit together.
 pub const MIXED: u8 = 42;
 /// A gate failed. In a run, a gate is the code that does the declared work. In a search or a check,
 /// a gate is the hook that is called before each pool.
