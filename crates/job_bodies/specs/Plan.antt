@@ -19,7 +19,7 @@ pub record Class : Type 0 where
   pub pool : ℕ
   pub body : List Action
 
--- a client kind
+-- a client kind: a number of clients that perform the same body, once or repeatedly
 pub record Client : Type 0 where
   pub name : List ℕ
   pub count : ℕ

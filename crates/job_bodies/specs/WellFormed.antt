@@ -1,7 +1,7 @@
 -- Well-formed plans. The sizes of a pool are valid for Java's ThreadPoolExecutor with an ArrayBlockingQueue. Core is also at
--- least 1, and no size is above MAX_SIZE, except the maximum of a pool that has none (`has_no_max`). If the pool may reject
--- jobs, the capacity of its queue can also be 0, that of a SynchronousQueue. Names are valid and unique in their list. Submits
--- name classes, and gets name submits.
+-- least 1, and no size is above MAX_SIZE, except the maximum of a pool without a maximum of its own (`has_no_max`). If the pool
+-- may reject jobs, the capacity of its queue can also be 0, that of a SynchronousQueue. Names are valid and unique in their
+-- list. Submits name classes, and gets name submits.
 use Rattle.std.specs.Prelude.{◌≤◌, ℕ, Bool, true, not, ◌==◌, ◌&&◌, ◌||◌, nat_lt, nat_le, if◌then◌else◌, List, [], ◌∷◌, length, map, take, slice_index, slice_get, IsTrue}
 use Rattle.std.specs.List.{list_all, list_any, enumerate_from}
 use Rattle.std.specs.Str.{bytes_eq}
@@ -42,7 +42,7 @@ has_no_max pool = pool.core_timeout && pool.unbounded && pool.max == MAX_THREADS
 abbrev pub largest_max : Bool → Bool → ℕ
 largest_max core_timeout unbounded = if core_timeout && unbounded then MAX_THREADS else MAX_SIZE
 
--- whether the sizes are in range: core is from 1 to MAX_SIZE, the maximum is from core to MAX_SIZE or the pool has no maximum,
+-- whether the sizes are in range: core is from 1 to MAX_SIZE, the maximum is from core to MAX_SIZE (or `has_no_max` is true),
 -- and the queue is from its least capacity to MAX_SIZE
 abbrev pub has_valid_sizes : Pool → Bool
 has_valid_sizes pool = is_within 1 MAX_SIZE pool.core && (is_within pool.core MAX_SIZE pool.max || has_no_max pool) && is_within (least_queue pool) MAX_SIZE pool.queue

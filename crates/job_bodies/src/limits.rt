@@ -20,7 +20,7 @@ pub const MAX_ACTIONS: usize = 256;
 pub const MAX_SIZE: u64 = 1_000_000;
 /// The maximum of a pool for which the plan gives no maximum: 2^28 - 1. The queue of such a pool is
 /// unbounded, and its core threads may time out. No system has room for that many threads. Java's
-/// `ThreadPoolExecutor` packs the number of its threads in 29 bits.
+/// `ThreadPoolExecutor` allows them: it packs the number of its threads in 29 bits.
 pub const MAX_THREADS: u64 = 268_435_455;
 /// The maximum number of units of a `Work` action. The minimum is 1.
 pub const MAX_WORK: u64 = 1_000_000;

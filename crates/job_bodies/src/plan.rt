@@ -19,8 +19,8 @@ use std::marker::Model;
 /// least core, and the capacity is at least 1. There are these differences:
 ///
 /// - Core is at least 1.
-/// - No size is above [`MAX_SIZE`], except the maximum of a pool that [has none](Pool::has_no_max).
-///   This maximum is [`MAX_THREADS`].
+/// - No size is above [`MAX_SIZE`], with one exception. The maximum of a pool [without a maximum of
+///   its own](Pool::has_no_max) is [`MAX_THREADS`].
 /// - If `may_reject` is true, the capacity can also be 0, that of a `SynchronousQueue`.
 #[derive(Debug, Drop)]
 pub struct Pool {
@@ -30,7 +30,7 @@ pub struct Pool {
     /// submitted job starts one. The core threads never end, unless `core_timeout` is true.
     pub core: u64,
     /// The maximum pool size in threads: from `core` to 1,000,000, or [`MAX_THREADS`] if the pool
-    /// [has no maximum](Pool::has_no_max).
+    /// [has no maximum of its own](Pool::has_no_max).
     pub max: u64,
     /// The capacity of the queue in jobs, from 1 to 1,000,000. If `may_reject` is true, the
     /// capacity can also be 0, that of a `SynchronousQueue`.

@@ -1,4 +1,5 @@
--- The shape of the entries in the text of a plan: each required key must be present, and each value must have the type of its key.
+-- The shape of the entries in the text of a plan. Each required key must be present, and each value must have the type of its
+-- key.
 use Rattle.std.specs.Prelude.{◌≡◌, ℕ, Bool, true, nat_le, List, [], ◌∷◌, length, slice_get, codes, Some, Result, Ok}
 use Rattle.toml.specs.Data.{Data, Members}
 use Rattle.support.specs.Reading.{◌>>=◌, read_each}

@@ -51,7 +51,8 @@ is_positive_decimal digits = not (length digits == 0) && not (slice_index digits
 unfoldable pub parse_units : List ℕ → Option ℕ
 parse_units text = if is_positive_decimal text && is_within 1 MAX_WORK (digits_value 10 text) then Some (digits_value 10 text) else None
 
--- the submit of this class that fills slot SLOT, if `text`, which follows the class, is `as SLOT`; otherwise None
+-- the action `submit CLASS as SLOT`, given CLASS and the text after it; None if this text is not `as SLOT`, or if one of the
+-- names is not valid
 unfoldable pub parse_submit_as : List ℕ → List ℕ → Option ParsedAction
 parse_submit_as class text =
     split_space text >>? λ words.

@@ -8,7 +8,8 @@ use Rattle.plan_text.specs.ParsedActions.{ParsedAction, submit_as, get, parse_ac
 abbrev pub position_in : List (List ℕ × ℕ) → List ℕ → Option ℕ
 position_in slots slot = lookup (bytes_eq slot) slots
 
--- the state of a slot after the action at position i of a body, given its state before; an action of None is malformed
+-- the state of a slot after the action at position i of a body, given its state before; the action is None if its text is
+-- malformed
 abbrev pub filled_by : List ℕ → ℕ → Option ℕ → Option ParsedAction → Option ℕ
 filled_by slot i before (Some (submit_as class name)) = if bytes_eq name slot then Some i else before
 filled_by slot i before (Some (get name)) = if bytes_eq name slot then None else before

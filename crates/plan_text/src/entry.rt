@@ -25,8 +25,8 @@ pub struct Entry<'a> {
     index: usize,
 }
 
-/// Converts an integer of the text to an unsigned number. A negative integer becomes [`MAX_SIZE`] +
-/// 1, which is out of range for every key of a plan.
+/// Converts an integer of the text to an unsigned number. A negative integer becomes
+/// `MAX_SIZE + 1`, which is out of range for every key of a plan.
 fn count_of(number: i64) -> u64
     ensures { result ≡ spec.count_of number }
 {

@@ -23,8 +23,8 @@ use support::number::MEMORY;
 ///
 /// The `max` and the `queue` of a pool are each an integer or the string `unbounded`:
 ///
-/// - If `queue` is an integer, it is the capacity of the queue, and `max` is the maximum. `max =
-///   "unbounded"` is then out of range.
+/// - If `queue` is an integer, it is the capacity of the queue, and `max` is the maximum.
+///   `max = "unbounded"` is then out of range.
 /// - If `queue = "unbounded"`, the queue is unbounded. The `queue` of the plan is then 1,000,000
 ///   and has no effect. With `core_timeout = true`, the maximum is `max`, or [`MAX_THREADS`] for
 ///   `max = "unbounded"`. Without it, `max` has no effect, and the maximum is core. In both cases,

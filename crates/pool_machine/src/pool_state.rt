@@ -12,8 +12,9 @@ use std::alloc::{AllocError, Global};
 use std::collections::VecDeque;
 use std::marker::Model;
 
-/// A thread pool: its sizes, the number of its threads, the number of its idle threads, and the
-/// numbers of the jobs in its queue.
+/// A thread pool: its sizes, the number of its threads, the number of its idle threads, and its
+/// queue. The threads are also called workers. The queue lists jobs by the numbers that identify
+/// them.
 ///
 /// A worker that finished a job is idle until it takes the head of the queue. So the queue can be
 /// full while workers are idle. The rules are those of Java's `ThreadPoolExecutor`. Its queue is an

@@ -1,4 +1,4 @@
--- Rows: the rules of a certificate at their places.
+-- Rows: the conditions of a certificate. Each row is a rule at one place of the plan.
 use Rattle.std.specs.Prelude.{◌≤◌, ℕ, Bool, nat_lt, if◌then◌else◌, List, [], ◌∷◌, Option, Some, None}
 use Rattle.support.specs.In.{In}
 use Rattle.weights.specs.declared.row.Rule.{Rule}

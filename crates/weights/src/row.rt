@@ -12,7 +12,7 @@ ghost use Rattle.weights.specs.Row.{fails, row};
 pub enum Rule {
     /// The reach of a class is at least the rank of its pool.
     K1,
-    /// The reach of a class is at least the reach of the class of each job that it gets.
+    /// The reach of a class is at least the reach of each class whose jobs it gets.
     K2,
     /// The level of a class is above the level of each class that it submits.
     K3,
