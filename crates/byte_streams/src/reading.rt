@@ -73,7 +73,7 @@ const INITIAL_SIZE: usize = 4096;
 const MAX_GROWTH: usize = 65_536;
 
 /// Reads to the end of the input, or until `limit` bytes were read, and returns the bytes. Each
-/// call of the source reads at least one byte, except at the end of the input.
+/// successful call of the source reads at least one byte, except at the end of the input.
 ///
 /// # Errors
 ///

@@ -11,8 +11,8 @@ IsReached {I} next first stored_state s = (i : I) × Reaches next first i × (st
 abbrev pub IsReplayOf : {I E S : Type 0} → (I → E → Option I) → I → (I → S) → List E → S → Type 0
 IsReplayOf {I} next first stored_state events s = (i : I) × Leads next first events i × (stored_state i ≡ s)
 
--- the outcome of an event in state i is right. If it is true, the event is possible, and `after` is the stored state for the
--- state after the event. If it is false, the event is not possible.
+-- the outcome of the event in state i is right. The outcome true means that the event is possible, and that `after` is the
+-- stored state for the next state. The outcome false means that the event is not possible.
 abbrev pub Answers : {I E S : Type 0} → (I → E → Option I) → (I → S) → I → E → Bool → S → Type 0
 Answers {I} next stored_state i event true after = (j : I) × (next i event ≡ Some j) × (stored_state j ≡ after)
 Answers next stored_state i event false after = next i event ≡ None

@@ -42,9 +42,10 @@ pub record LoadIsOffered : Type 0 where
   pub by_retire : (pool after : PoolView) → retired pool ≡ Some after → (IsTrue pool.core_timeout → pool.idle ≤ pool.threads) → load after < load pool
 
 -- when the operations of the pool fail. It refuses a job exactly when its queue is bounded and full and it has its maximum of
--- threads. A take fails exactly when no worker is idle or the queue is empty. A retirement fails exactly in three cases. In the
--- first, no worker is idle. In the second, the pool has at most core threads, and core threads may not time out, or its only
--- thread is needed for a queued job. In the third, the queue is bounded with capacity 0, and each idle worker has a job in it.
+-- threads. A take fails exactly when no worker is idle or the queue is empty. A retirement fails exactly when no worker is
+-- idle, when the pool needs its threads, or when its queue is bounded with capacity 0 and each idle worker has a job in it. The
+-- pool needs its threads if it has at most core threads and these may not time out. If they may time out, the pool needs its
+-- thread if it has only one and a job is queued.
 pub record FailureConditions (pool : PoolView) : Type 0 where
   pub refuses : answer pool ≡ Refused ↔ (pool.unbounded ≡ false) × (length pool.queue ≡ queue_limit pool.capacity pool.idle) × (pool.threads ≡ pool.max)
   pub takes_none : taken pool ≡ None ↔ (pool.idle ≡ 0) ⊎ (pool.queue ≡ [])

@@ -81,8 +81,8 @@ finished pool = record pool { idle = pool.idle + 1 }
 abbrev pub has_spare_thread : PoolView → Bool
 has_spare_thread pool = nat_lt pool.core pool.threads || (pool.core_timeout && (nat_lt 1 pool.threads || length pool.queue == 0))
 
--- whether no worker that was handed a job has to end if only `idle` idle workers are left. In a bounded queue of capacity 0,
--- each job was handed to an idle worker, so at least one idle worker for each job must be left. Other queues set no condition.
+-- whether this number of idle workers is enough for the queued jobs that were handed to idle workers. In a bounded queue of
+-- capacity 0, each job was handed to an idle worker. In any other queue, no job was.
 abbrev pub has_spare_worker : PoolView → ℕ → Bool
 has_spare_worker pool idle = pool.unbounded || nat_lt 0 pool.capacity || nat_le (length pool.queue) idle
 

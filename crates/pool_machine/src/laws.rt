@@ -25,7 +25,7 @@ pub fn pools_stay_sound()
 
 /// Proves that a pool with a queued job has at least core threads, or at least one thread if its
 /// core threads may time out. A pool queues a job only if it has at least core threads. While jobs
-/// are queued, no thread ends if the pool would then have fewer threads than stated.
+/// are queued, no thread ends if the pool would then have too few.
 pub fn queues_have_threads()
     ensures start { (pool : Pool) → QueuesHaveThreads (new_pool pool) }
     ensures kept { IsInvariant QueuesHaveThreads }
@@ -50,13 +50,12 @@ pub fn load_is_offered()
 ///   threads.
 /// - [`PoolState::take`](crate::PoolState::take) fails exactly when no worker is idle or the queue
 ///   is empty.
-/// - [`PoolState::retire`](crate::PoolState::retire) fails exactly in these cases: no worker is
-///   idle, the pool needs its threads, or each idle worker has a job in a bounded queue of capacity
-///   0.
+/// - [`PoolState::retire`](crate::PoolState::retire) fails exactly when no worker is idle, when the
+///   pool needs its threads, or when its queue is bounded with capacity 0 and each idle worker has
+///   a job in it.
 ///
-/// A pool with more than core threads does not need them all. If core threads may time out, any
-/// other pool needs its threads exactly when it has one thread and a queued job. If they may not
-/// time out, it always needs its threads.
+/// A pool whose core threads may not time out needs its threads if it has at most core threads. A
+/// pool whose core threads may time out needs its thread if it has only one and a job is queued.
 pub fn failure_conditions()
     ensures { (pool : PoolView) → IsSound pool → FailureConditions pool }
 {}

@@ -273,7 +273,7 @@ impl PoolState {
     }
 
     /// Returns the number of jobs in the queue. A bounded queue has at most as many jobs as its
-    /// capacity or, if the capacity is 0, as many as the pool has idle workers.
+    /// capacity. With capacity 0, it has at most as many jobs as the pool has idle workers.
     pub fn queued(&self) -> usize
         ensures value { result ≡ length self.now.queue }
         ensures sound { IsSound self.now }

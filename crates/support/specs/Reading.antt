@@ -1,7 +1,7 @@
 -- A reading returns a value or a fault. It consists of steps that run in order. The first fault ends the reading.
 use Rattle.std.specs.Prelude.{ℕ, ◌+◌, Bool, if◌then◌else◌, List, [], ◌∷◌, Option, None, Some, Result, Ok, Err}
 
--- two steps in order: the second step gets the value of the first; if the first step has a fault, the second does not run
+-- two steps in order. The second step gets the value of the first. If the first step has a fault, this fault is the result.
 infixl 10 ◌>>=◌
 abbrev pub ◌>>=◌ : {A B F : Type 0} → Result A F → (A → Result B F) → Result B F
 (Ok x) >>= f = f x

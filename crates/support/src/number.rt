@@ -13,12 +13,12 @@ pub const UNKNOWN_KEY: u8 = 3;
 pub const MISSING_KEY: u8 = 4;
 /// A value has the wrong type for its key.
 pub const WRONG_TYPE: u8 = 5;
-/// A name does not consist of a lowercase letter, followed by at most 31 lowercase letters, digits
-/// and `_`.
+/// A name is not valid. A valid name is a lowercase letter, followed by at most 31 lowercase
+/// letters, digits and `_`.
 pub const BAD_NAME: u8 = 6;
 /// Two entries of a list have the same name.
 pub const DOUBLE_NAME: u8 = 7;
-/// A size, a count or a length of work is out of range.
+/// A size, a count or a number of units of work is out of range.
 pub const BAD_NUMBER: u8 = 8;
 /// A class names a pool that does not exist.
 pub const NO_SUCH_POOL: u8 = 9;

@@ -1,5 +1,4 @@
--- The conditions of the blocked vector of pool p. They show that fewer jobs of p wait at counted gets than p has threads while
--- a job is in its queue.
+-- The conditions of the blocked vector of pool p. They show that fewer than `least_threads` jobs of p wait at counted gets.
 use Rattle.std.specs.Prelude.{ℕ, ◌-◌, Bool, true, false, ◌&&◌, List, [], ◌∷◌, ◌++◌, map, filter}
 use Rattle.std.specs.List.{flat_map, enumerate_from}
 use Rattle.job_bodies.specs.declared.action.Action.{Action}

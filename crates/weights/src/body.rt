@@ -42,8 +42,8 @@ pub(crate) struct Body<'a> {
     pub(crate) weights: &'a [u64],
 }
 
-/// Returns the index of the class of the submit at position `submit`, or 0 if there is no submit at
-/// that position.
+/// Returns the index of the class that the submit at position `submit` submits, or 0 if there is no
+/// submit at that position.
 pub fn submitted_class(actions: &[Action], submit: usize) -> usize
     ensures { result ≡ submitted_class actions.now submit }
 {

@@ -1,5 +1,5 @@
-//! Vectors of weights. A vector gives a weight to each worker, to each job at each stage, and to
-//! each client at each position of its body.
+//! Vectors of weights. A vector gives a weight to each worker, to each job at each stage (queued,
+//! at a position of its body, or done), and to each client at each position of its body.
 
 ghost use Rattle.std.specs.Prelude.{◌≡◌, ◌<◌, length, map};
 ghost use Rattle.weights.specs.Vector as spec;
