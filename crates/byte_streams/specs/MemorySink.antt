@@ -10,7 +10,7 @@ written_to sink = sink.bytes.items
 abbrev pub max_bytes_of : MemorySink → ℕ
 max_bytes_of sink = sink.max_bytes
 
--- the number of successful calls before the call that fails; None if no call is to fail
+-- the number of calls before the call that must fail; None if no call must fail
 abbrev pub calls_before_fault : MemorySink → Option ℕ
 calls_before_fault sink = sink.fault.calls_before
 

@@ -2,7 +2,7 @@
 use Rattle.std.specs.Prelude.{ℕ, List, Option}
 use Rattle.byte_streams.specs.declared.memory_source.MemorySource.{MemorySource}
 
--- the bytes that were not read yet
+-- the bytes that have not been read yet
 abbrev pub left : MemorySource → List ℕ
 left source = source.rest.now
 
@@ -10,7 +10,7 @@ left source = source.rest.now
 abbrev pub max_bytes_of : MemorySource → ℕ
 max_bytes_of source = source.max_bytes
 
--- the number of successful calls before the call that fails; None if no call is to fail
+-- the number of calls before the call that must fail; None if no call must fail
 abbrev pub calls_before_fault : MemorySource → Option ℕ
 calls_before_fault source = source.fault.calls_before
 

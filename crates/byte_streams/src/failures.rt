@@ -4,8 +4,8 @@ ghost use Rattle.std.specs.Borrow.{ftrue};
 
 use std::marker::Model;
 
-/// A natural number that only contracts see. It takes no memory and never overflows. An invariant
-/// of [`Failures`] relates it to the counter that the program stores.
+/// A natural number that exists only in contracts. It takes no memory and never overflows. An
+/// invariant of [`Failures`] relates it to the counter that the program stores.
 #[derive(Drop)]
 pub(crate) struct GhostCount {
     pub ghost value: { ℕ },
@@ -29,8 +29,8 @@ impl GhostCount {
     }
 }
 
-/// The number of failed calls of a stream. Contracts see the exact number. The stored counter does
-/// not exceed `u64::MAX`.
+/// The number of failed calls of a stream. Contracts use the exact number. The program stores this
+/// number, or `u64::MAX` if the number is larger.
 #[derive(Drop)]
 pub(crate) struct Failures {
     pub(crate) exact: GhostCount,

@@ -1,8 +1,8 @@
 //! Sources and sinks of bytes that count their failed calls.
 //!
-//! `read_up_to` reads a whole input from any [`Source`], up to a limit, and `write_all` writes a
-//! whole answer to any [`Sink`]. There are sources and sinks for every std reader and writer, and,
-//! for tests, for bytes in memory.
+//! `read_up_to` reads a whole input from any [`Source`], up to a limit. `write_all` writes a whole
+//! answer to any [`Sink`]. There is a source for every std reader and a sink for every std writer.
+//! For tests, there are a source and a sink in memory.
 #![tactic(auto)]
 
 mod failures;

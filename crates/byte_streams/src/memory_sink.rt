@@ -21,7 +21,7 @@ pub struct MemorySink {
 impl MemorySink {
     ghost use Rattle.byte_streams.specs.MemorySink.{written_to, max_bytes_of, calls_before_fault, failure_count};
 
-    /// Creates a sink. Its calls accept all bytes and fail only if memory runs out.
+    /// Creates an empty sink. Its calls accept all bytes and fail only if memory runs out.
     pub fn new(alloc: Global) -> MemorySink
         ensures written { written_to result ≡ [] }
         ensures max_bytes { max_bytes_of result ≡ 2 ^ 64 - 1 }
@@ -36,8 +36,8 @@ impl MemorySink {
         }
     }
 
-    /// Sets the maximum number of bytes that each call accepts. If the maximum is 0, each call with
-    /// at least one byte fails.
+    /// Sets the maximum number of bytes that each call accepts. If the maximum is 0, each call that
+    /// is given at least one byte fails.
     pub fn at_most(mut self, max_bytes: usize) -> MemorySink
         ensures written { written_to result ≡ written_to self }
         ensures max_bytes { max_bytes_of result ≡ max_bytes }
@@ -48,7 +48,7 @@ impl MemorySink {
         self
     }
 
-    /// Makes one call fail, which is the call after the next `calls` calls.
+    /// Makes one call fail: the first call after the next `calls` calls.
     pub fn failing_after(mut self, calls: u64) -> MemorySink
         ensures written { written_to result ≡ written_to self }
         ensures max_bytes { max_bytes_of result ≡ max_bytes_of self }
@@ -66,7 +66,7 @@ impl MemorySink {
         self.bytes.as_slice()
     }
 
-    /// Returns the number of failed calls.
+    /// Returns the number of failed calls, or `u64::MAX` if there are more.
     pub fn failures(&self) -> u64
         ensures { result ≡ min (failure_count self.now) (2 ^ 64 - 1) }
     {

@@ -21,7 +21,7 @@ pub struct MemorySource<'a> {
 impl<'a> MemorySource<'a> {
     ghost use Rattle.byte_streams.specs.MemorySource.{left, max_bytes_of, calls_before_fault, failure_count};
 
-    /// Creates a source of `bytes`. Its calls never fail. Each call returns as many of the
+    /// Creates a source of `bytes` whose calls never fail. Each call returns as many of the
     /// remaining bytes as fit into the slice that it fills.
     pub fn new(bytes: &'a [u8]) -> MemorySource<'a>
         ensures left { left result ≡ bytes.now }
@@ -49,7 +49,7 @@ impl<'a> MemorySource<'a> {
         self
     }
 
-    /// Makes one call fail, which is the call after the next `calls` calls.
+    /// Makes one call fail: the first call after the next `calls` calls.
     pub fn failing_after(mut self, calls: u64) -> MemorySource<'a>
         ensures left { left result ≡ left self.entry }
         ensures max_bytes { max_bytes_of result ≡ max_bytes_of self.entry }
@@ -67,7 +67,7 @@ impl<'a> MemorySource<'a> {
         self.rest
     }
 
-    /// Returns the number of failed calls.
+    /// Returns the number of failed calls, or `u64::MAX` if there are more.
     pub fn failures(&self) -> u64
         ensures { result ≡ min (failure_count self.now) (2 ^ 64 - 1) }
     {

@@ -19,8 +19,8 @@ pub trait Source {
     ghost failures: { Self → ℕ };
 
     /// Reads the next bytes into the start of `piece`, and returns the number of bytes that were
-    /// read. If `piece` is not empty, a result of 0 means the end of the input. A call that fails
-    /// loses no bytes.
+    /// read. If `piece` is not empty, a result of 0 means the end of the input. If the call fails,
+    /// no bytes are lost.
     fn read(&mut self, piece: &mut [u8]) -> Result<usize, IoFault>
         ensures bound { ReadsAtMost result piece.new }
         ensures bytes { ReadConsumes (remaining self.old) (remaining self.new) result piece.new }
@@ -69,12 +69,11 @@ impl From<IoFault> for InputError {
 const INITIAL_SIZE: usize = 4096;
 
 /// The maximum number of bytes by which the buffer grows in one step. New space is filled with
-/// zeros. With this limit, a long input does not need much more memory than its own size.
+/// zeros. Because of this limit, the buffer of a long input is not much larger than the input.
 const MAX_GROWTH: usize = 65_536;
 
-/// Reads to the end of the input, or until `limit` bytes were read, and returns the bytes.
-///
-/// Each iteration except the last reads at least one byte, so the loop ends.
+/// Reads to the end of the input, or until `limit` bytes were read, and returns the bytes. Each
+/// successful call of the source reads at least one byte, except at the end of the input.
 ///
 /// # Errors
 ///

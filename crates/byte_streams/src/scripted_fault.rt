@@ -2,7 +2,8 @@
 ghost use Rattle.std.specs.Prelude.{◌≡◌, ◌-◌, None, Some, IsTrue, ◌↔◌};
 ghost use Rattle.byte_streams.specs.ScriptedFault.{calls_after};
 
-/// The number of calls before the call that must fail, or `None` if no call must fail.
+/// The failure that a test plans for a stream. `calls_before` is the number of calls before the
+/// call that must fail, or `None` if no call must fail.
 #[derive(Clone, Copy)]
 pub(crate) struct ScriptedFault {
     pub(crate) calls_before: Option<u64>,
@@ -23,8 +24,7 @@ impl ScriptedFault {
         }
     }
 
-    /// Counts this call, and returns `true` if this call must fail. The result is `true` for at
-    /// most one call.
+    /// Counts a call, and returns `true` if this call must fail. At most one call gets `true`.
     pub(crate) fn is_due(&mut self) -> bool
         ensures due { IsTrue result ↔ (self.old.calls_before ≡ Some 0) }
         ensures left { self.new.calls_before ≡ calls_after self.old.calls_before }

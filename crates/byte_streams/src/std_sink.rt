@@ -8,8 +8,8 @@ use crate::std_source::TRIES;
 use crate::{IoFault, Sink};
 use std::io::{ErrorKind, Write};
 
-/// A sink that writes to a writer of type `W`. If the contracts of `W` state which bytes were
-/// written, so do the contracts of this sink.
+/// A sink that writes to a writer of type `W`. The contracts of the sink state which bytes were
+/// written if the contracts of `W` do.
 #[derive(Drop)]
 pub struct StdSink<W> {
     writer: W,
@@ -46,8 +46,8 @@ impl<W: Write> Sink for StdSink<W> {
 
     ghost failures = { failure_count };
 
-    /// Makes one call of the writer. If a signal interrupts the call, repeats it, up to a million
-    /// calls in total.
+    /// Writes a prefix of `bytes` in one call of the writer. If a signal interrupts the call,
+    /// repeats it, up to a million calls in total.
     ///
     /// # Errors
     ///

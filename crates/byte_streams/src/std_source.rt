@@ -7,11 +7,12 @@ use crate::failures::Failures;
 use crate::{IoFault, Source};
 use std::io::{ErrorKind, Read};
 
-/// The maximum number of times that a call is made if signals interrupt it.
+/// The maximum number of times that a call of a std reader or writer is made if signals interrupt
+/// it.
 pub(crate) const TRIES: u32 = 1_000_000;
 
-/// A source that reads from a reader of type `R`. If the contracts of `R` state which bytes remain,
-/// so do the contracts of this source.
+/// A source that reads from a reader of type `R`. The contracts of the source state which bytes
+/// remain if the contracts of `R` do.
 #[derive(Drop)]
 pub struct StdSource<R> {
     reader: R,
@@ -33,7 +34,7 @@ impl<R: Read> StdSource<R> {
     }
 
     /// Returns the reader. The source has no buffer, so the next byte of the reader is the first
-    /// one that this source has not returned.
+    /// byte that this source has not returned.
     pub fn into_inner(self) -> R
         ensures { result ≡ reader_of self }
     {
@@ -48,8 +49,8 @@ impl<R: Read> Source for StdSource<R> {
 
     ghost failures = { failure_count };
 
-    /// Makes one call of the reader. If a signal interrupts the call, repeats it, up to a million
-    /// calls in total.
+    /// Reads the next bytes in one call of the reader. If a signal interrupts the call, repeats it,
+    /// up to a million calls in total.
     ///
     /// # Errors
     ///

@@ -6,7 +6,7 @@ pub record HeldValue (M S E : Type 0) : Type 0 where
   pub state : S
   pub history : List E
 
--- the history, with the event appended if there is a receipt
+-- the history after an event. If there is a receipt for the event, the event is appended. Otherwise the history is unchanged.
 abbrev pub with_event : {E R : Type 0} → List E → E → Option R → List E
 with_event history event None = history
 with_event history event (Some receipt) = history ++ event ∷ []

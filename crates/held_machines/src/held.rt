@@ -10,8 +10,7 @@ use crate::Machine;
 use std::alloc::{AllocError, Global};
 use std::marker::Model;
 
-/// A receipt for one event of a history. It has the event, and the number of the event in the
-/// history, counted from 0.
+/// A receipt for one event of a history: the event, and its number in the history, counted from 0.
 #[derive(Clone, Copy, Debug, PartialEq, Eq)]
 pub struct Receipt<E> {
     pub number: u64,

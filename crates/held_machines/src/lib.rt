@@ -1,5 +1,5 @@
-//! Machines whose states are stored together with the events that led to them, with or without a
-//! lock.
+//! Machines whose states are stored together with the events that led to them. A lock can protect
+//! such a machine.
 //!
 //! A [`Machine`] is specified by an initial state and a next state for each event. [`Held`] stores
 //! the state of a machine and its history: the list of the events that it performed. A replay of

@@ -4,8 +4,8 @@ use crate::{Held, Machine};
 use std::sync::{Condvar, Mutex, MutexGuard, Wait};
 
 /// A machine with its history, shared by threads under one lock. Only one thread at a time holds
-/// the lock. The thread that holds the lock can release it and wait until another thread reports a
-/// change of the machine.
+/// the lock. This thread can release the lock and wait until another thread reports a change of the
+/// machine.
 #[derive(Drop)]
 pub struct Locked<M: Machine + Drop> {
     held: Mutex<Held<M>>,

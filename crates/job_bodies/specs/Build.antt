@@ -8,7 +8,7 @@ use Rattle.job_bodies.specs.declared.limits.TheConstants.{MAX_POOLS, MAX_CLASSES
 use Rattle.job_bodies.specs.Plan.{Pool, Class, Client, Plan}
 use Rattle.job_bodies.specs.Checks.{at_text, check_pool, check_class, check_client, check_length, check_body}
 
--- the plan with these lists, which need not be well-formed
+-- a plan with these lists; it need not be well-formed
 abbrev pub plan_of_lists : List Pool → List Class → List Client → Plan
 plan_of_lists pools classes clients = record { pools = pools; classes = classes; clients = clients }
 

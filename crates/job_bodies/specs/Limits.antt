@@ -24,7 +24,7 @@ pub record TextLimitsAreStated : Type 0 where
   pub number : MAX_LINE_NUMBER ≡ 1000000000
   pub recorded_rounds : MAX_RECORDED_ROUNDS ≡ 1000000001
 
--- the limits and defaults of the threads of a search or check and of the states of a search, and the limits of a run
+-- the limits and defaults of searches and checks, and the limits of runs
 pub record RunLimitsAreStated : Type 0 where
   pub workers : MAX_WORKERS ≡ 64
   pub workers_unsaid : DEFAULT_WORKERS ≡ 4

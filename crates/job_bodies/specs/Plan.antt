@@ -19,7 +19,7 @@ pub record Class : Type 0 where
   pub pool : ℕ
   pub body : List Action
 
--- a client kind
+-- a client kind: a number of clients that perform the same body, once or repeatedly
 pub record Client : Type 0 where
   pub name : List ℕ
   pub count : ℕ
@@ -31,7 +31,7 @@ pub record Plan : Type 0 where
   pub classes : List Class
   pub clients : List Client
 
--- the default for an index past the end of the list of pools
+-- the pool that `pool_at` gives for an index past the end of the list
 abbrev pub no_pool : Pool
 no_pool = record { name = []; core = 0; max = 0; queue = 0; prestart = false; may_reject = false; unbounded = false; core_timeout = false }
 
@@ -58,11 +58,11 @@ pool_names plan = map (λ pool. pool.name) plan.pools
 abbrev pub first_workers : Pool → ℕ
 first_workers pool = if pool.prestart then pool.core else 0
 
--- the number of threads that the pool has at least while a job is in its queue: core, or 1 if its core threads may time out
+-- the least number of threads that the pool has while a job is in its queue: core, or 1 if core threads may time out
 abbrev pub least_threads : Pool → ℕ
 least_threads pool = if pool.core_timeout then 1 else pool.core
 
--- whether a certificate needs no bound of the pool, because the pool may reject jobs or its queue is unbounded
+-- whether a certificate needs no vector that bounds the pool's queue: the pool may reject jobs, or its queue is unbounded
 abbrev pub needs_no_bound : Pool → Bool
 needs_no_bound pool = pool.may_reject || pool.unbounded
 
@@ -71,20 +71,20 @@ abbrev pub submits : Option Action → Bool
 submits (Some (Submit k)) = true
 submits _ = false
 
--- the class that the action submits; 0 if it is not a submit
+-- the index of the class that the action submits; 0 if the action is not a submit
 abbrev pub class_of_submit : Option Action → ℕ
 class_of_submit (Some (Submit k)) = k
 class_of_submit _ = 0
 
--- the class that the submit at position t of the body submits; a get of t waits for a job of this class
+-- the index of the class that the submit at position t of the body submits; a get of t waits for a job of this class
 abbrev pub submitted_class : List Action → ℕ → ℕ
 submitted_class body t = class_of_submit (slice_get body t)
 
--- whether the action is a get of the submit at position t of its body
+-- whether the action is a get of the submit at position t of the same body
 abbrev pub gets : ℕ → Action → Bool
 gets t (Get u) = t == u
 gets t _ = false
 
--- whether one of the actions is a get of the submit at position t of their body
+-- whether one of the actions of a body is a get of the submit at position t of this body
 abbrev pub has_get_of : List Action → ℕ → Bool
 has_get_of body t = list_any (gets t) body

@@ -1,6 +1,7 @@
--- Well-formed plans. The sizes of a pool are valid for Java's ThreadPoolExecutor with an ArrayBlockingQueue, core is at least 1, and no
--- size is above MAX_SIZE. If the pool may reject jobs, the capacity of its queue can also be 0, that of a SynchronousQueue. Names are valid
--- and unique in their list. Submits name classes, and gets name submits.
+-- Well-formed plans. The sizes of a pool are valid for Java's ThreadPoolExecutor with an ArrayBlockingQueue. Core is also at
+-- least 1, and no size is above MAX_SIZE, except the maximum of a pool without a maximum of its own (`has_no_max`). If the pool
+-- may reject jobs, the capacity of its queue can also be 0, that of a SynchronousQueue. Names are valid and unique in their
+-- list. Submits name classes, and gets name submits.
 use Rattle.std.specs.Prelude.{◌≤◌, ℕ, Bool, true, not, ◌==◌, ◌&&◌, ◌||◌, nat_lt, nat_le, if◌then◌else◌, List, [], ◌∷◌, length, map, take, slice_index, slice_get, IsTrue}
 use Rattle.std.specs.List.{list_all, list_any, enumerate_from}
 use Rattle.std.specs.Str.{bytes_eq}
@@ -20,7 +21,7 @@ is_letter b = is_within 97 122 b
 abbrev pub is_name_byte : ℕ → Bool
 is_name_byte b = is_letter b || is_within 48 57 b || b == 95
 
--- whether the name is a letter followed by letters, digits and underscores, within the limit on its length
+-- whether the name has 1 to MAX_NAME_BYTES bytes: first a letter, and then letters, digits and underscores
 abbrev pub is_valid_name : List ℕ → Bool
 is_valid_name name = is_within 1 MAX_NAME_BYTES (length name) && is_letter (slice_index name 0) && list_all is_name_byte name
 
@@ -32,28 +33,28 @@ are_distinct (x ∷ xs) = not (list_any (bytes_eq x) xs) && are_distinct xs
 abbrev pub least_queue : Pool → ℕ
 least_queue pool = if pool.may_reject then 0 else 1
 
--- whether the maximum is one for which the text of a plan gives no number, which requires that core threads may time out and that the
--- queue is unbounded
+-- whether the pool has no maximum of its own: its core threads may time out, its queue is unbounded, and its maximum is
+-- MAX_THREADS
 abbrev pub has_no_max : Pool → Bool
 has_no_max pool = pool.core_timeout && pool.unbounded && pool.max == MAX_THREADS
 
--- a bound of the maximum of a pool whose core threads may time out or not, and whose queue is unbounded or not
+-- the largest valid maximum of a pool, given whether its core threads may time out and whether its queue is unbounded
 abbrev pub largest_max : Bool → Bool → ℕ
 largest_max core_timeout unbounded = if core_timeout && unbounded then MAX_THREADS else MAX_SIZE
 
--- whether core is at least 1, max at least core, and the queue at least its least capacity, and none of them is above the limit; a pool
--- whose text gives no maximum has a greater one
+-- whether the sizes are in range: core is from 1 to MAX_SIZE, the maximum is from core to MAX_SIZE (or `has_no_max` is true),
+-- and the queue is from its least capacity to MAX_SIZE
 abbrev pub has_valid_sizes : Pool → Bool
 has_valid_sizes pool = is_within 1 MAX_SIZE pool.core && (is_within pool.core MAX_SIZE pool.max || has_no_max pool) && is_within (least_queue pool) MAX_SIZE pool.queue
 
 abbrev pub is_valid_pool : Pool → Bool
 is_valid_pool pool = is_valid_name pool.name && has_valid_sizes pool
 
--- whether a get of t at position i is valid: t is the position of an earlier submit of the body, and no earlier get names t
+-- whether a get at position i of the body may name position t: a submit is at this earlier position, and no earlier get names t
 abbrev pub is_valid_get : List Action → ℕ → ℕ → Bool
 is_valid_get body i t = nat_lt t i && submits (slice_get body t) && not (has_get_of (take i body) t)
 
--- whether an action at position i of the body is valid, in a plan with this number of classes
+-- whether an action at position i of the body is valid, in a plan with `classes` classes
 abbrev pub is_valid_action : ℕ → List Action → ℕ → Action → Bool
 is_valid_action classes body i (Work u) = is_within 1 MAX_WORK u
 is_valid_action classes body i (Submit k) = nat_lt k classes

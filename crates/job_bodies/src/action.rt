@@ -8,12 +8,12 @@ ghost use Rattle.job_bodies.specs.Plan as spec;
 pub enum Action {
     /// The actor works for this number of units, from 1 to 1,000,000.
     Work(u32),
-    /// The actor submits a job of the class with this index to the pool of this class, and
+    /// The actor submits a job of the class with this index to the pool of the class, and
     /// continues. This is what Java's `submit` does.
     Submit(usize),
-    /// The actor waits, as in Java's `Future.get`, for the job that it submitted at this position
-    /// of the same body. If the body repeats, so that the actor submitted several jobs there, it
-    /// waits for the latest one. A body has at most one get for each of its submits.
+    /// The actor waits for the job that it submitted at this position of the same body, as in
+    /// Java's `Future.get`. If the body repeats, the actor waits for the latest job that it
+    /// submitted there. A body has at most one get for each of its submits.
     Get(usize),
 }
 

@@ -13,8 +13,8 @@ use crate::limits::{MAX_CLASSES, MAX_CLIENT_KINDS, MAX_POOLS};
 use crate::{Class, Client, Part, PlanFault, Pool};
 use support::number::TOO_MANY;
 
-/// Checks that the lists of pools, classes and client kinds each have at most the number of entries
-/// that a plan may have.
+/// Checks that the lists of pools, classes and client kinds do not have more entries than a plan
+/// may have.
 pub(crate) fn check_counts(
     pools: &[Pool],
     classes: &[Class],
@@ -94,7 +94,7 @@ fn check_clients(clients: &[Client]) -> Result<(), PlanFault>
     Ok(())
 }
 
-/// Checks the names and the numbers of each pool, then of each class, then of each client kind.
+/// Checks the names and the numbers of each pool, then of each class, and then of each client kind.
 pub(crate) fn check_entries(
     pools: &[Pool],
     classes: &[Class],

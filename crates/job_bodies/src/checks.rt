@@ -29,7 +29,7 @@ pub(crate) fn check_pool(pools: &[Pool], index: usize) -> Result<(), PlanFault>
 }
 
 /// Checks the class at this index. Its name must be valid, and no earlier class may have the same
-/// name. The number of its pool must be below `pools`, the number of the plan's pools.
+/// name. The index of its pool must be below `pools`, the number of the plan's pools.
 pub(crate) fn check_class(pools: usize, classes: &[Class], index: usize) -> Result<(), PlanFault>
     requires { index < length classes.now }
     ensures { let names = map (λ class. class.name) classes.now in
@@ -54,8 +54,8 @@ pub(crate) fn check_client(clients: &[Client], index: usize) -> Result<(), PlanF
     ensure(valid, PlanFault::at_entry(Part::Client, index, BAD_NUMBER))
 }
 
-/// Checks that the body has at most [`MAX_ACTIONS`] actions. If it has more, the fault names the
-/// entry to which the body belongs: the entry at `index` in the list for `part`.
+/// Checks that the body has at most [`MAX_ACTIONS`] actions. A fault names the entry with this
+/// body, which is at `index` in the list for `part`.
 pub(crate) fn check_length(part: Part, index: usize, body: &[Action]) -> Result<(), PlanFault>
     ensures { result ≡ check_length part index body.now }
 {
@@ -63,9 +63,10 @@ pub(crate) fn check_length(part: Part, index: usize, body: &[Action]) -> Result<
     ensure(short, PlanFault::at_entry(part, index, TOO_MANY))
 }
 
-/// Returns true if at least one of these actions is a get of the submit at position `submit`. `got`
-/// is a table of these actions. Its element at a position is true if one of the actions is a get of
-/// the submit at this position.
+/// Returns true if at least one of these actions is a get of the submit at position `submit`.
+///
+/// `got` must be the table of these actions: its element at each position is true if one of the
+/// actions is a get of the submit at this position.
 fn has_get_in_table(actions: &[Action], got: &[bool; MAX_ACTIONS], submit: usize) -> bool
     requires { IsTableOf actions.now got.now }
     ensures { result ≡ has_get_of actions.now submit }
@@ -77,7 +78,7 @@ fn has_get_in_table(actions: &[Action], got: &[bool; MAX_ACTIONS], submit: usize
 }
 
 /// Adds an action to the table `got`. If the action is a get, sets the element at the position of
-/// the submit that it names to true.
+/// its submit to true.
 fn add_to_table(got: &mut [bool; MAX_ACTIONS], action: Action)
     ensures { (actions : List Action)
         → IsTableOf actions got.old
@@ -90,8 +91,9 @@ fn add_to_table(got: &mut [bool; MAX_ACTIONS], action: Action)
     }
 }
 
-/// Returns true if a get at `position` of the body may name `submit`: a submit is at the earlier
-/// position `submit`, and no earlier get names this submit.
+/// Returns true if a get at `position` of the body may name the position `submit`. There must be a
+/// submit at this earlier position, and no earlier get may name it. `got` is the table of the
+/// actions before `position`.
 fn is_valid_get(body: &[Action], got: &[bool; MAX_ACTIONS], position: usize, submit: usize) -> bool
     requires position { position < length body.now }
     requires table { IsTableOf (take position body.now) got.now }
@@ -106,8 +108,7 @@ fn is_valid_get(body: &[Action], got: &[bool; MAX_ACTIONS], position: usize, sub
 ///
 /// - `classes` is the number of the plan's classes.
 /// - `got` is the table of the actions before `position`.
-/// - `part` and `index` say where the entry with this body is: in the list for `part`, at `index`.
-///   A fault names this entry.
+/// - A fault names the entry with this body, which is at `index` in the list for `part`.
 fn check_action(
     classes: usize,
     part: Part,
@@ -132,8 +133,7 @@ fn check_action(
 /// Checks each action of the body, in order.
 ///
 /// - `classes` is the number of the plan's classes.
-/// - A fault names the entry to which the body belongs: the entry at `index` in the list for
-///   `part`.
+/// - A fault names the entry with this body, which is at `index` in the list for `part`.
 #[tactic(auto, using(crate::proofs::Loops::check_each_turn))]
 pub(crate) fn check_body(
     classes: usize,

@@ -4,7 +4,7 @@ ghost use Rattle.std.specs.Prelude.{◌≡◌};
 ghost use Rattle.support.specs.Reading.{ensure};
 ghost use Rattle.job_bodies.specs.Checks.{at_text, at_entry, at_action};
 
-/// The part of a plan that has a fault.
+/// The part of a plan to which a fault belongs.
 #[derive(Clone, Copy, Debug, PartialEq, Eq)]
 pub enum Part {
     /// The text, or the plan as a whole.
@@ -15,10 +15,10 @@ pub enum Part {
     Client,
 }
 
-/// A fault of a plan: the number of the fault, and the entry and the action that have it.
+/// A fault of a plan: its number, the entry that has it, and the action that has it.
 #[derive(Clone, Copy, Debug, PartialEq, Eq)]
 pub struct PlanFault {
-    /// The number of the fault, which is 1 to 13, or 20 if memory ran out.
+    /// The number of the fault, as in `support::number`: 1 to 13, or 20 if memory ran out.
     pub number: u8,
     /// The part of the plan that has the fault.
     pub part: Part,

@@ -2,7 +2,7 @@
 
 ghost use Rattle.job_bodies.specs.Limits.{PlanLimitsAreStated, TextLimitsAreStated, RunLimitsAreStated};
 
-/// States that each limit of plans, certificates, texts, searches and runs has its documented
+/// Proves that each limit of plans, certificates, texts, searches and runs has its documented
 /// value.
 pub fn limits_are_stated()
     ensures plans { PlanLimitsAreStated }

@@ -1,6 +1,8 @@
 //! The limits of plans, certificates, texts, searches and runs. Parsers, checks and messages share
-//! them. A witness is a list of events after which a plan refuses a job or has jobs that wait only
-//! for each other. A run executes a plan on real threads.
+//! them.
+//!
+//! A *witness* is a list of events after which a plan refuses a job, or after which some jobs wait
+//! only for each other. A *run* executes a plan on real threads.
 
 ghost use Rattle.std.specs.Prelude.{◌≡◌};
 ghost use Rattle.job_bodies.specs.WellFormed.{is_within};
@@ -13,12 +15,12 @@ pub const MAX_CLASSES: usize = 256;
 pub const MAX_CLIENT_KINDS: usize = 256;
 /// The maximum number of actions of a body. The minimum is 0.
 pub const MAX_ACTIONS: usize = 256;
-/// The maximum of each size of a pool (core, maximum and queue capacity) and of the count of a
-/// client kind. The minimum is 1. For the queue of a pool that may reject jobs, the minimum is 0.
+/// The maximum of each size of a pool (core, maximum and queue capacity), and of the count of a
+/// client kind. The minimum is 1, or 0 for the queue capacity of a pool that may reject jobs.
 pub const MAX_SIZE: u64 = 1_000_000;
-/// The maximum of a pool whose core threads may time out and whose queue is unbounded, if the plan
-/// gives no maximum: 2^28 - 1. No system has room for that many threads. Java's `ThreadPoolExecutor`
-/// packs the number of its threads in 29 bits.
+/// The maximum of a pool for which the plan gives no maximum: 2^28 - 1. The queue of such a pool is
+/// unbounded, and its core threads may time out. No system has room for that many threads. Java's
+/// `ThreadPoolExecutor` allows them: it packs the number of its threads in 29 bits.
 pub const MAX_THREADS: u64 = 268_435_455;
 /// The maximum number of units of a `Work` action. The minimum is 1.
 pub const MAX_WORK: u64 = 1_000_000;
@@ -36,15 +38,15 @@ pub const MAX_CERT_BYTES: usize = 1_048_576;
 /// The maximum size of the event lines of a replay, in bytes.
 pub const MAX_EVENT_BYTES: usize = 1_048_576;
 /// The maximum size of a whole input, in bytes. An input has a plan, a separator line, and event
-/// lines or a certificate. The program reads at most one byte more, which shows that an input is
-/// too long.
+/// lines or a certificate. The program reads at most one byte more, to detect an input that is too
+/// long.
 pub const MAX_INPUT_BYTES: usize = 2_097_155;
 /// The maximum size of a whole input that contains a recording, in bytes.
 pub const MAX_RECORDED_BYTES: usize = 268_435_456;
 /// The maximum of each number in event lines and in lines of recordings. The minimum is 0.
 pub const MAX_LINE_NUMBER: usize = 1_000_000_000;
-/// The maximum number of rounds in a recording, which are numbered from 0 to [`MAX_LINE_NUMBER`]. A
-/// round is one pass of a client through its body.
+/// The maximum number of rounds in a recording. A round is one pass of a client through its body.
+/// Rounds are numbered from 0 to [`MAX_LINE_NUMBER`].
 pub const MAX_RECORDED_ROUNDS: u64 = 1_000_000_001;
 
 /// The maximum number of threads of a search or a check. The minimum is 1.
@@ -56,8 +58,8 @@ pub const MAX_STATES: u64 = 10_000_000;
 /// The default number of states that a search for a witness may visit.
 pub const DEFAULT_STATES: u64 = 100_000;
 
-/// The maximum number of rounds of each repeating client in a run, where a round is one pass
-/// through its body. The minimum is 1.
+/// The maximum number of rounds of each repeating client in a run. A round is one pass of the
+/// client through its body. The minimum is 1.
 pub const MAX_ROUNDS: u64 = 1_000_000;
 /// The maximum number of clients of a run.
 pub const MAX_RUN_CLIENTS: u64 = 64;

@@ -30,8 +30,8 @@ fn are_name_bytes(bytes: &[u8]) -> bool
     bytes.iter().all(|byte| is_name_byte(*byte))
 }
 
-/// Returns true if the text is a valid name. A valid name has at most 32 bytes. The first byte is
-/// one of `a` to `z`, and each other byte is one of `a` to `z`, `0` to `9` and `_`.
+/// Returns true if the text is a valid name. A valid name has 1 to 32 bytes. The first byte is one
+/// of `a` to `z`, and each other byte is one of `a` to `z`, `0` to `9` and `_`.
 pub fn is_valid_name(name: &str) -> bool
     ensures { result ≡ is_valid_name name.now }
 {
@@ -79,8 +79,8 @@ fn has_name<T: Named>(entries: &[T], name: &str) -> bool
     entries.iter().any(|entry| name == entry.name())
 }
 
-/// Checks that `name`, which is the name of the entry at `index`, is valid. Also checks that no
-/// earlier entry has the same name.
+/// Checks `name`, the name of the entry at `index` in the list for `part`. The name must be valid,
+/// and no earlier entry may have the same name.
 #[tactic(auto, using(crate::proofs::Loops::list_any_of_names))]
 pub(crate) fn check_name<T: Named>(
     entries: &[T],

@@ -11,14 +11,17 @@ use crate::{Action, PlanFault};
 use std::alloc::Global;
 use std::marker::Model;
 
-/// A pool of threads with a queue. It is like Java's `ThreadPoolExecutor` with an
-/// `ArrayBlockingQueue` or a `LinkedBlockingQueue` and the default handler, `AbortPolicy`.
+/// A pool of threads with a queue, like Java's `ThreadPoolExecutor` with the default handler,
+/// `AbortPolicy`. The queue is like an `ArrayBlockingQueue` or a `LinkedBlockingQueue`.
 /// `PoolState::offer` of `pool_machine` defines what the pool does with a submitted job.
 ///
-/// The ranges of the sizes are those of the constructor in the Javadoc (a maximum of at least 1 and
-/// of at least core, a capacity of at least 1), with two restrictions: core is at least 1, and no
-/// size is above [`MAX_SIZE`], except the maximum of a pool that has none ([`MAX_THREADS`]). If `may_reject` is true, the capacity can also be 0, that of a
-/// `SynchronousQueue`.
+/// The sizes have the ranges of the constructor in the Javadoc: the maximum is at least 1 and at
+/// least core, and the capacity is at least 1. There are these differences:
+///
+/// - Core is at least 1.
+/// - No size is above [`MAX_SIZE`], with one exception. The maximum of a pool [without a maximum of
+///   its own](Pool::has_no_max) is [`MAX_THREADS`].
+/// - If `may_reject` is true, the capacity can also be 0, that of a `SynchronousQueue`.
 #[derive(Debug, Drop)]
 pub struct Pool {
     /// The name of the pool, as plans and answers show it.
@@ -27,10 +30,10 @@ pub struct Pool {
     /// submitted job starts one. The core threads never end, unless `core_timeout` is true.
     pub core: u64,
     /// The maximum pool size in threads: from `core` to 1,000,000, or [`MAX_THREADS`] if the pool
-    /// has no maximum.
+    /// [has no maximum of its own](Pool::has_no_max).
     pub max: u64,
     /// The capacity of the queue in jobs, from 1 to 1,000,000. If `may_reject` is true, the
-    /// capacity can also be 0, which stands for a `SynchronousQueue`.
+    /// capacity can also be 0, that of a `SynchronousQueue`.
     pub queue: u64,
     /// Whether all core threads are started before the first job is submitted, as by Java's
     /// `prestartAllCoreThreads`. The first jobs then wait in the queue until idle threads take
@@ -40,19 +43,24 @@ pub struct Pool {
     /// exception of `AbortPolicy`, or the pool may have another handler, such as
     /// `CallerRunsPolicy`.
     ///
-    /// If the pool rejects a job, the actor continues as if its body had neither the submit nor its
-    /// get. If `may_reject` is false, no submit to the pool should ever be refused.
+    /// If the pool rejects a job, the actor that submits it continues as if its body had neither
+    /// this submit nor the get of this submit. If `may_reject` is false, no submit to the pool
+    /// should ever be refused.
     pub may_reject: bool,
-    /// Whether the queue is unbounded, as a `LinkedBlockingQueue` without a capacity. The pool then
-    /// refuses no job, so `queue` has no effect on what it does. Unless core threads may time out, it
-    /// also starts no thread above core, and `max` has no effect. In a plan that is read from a text,
-    /// `max` is then `core`, because the totals of a certificate count `max` threads, and `queue` is
-    /// 1,000,000.
+    /// Whether the queue is unbounded, like a `LinkedBlockingQueue` without a capacity. The pool
+    /// then refuses no job, and `queue` has no effect on what it does. Unless core threads may time
+    /// out, the pool also starts no thread above core, and `max` has no effect.
+    ///
+    /// A plan that is read from a text has fixed values for sizes without an effect. For `queue`,
+    /// this is 1,000,000. For `max`, it is `core`, because the totals of a certificate count `max`
+    /// threads.
     pub unbounded: bool,
-    /// Whether core threads may time out, as after `allowCoreThreadTimeOut(true)`. An idle thread
-    /// can then end unless it is the last one and jobs are queued. So a pool with a queued job may
-    /// have one thread only. Java replaces a thread that ended while jobs are queued, and so may
-    /// start threads above core even over an unbounded queue.
+    /// Whether core threads may time out, as after Java's `allowCoreThreadTimeOut(true)`. An idle
+    /// thread can then end, unless it is the last thread and jobs are queued. So a pool with a
+    /// queued job may have only one thread.
+    ///
+    /// If a thread ends while jobs are queued, Java replaces it. So a pool can have threads above
+    /// core even if its queue is unbounded.
     pub core_timeout: bool,
 }
 
@@ -63,9 +71,11 @@ impl Model for Pool {
 }
 
 impl Pool {
-    /// Returns whether the sizes are in range: core is at least 1, the maximum at least core, the
-    /// queue at least [`least_queue`](Pool::least_queue), and none of them above 1,000,000. The
-    /// maximum can also be that of a pool that [has none](Pool::has_no_max).
+    /// Returns whether the sizes are in range:
+    ///
+    /// - Core is from 1 to 1,000,000.
+    /// - The maximum is from core to 1,000,000, or the pool [has no maximum](Pool::has_no_max).
+    /// - The queue is from its [least capacity](Pool::least_queue) to 1,000,000.
     pub fn has_valid_sizes(&self) -> bool
         ensures { result ≡ has_valid_sizes self.now }
     {
@@ -74,8 +84,8 @@ impl Pool {
             && is_within(self.least_queue(), MAX_SIZE, self.queue)
     }
 
-    /// Returns whether the pool has no maximum of its own: its core threads may time out, its queue
-    /// is unbounded, and its maximum is [`MAX_THREADS`].
+    /// Returns whether the pool has no maximum of its own. This means that its core threads may
+    /// time out, its queue is unbounded, and its maximum is [`MAX_THREADS`].
     pub fn has_no_max(&self) -> bool
         ensures { result ≡ has_no_max self.now }
     {
@@ -89,16 +99,16 @@ impl Pool {
         if self.may_reject { 0 } else { 1 }
     }
 
-    /// Returns the number of threads that the pool has at least while a job is in its queue: core,
-    /// or 1 if its core threads may time out.
+    /// Returns the least number of threads that the pool has while a job is in its queue: core, or
+    /// 1 if core threads may time out.
     pub fn least_threads(&self) -> u64
         ensures { result ≡ spec.least_threads self.now }
     {
         if self.core_timeout { 1 } else { self.core }
     }
 
-    /// Returns whether a certificate needs no bound of the pool's queue: the pool may reject jobs,
-    /// or its queue is unbounded.
+    /// Returns whether a certificate needs no vector that bounds the pool's queue. This is so if
+    /// the pool may reject jobs or its queue is unbounded.
     pub fn needs_no_bound(&self) -> bool
         ensures { result ≡ spec.needs_no_bound self.now }
     {
@@ -178,18 +188,19 @@ impl Plan {
     ///
     /// # Errors
     ///
-    /// Returns the first fault, with the entry and, if an action has the fault, the action. The
-    /// lists are checked for these faults, in this order:
+    /// Returns the first fault of the lists, with the entry that has it and, if an action has it,
+    /// the action. The checks run in this order:
     ///
-    /// 1. Fault 2 of the text: a list of pools, classes or client kinds has too many entries.
-    /// 2. Fault 2 of a class, then of a client kind: its body has too many actions.
-    /// 3. For each pool, then each class, then each client kind: fault 6 if its name is invalid,
-    ///    and fault 7 if an earlier entry of the list has the same name. Then fault 8 if a size of
-    ///    a pool is out of range, fault 9 if the pool of a class does not exist, and fault 8 if the
-    ///    count of a client kind is out of range.
-    /// 4. For each action of each class, then of each client kind: fault 8 if a number of units of
-    ///    work is out of range, and fault 10 if a submit names a class that does not exist. Fault
-    ///    13 if a get does not name an earlier submit, or names a submit that an earlier get names.
+    /// 1. Fault 2 of the text, if a list of pools, classes or client kinds has too many entries.
+    /// 2. Fault 2 of a class, and then of a client kind, if its body has too many actions.
+    /// 3. Faults of each pool, then of each class, then of each client kind. Fault 6 if its name is
+    ///    invalid, and fault 7 if an earlier entry of the list has the same name. Fault 8 if a size
+    ///    of the pool or the count of the client kind is out of range, and fault 9 if the pool of
+    ///    the class does not exist.
+    /// 4. Faults of each action of each class, and then of each client kind. Fault 8 if a number of
+    ///    units of work is out of range, and fault 10 if a submit names a class that does not
+    ///    exist. Fault 13 if a get does not name an earlier submit, or names the same submit as an
+    ///    earlier get.
     pub fn build(
         _alloc: Global,
         pools: Vec<Pool>,

@@ -1,5 +1,5 @@
--- The checks of names and numbers: each name must be valid and unique in its list, each number must be in range, and the pool of each class
--- must exist.
+-- The checks of names and numbers. Each name must be valid and unique in its list, each number must be in range, and the pool
+-- of each class must exist.
 use Rattle.std.specs.Prelude.{ℕ, List, [], length, map, take, Result, Ok}
 use Rattle.std.specs.List.{position_or_len}
 use Rattle.std.specs.Str.{bytes_eq}
@@ -20,26 +20,27 @@ client_names clients = map (λ client. client.name) clients
 abbrev pub place_of : List (List ℕ) → List ℕ → ℕ
 place_of names name = position_or_len (λ known. bytes_eq name known) names
 
--- a class with the index of its pool, without its body
+-- the class of an entry, with the index of its pool, and with an empty body in place of its own
 abbrev pub class_head : List (List ℕ) → ClassEntry → Class
 class_head pools class = record { name = class.name; pool = place_of pools class.pool; body = [] }
 
--- a client kind without its body
+-- the client kind of an entry, with an empty body in place of its own
 abbrev pub client_head : ClientEntry → Client
 client_head client = record { name = client.name; count = client.count; repeat = client.repeat; body = [] }
 
--- the names of the pools, if all names and sizes are valid; otherwise the first fault
+-- the names of the pools, if all names are valid and distinct and all sizes are valid; otherwise the first fault
 unfoldable pub check_pools : List Pool → Result (List (List ℕ)) PlanFault
 check_pools pools =
     check_each (λ index. check_pool (take index (map (λ pool. pool.name) pools)) index) 0 pools >>= λ _.
     Ok (map (λ pool. pool.name) pools)
 
--- the names of the classes, if all names are valid and each class belongs to a pool with one of these names; otherwise the first fault
+-- the names of the classes, if all names are valid and distinct and the pool of each class is one of `pools`; otherwise the
+-- first fault
 unfoldable pub check_classes : List (List ℕ) → List ClassEntry → Result (List (List ℕ)) PlanFault
 check_classes pools classes =
     check_each (λ index class. check_class (length pools) (take index (class_names classes)) index (class_head pools class)) 0 classes >>= λ _.
     Ok (class_names classes)
 
--- Ok if all names and counts of the client kinds are valid; otherwise the first fault
+-- Ok if all names of the client kinds are valid and distinct and all counts are valid; otherwise the first fault
 unfoldable pub check_clients : List ClientEntry → Result (Unit {0}) PlanFault
 check_clients clients = check_each (λ index client. check_client (take index (client_names clients)) index (client_head client)) 0 clients

@@ -1,4 +1,4 @@
--- The TOML document of a plan: its size, its encoding, and its top-level keys.
+-- The parsing of a plan's bytes as a TOML document, with checks of their number, their encoding and the top-level keys.
 use Rattle.std.specs.Prelude.{ℕ, Bool, true, ◌&&◌, nat_le, List, [], ◌∷◌, length, codes, Option, None, Some, option_map, Result, Ok}
 use Rattle.std.specs.List.{list_any}
 use Rattle.std.specs.Str.{bytes_eq, is_utf8}
@@ -10,7 +10,7 @@ use Rattle.support.specs.declared.number.TheConstants.{NOT_TOML, TOO_MANY, UNKNO
 use Rattle.job_bodies.specs.Checks.{at_text}
 use Rattle.job_bodies.specs.declared.limits.TheConstants.{MAX_PLAN_BYTES}
 
--- whether every key of the table is one of these
+-- whether every key of the table is one of `keys`
 abbrev pub has_only : List (List ℕ) → Members → Bool
 has_only keys no_members = true
 has_only keys (member key value rest) = list_any (λ known. bytes_eq known key) keys && has_only keys rest
@@ -32,8 +32,8 @@ text_of bytes = ensure (is_utf8 bytes) (at_text NOT_TOML) >>= λ _. Ok bytes
 abbrev pub table_of : List ℕ → Result Members PlanFault
 table_of text = ok_or (parse_document text) (at_text NOT_TOML)
 
--- the TOML table of the bytes; a fault if there are more bytes than a plan may have, if they are not UTF-8 or not TOML, or if the table has
--- a key that no plan has
+-- the TOML table of the bytes, or their first fault: too many bytes, not UTF-8, not TOML, or a top-level key that is none of
+-- `pool`, `class` and `client`
 unfoldable pub document_of : List ℕ → Result Members PlanFault
 document_of bytes =
     ensure (nat_le (length bytes) MAX_PLAN_BYTES) (at_text TOO_MANY) >>= λ _.

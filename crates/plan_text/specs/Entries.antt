@@ -1,4 +1,5 @@
--- The shape of the entries in the text of a plan: each required key must be present, and each value must have the type of its key.
+-- The shape of the entries in the text of a plan. Each required key must be present, and each value must have the type of its
+-- key.
 use Rattle.std.specs.Prelude.{◌≡◌, ℕ, Bool, true, nat_le, List, [], ◌∷◌, length, slice_get, codes, Some, Result, Ok}
 use Rattle.toml.specs.Data.{Data, Members}
 use Rattle.support.specs.Reading.{◌>>=◌, read_each}
@@ -29,7 +30,7 @@ pub record Entries : Type 0 where
   pub classes : List ClassEntry
   pub clients : List ClientEntry
 
--- no list of the entries and no body is longer than its limit
+-- no list of entries and no body is longer than its limit
 pub record AreWithinLimits (entries : Entries) : Type 0 where
   pub few_pools : nat_le (length entries.pools) MAX_POOLS ≡ true
   pub few_classes : nat_le (length entries.classes) MAX_CLASSES ≡ true

@@ -12,26 +12,26 @@ use Rattle.job_bodies.specs.Checks.{at_entry, at_action}
 use Rattle.plan_text.specs.declared.entry.Entry as read
 use Rattle.plan_text.specs.Document.{has_only, as_list}
 
--- the table of one entry, with the list that has the entry and the index of the entry in this list
+-- the table of one entry; the entry is at `index` in the list for `part`
 pub record Entry : Type 0 where
   pub table : Members
   pub part : Part
   pub index : ℕ
 
--- an entry of the code as the specifications see it, with its table as members
+-- an `Entry` of the code as a value of the specifications, with its table as TOML members
 abbrev pub entry_view : read.Entry → Entry
 entry_view entry = record { table = table_view entry.table.now; part = entry.part; index = entry.index }
 
--- the fault with this number, of the entry
+-- the fault of this entry with this number
 abbrev pub fault_at : Entry → ℕ → PlanFault
 fault_at entry number = at_entry entry.part entry.index number
 
--- an integer as a count; a negative integer becomes a number that is out of range for every number of a plan
+-- an integer as a count; a negative integer becomes a count that is out of range for every key of a plan
 abbrev pub count_of : ℤ → ℕ
 count_of (pos n) = n
 count_of (negsuc n) = MAX_SIZE + 1
 
--- the value as an entry; a fault if it is not a table, or has a key that is not one of these
+-- the entry whose table is `value`; a fault if `value` is not a table, or if the table has a key that is not one of `keys`
 unfoldable pub entry_of : Part → ℕ → List (List ℕ) → Data → Result Entry PlanFault
 entry_of part index keys value =
     ok_or (as_table value) (at_entry part index WRONG_TYPE) >>= λ table.
@@ -53,15 +53,15 @@ number_at entry key =
     ok_or (as_integer value) (fault_at entry WRONG_TYPE) >>= λ number.
     Ok (count_of number)
 
--- the size in a value, given the value as an integer and as a string, if it is one: an integer as a count, or None for the string
--- `unbounded`; a fault for any other value
+-- the size that a value states: an integer as a count, or None for the string `unbounded`; a fault for any other value. The
+-- arguments are the value as an integer and the value as a string. Each of them is None if the value has another type.
 abbrev pub size_of : Entry → Option ℤ → Option (List ℕ) → Result (Option ℕ) PlanFault
 size_of entry (Some number) text = Ok (Some (count_of number))
 size_of entry None (Some text) = ensure (bytes_eq text (codes "unbounded")) (fault_at entry WRONG_TYPE) >>= λ _. Ok None
 size_of entry None None = Err (fault_at entry WRONG_TYPE)
 
--- the size at this key: the integer as a count, or None if the value is the string `unbounded`; a fault if the key is absent or the value
--- is neither
+-- the size at this key: an integer as a count, or None for the string `unbounded`; a fault if the key is absent or has another
+-- value
 unfoldable pub size_at : Entry → List ℕ → Result (Option ℕ) PlanFault
 size_at entry key = value_at entry key >>= λ value. size_of entry (as_integer value) (as_str value)
 
@@ -78,8 +78,8 @@ flag_at entry key = flag_of entry (get_member key entry.table)
 abbrev pub action_text : Part → ℕ → ℕ → Data → Result (List ℕ) PlanFault
 action_text part index action value = ok_or (as_str value) (at_action part index action WRONG_TYPE)
 
--- the strings in the array at this key; a fault if the key is absent, if the array is longer than a body may be, or if a value has another
--- type
+-- the strings in the array at this key; a fault if the key is absent, its value is not an array, the array is longer than a
+-- body may be, or an element is not a string
 unfoldable pub texts_at : Entry → List ℕ → Result (List (List ℕ)) PlanFault
 texts_at entry key =
     value_at entry key >>= λ value.

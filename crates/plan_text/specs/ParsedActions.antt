@@ -15,7 +15,7 @@ pub data ParsedAction : Type 0 where
   submit_as : List ℕ → List ℕ → ParsedAction
   get : List ℕ → ParsedAction
 
--- a parsed action of the code as the specifications see it
+-- a `ParsedAction` of the code as a value of the specifications
 abbrev pub parsed_action_view : read.ParsedAction → ParsedAction
 parsed_action_view (Work units) = work units
 parsed_action_view (Submit class) = submit class.now
@@ -47,17 +47,19 @@ are_digits bytes = list_all is_digit bytes
 abbrev pub is_positive_decimal : List ℕ → Bool
 is_positive_decimal digits = not (length digits == 0) && not (slice_index digits 0 == 48) && are_digits digits
 
--- the number of units of an action `work` with this text: a decimal number from 1 to the limit
+-- the number of units for the text after the verb `work`: a decimal number from 1 to MAX_WORK; None for any other text
 unfoldable pub parse_units : List ℕ → Option ℕ
 parse_units text = if is_positive_decimal text && is_within 1 MAX_WORK (digits_value 10 text) then Some (digits_value 10 text) else None
 
--- the submit of this class that fills slot SLOT, if the text after the class is `as SLOT`; otherwise None
+-- the action `submit CLASS as SLOT`, given CLASS and the text after it; None if this text is not `as SLOT`, or if one of the
+-- names is not valid
 unfoldable pub parse_submit_as : List ℕ → List ℕ → Option ParsedAction
 parse_submit_as class text =
     split_space text >>? λ words.
     if bytes_eq words.0 (codes "as") then (name_of class >>? λ class. name_of words.1 >>? λ slot. Some (submit_as class slot)) else None
 
--- the submit that has this text after the verb; the second argument is the same text, split at its first space
+-- the submit for the text after the verb, such as `query` or `query as q`; the second argument is this text split at its first
+-- space
 abbrev pub submit_parts : List ℕ → Option (List ℕ × List ℕ) → Option ParsedAction
 submit_parts text None = name_of text >>? λ class. Some (submit class)
 submit_parts text (Some words) = parse_submit_as words.0 words.1
@@ -65,7 +67,7 @@ submit_parts text (Some words) = parse_submit_as words.0 words.1
 unfoldable pub parse_submit : List ℕ → Option ParsedAction
 parse_submit text = submit_parts text (split_space text)
 
--- the action with this verb and this text after the verb; None if there is no such action
+-- the action for a verb, such as `submit`, and the text after it; None if there is no such action
 unfoldable pub parse_action_of_verb : List ℕ → List ℕ → Option ParsedAction
 parse_action_of_verb verb text =
     if bytes_eq verb (codes "work") then (parse_units text >>? λ units. Some (work units))
@@ -73,11 +75,11 @@ parse_action_of_verb verb text =
     else if bytes_eq verb (codes "get") then (name_of text >>? λ slot. Some (get slot))
     else None
 
--- the action with this text; None if the text is not one of the four forms
+-- the action with this text; None if the text has none of the four forms, or if a name or a number in it is not valid
 unfoldable pub parse_action : List ℕ → Option ParsedAction
 parse_action text = split_space text >>? λ words. parse_action_of_verb words.0 words.1
 
--- ---- the spelling of a parsed action
+-- the spelling of a parsed action, such as `submit query as q`
 abbrev pub spelling : ParsedAction → List ℕ
 spelling (work units) = codes "work " ++ decimal units
 spelling (submit class) = codes "submit " ++ class

@@ -1,4 +1,5 @@
--- The document of a plan: a table with the arrays of pools, of classes and of client kinds. The keys of each table are in ascending order.
+-- The document of a plan: a table with the arrays of pools, of classes and of client kinds. The keys of each table are in
+-- ascending order.
 use Rattle.std.specs.Prelude.{ℕ, pos, Bool, true, false, if◌then◌else◌, List, map, codes}
 use Rattle.std.specs.Ordering.{nat_cmp, match_ordering}
 use Rattle.std.specs.Cmp.Lexicographic.{slice_cmp}
@@ -9,7 +10,7 @@ use Rattle.job_bodies.specs.Plan.{Pool, Class, Client, Plan, pool_names}
 use Rattle.job_bodies.specs.WellFormed.{has_no_max}
 use Rattle.plan_text.specs.Spelling.{name_at, body_texts}
 
--- an integer of a document
+-- a natural number as a TOML integer
 abbrev pub number_data : ℕ → Data
 number_data number = integer (pos number)
 
@@ -19,11 +20,11 @@ list_data values = array (items_of values)
 abbrev pub texts_data : List (List ℕ) → Data
 texts_data texts = list_data (map string texts)
 
--- the members `rest`, with the key set to `true` before them if the flag is set
+-- the members `rest`; if the flag is set, the member `key = true` is prepended
 abbrev pub flag_and : List ℕ → Bool → Members → Members
 flag_and key flag rest = if flag then member key (boolean true) rest else rest
 
--- a size: the string `unbounded`, or the number
+-- a size as a TOML value: the string `unbounded` if `unbounded` is true, and otherwise the number
 abbrev pub size_data : Bool → ℕ → Data
 size_data unbounded number = if unbounded then string (codes "unbounded") else number_data number
 
@@ -60,11 +61,12 @@ plan_document plan =
     (member (codes "client") (list_data (map (client_data classes) plan.clients))
     (member (codes "pool") (list_data (map pool_data plan.pools)) no_members))
 
--- the text is TOML, and its document is that of the plan
+-- the text is TOML, and its document is the document of the plan
 abbrev pub IsPlanText : Plan → List ℕ → Type 0
 IsPlanText plan text = IsDocumentText false (plan_document plan) text
 
--- the members with this key set to this value: an earlier value is replaced, and a new key is inserted before the first greater one
+-- the members after `value` is stored at `key`. An earlier value of the key is replaced. A new key is inserted before the first
+-- greater key.
 abbrev pub with_member : List ℕ → Data → Members → Members
 with_member key value no_members = member key value no_members
 with_member key value (member first there rest) =

@@ -1,4 +1,4 @@
--- The plan of a text. The steps are the document, the shapes of the entries, the names and numbers, and the bodies.
+-- The plan of a text. It is read in four steps: the document, the shapes of the entries, the names and numbers, and the bodies.
 use Rattle.std.specs.Prelude.{ℕ, List, Result, Ok}
 use Rattle.support.specs.Reading.{◌>>=◌, read_each}
 use Rattle.job_bodies.specs.declared.fault.PlanFault.{PlanFault}

@@ -1,4 +1,5 @@
--- The texts of the actions of a body. A class is written as its name. The slot of a submit is named after the position of the submit.
+-- The texts of the actions of a body. A class is written as its name. The slot of a submit is named after the position of the
+-- submit.
 use Rattle.std.specs.Prelude.{ℕ, if◌then◌else◌, List, [], ◌++◌, map, codes, slice_index_or, decimal}
 use Rattle.std.specs.List.{enumerate_from}
 use Rattle.job_bodies.specs.declared.action.Action.{Action}
@@ -13,7 +14,7 @@ name_at names place = slice_index_or names place []
 abbrev pub slot_name : ℕ → List ℕ
 slot_name position = codes "s" ++ decimal position
 
--- the end of the text of a submit: ` as SLOT` if a get of the body names the submit, and otherwise nothing
+-- the end of the text of the submit at this position: ` as SLOT` if a get of the body names the submit, and otherwise nothing
 abbrev pub slot_part : List Action → ℕ → List ℕ
 slot_part body position = if has_get_of body position then codes " as " ++ slot_name position else []
 

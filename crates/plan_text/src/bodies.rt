@@ -1,6 +1,7 @@
-//! Parsing of bodies, action by action. The parsers replace class names by class indices. A *slot*
-//! is the name under which a body submits a job and gets it later. The parsers replace the slot of
-//! a get by the position of the submit that filled the slot.
+//! Parsing of bodies, action by action. A *slot* is a name that a body gives to a submitted job, to
+//! get the job later: `submit CLASS as SLOT` fills the slot, and `get SLOT` empties it. The parsers
+//! replace each class name by the index of the class. They replace the slot of a get by the
+//! position of the submit that filled the slot.
 
 ghost use Rattle.std.specs.Prelude.{◌≡◌, List, ℕ, map, OnOk, Some};
 ghost use Rattle.support.specs.Reading as each;
@@ -21,8 +22,8 @@ use std::alloc::Global;
 use support::number::{BAD_ACTION, NO_SUCH_CLASS, SLOT_EMPTY, SLOT_OPEN};
 use support::{ReadError, read_each};
 
-/// The position of an action: the entry whose body has the action, and the index of the action in
-/// this body.
+/// The position of an action in a plan: the action at index `action` in the body of an entry. The
+/// entry is at `index` in the list for `part`.
 #[derive(Clone, Copy)]
 struct ActionPlace {
     part: Part,
@@ -173,15 +174,16 @@ fn client_of<'a>(
     })
 }
 
-/// Parses the bodies of these entries and returns the classes. Frees each entry when its class is
-/// built. `pools` and `names` are the names of the plan's pools and classes.
+/// Parses the bodies of the class entries, and returns the classes in the same order. `pools` and
+/// `names` are the names of the plan's pools and classes. Frees each entry after its class is
+/// built.
 ///
-/// Returns a fault at the first action in one of these cases:
+/// Returns a fault for the first action to which one of these cases applies:
 ///
 /// - The action is malformed.
 /// - It submits a class that does not exist.
-/// - It fills a slot that is filled.
-/// - It gets from a slot that is empty.
+/// - It fills a slot that is already filled.
+/// - It gets from an empty slot.
 pub fn classes_of<'p, 'd: 'p>(
     alloc: Global,
     pools: &Names<'p>,
@@ -199,8 +201,8 @@ pub fn classes_of<'p, 'd: 'p>(
     Ok(classes)
 }
 
-/// Parses the bodies of these entries and returns the client kinds. `names` are the names of the
-/// plan's classes. Returns a fault in the same cases as [`classes_of`].
+/// Parses the bodies of the client entries, and returns the client kinds in the same order. `names`
+/// are the names of the plan's classes. Returns a fault in the same cases as [`classes_of`].
 pub fn clients_of<'a>(
     alloc: Global,
     names: &Names<'a>,

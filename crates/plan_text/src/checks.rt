@@ -14,8 +14,8 @@ use std::alloc::Global;
 use support::ReadError;
 use support::number::{BAD_NAME, BAD_NUMBER, DOUBLE_NAME, NO_SUCH_POOL};
 
-/// Adds the name of the entry at `index` to `names`, which has the names of the earlier entries of
-/// the list. Returns a fault if the name is not valid, or if it is already in `names`.
+/// Adds the name of the entry at `index` to `names`, the list of the names of earlier entries.
+/// Returns a fault if the name is not valid, or if it is already in `names`.
 fn check_name<'a>(
     names: &mut Names<'a>,
     part: Part,

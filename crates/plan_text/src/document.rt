@@ -1,4 +1,5 @@
-//! The TOML document of a plan: its size, its encoding, and its top-level keys.
+//! The parsing of a plan's bytes as a TOML document, with checks of their number, their encoding
+//! and the top-level keys.
 
 ghost use Rattle.std.specs.Prelude.{◌≡◌, map, option_map, string_bytes};
 ghost use Rattle.std.specs.BTreeMap.{keys};

@@ -1,4 +1,5 @@
-//! The table of one entry, and the functions that read its values and check their types.
+//! The table of one entry (a pool, a class or a client kind), and the functions that read its
+//! values and check their types.
 
 ghost use Rattle.std.specs.Prelude.{◌≡◌, map};
 ghost use Rattle.toml.specs.View.{view};
@@ -15,8 +16,8 @@ use support::number::{MISSING_KEY, TOO_MANY, UNKNOWN_KEY, WRONG_TYPE};
 use support::{ReadError, read_each};
 use toml::{Table, Value};
 
-/// The table of one entry. `part` says in which list the entry is (the pools, classes or client
-/// kinds), and `index` is the index of the entry in this list.
+/// The table of one entry. The entry is at `index` in the list for `part`: the pools, the classes
+/// or the client kinds.
 #[derive(Drop)]
 pub struct Entry<'a> {
     table: &'a Table,
@@ -24,8 +25,8 @@ pub struct Entry<'a> {
     index: usize,
 }
 
-/// Converts an integer of the text to an unsigned number. A negative integer becomes a number that
-/// is out of range for every key of a plan.
+/// Converts an integer of the text to an unsigned number. A negative integer becomes
+/// `MAX_SIZE + 1`, which is out of range for every key of a plan.
 fn count_of(number: i64) -> u64
     ensures { result ≡ spec.count_of number }
 {
@@ -37,8 +38,11 @@ fn count_of(number: i64) -> u64
 }
 
 impl<'a> Entry<'a> {
-    /// Returns the value as the entry at `index` in the list for `part`. Returns a fault of this
-    /// entry if the value is not a table, or if the table has a key that is not one of these.
+    /// Returns the entry whose table is `value`. The entry is at `index` in the list for `part`.
+    /// Returns a fault of the entry in these cases:
+    ///
+    /// - The value is not a table.
+    /// - The table has a key that is not one of `keys`.
     #[tactic(auto, unfolding(crate::specs::Entry::entry_of))]
     pub fn of(
         value: &'a Value,
@@ -81,8 +85,8 @@ impl<'a> Entry<'a> {
         value.as_str().ok_or(self.refuses(WRONG_TYPE))
     }
 
-    /// Returns the integer at this key. A negative integer becomes a number that is out of range.
-    /// Returns a fault if the key is absent or the value is not an integer.
+    /// Returns the integer at this key. For a negative integer, returns a number that is out of
+    /// range for every key. Returns a fault if the key is absent or the value is not an integer.
     #[tactic(auto, unfolding(crate::specs::Entry::number_at))]
     pub fn number(&self, key: &str) -> Result<u64, TextError>
         ensures { Gives (λ number. number) result (spec.number_at (entry_view self.now) key.now) }
@@ -92,9 +96,9 @@ impl<'a> Entry<'a> {
         Ok(count_of(number))
     }
 
-    /// Returns the size at this key, which is the integer, or `None` if the value is the string
-    /// `unbounded`. A negative integer becomes a number that is out of range. Returns a fault if
-    /// the key is absent, or if the value is neither an integer nor this string.
+    /// Returns the size at this key: `Some` of the integer, or `None` for the string `unbounded`.
+    /// For a negative integer, returns a number that is out of range for every key. Returns a fault
+    /// if the key is absent, or if the value is neither an integer nor this string.
     #[tactic(auto, unfolding(crate::specs::Entry::size_at))]
     pub fn size(&self, key: &str) -> Result<Option<u64>, TextError>
         ensures { Gives (λ size. size) result (spec.size_at (entry_view self.now) key.now) }

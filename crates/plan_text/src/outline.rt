@@ -1,5 +1,6 @@
-//! The outline of a text: its tables with their keys, and the offsets of the values and of the
-//! elements of arrays. All offsets are in bytes.
+//! The outline of a text: its tables, with the offsets of their keys, of the values, and of the
+//! elements of arrays. [`Places`](crate::Places) uses it to find the parts of a plan. All offsets
+//! are in bytes.
 
 use crate::token::{Kind, Token};
 use std::alloc::{AllocError, Global};
@@ -11,9 +12,9 @@ pub(crate) struct Key {
     pub(crate) end: usize,
     /// The offset of the key's value.
     pub(crate) value: usize,
-    /// If the value is an array, the offsets of its elements. If the value is an inline table, the
-    /// offsets of its keys. If the value is empty or ends with a comma, the list ends with the
-    /// offset of the closing bracket.
+    /// The offsets of the elements of an array, or of the keys of an inline table. If the array or
+    /// inline table is empty or ends with a comma, the last offset is that of the closing bracket.
+    /// For any other value, the list is empty.
     pub(crate) elements: Vec<usize>,
 }
 
@@ -30,24 +31,25 @@ pub(crate) struct Table {
     pub(crate) keys: Vec<Key>,
 }
 
-/// The state of the outline's parser within a line.
+/// The state of the parser of an outline within a line.
 #[derive(Clone, Copy)]
 enum LineState {
     /// At the start of a line.
     Begin,
-    /// In a table header, after this number of brackets.
+    /// In a table header, after this number of opening brackets.
     Head(u8),
     /// After a key.
     Key,
-    /// In a value, inside `depth` brackets. `is_next` says whether the next token begins the value
-    /// or an element of the value.
+    /// In a value, inside `depth` open brackets. If `is_next` is true, the next token begins the
+    /// value or an element.
     Value { depth: usize, is_next: bool },
-    /// In the rest of a line that has a syntax which no plan uses.
+    /// In a part of a line that the parser skips: the end of a table header, or syntax that no plan
+    /// uses.
     Rest,
 }
 
-/// The tables in the part of the text that was processed, and the state of the parser after this
-/// part.
+/// The parser of an outline: its state, and the tables in the part of the text that it has
+/// processed.
 #[derive(Drop)]
 struct Outline {
     at: LineState,

@@ -8,8 +8,8 @@ use std::alloc::{AllocError, Global};
 /// An index of the positions of the parts of a plan in its text.
 ///
 /// Any text has an index. But the index may lack a part if the text is not TOML, or if its entries
-/// do not have the headers `[[pool]]`, `[[class]]` and `[[client]]`. The functions return `None`
-/// for such a part, and the caller then uses the position of a larger part.
+/// do not have the headers `[[pool]]`, `[[class]]` and `[[client]]`. The methods return `None` for
+/// such a part, and the caller then uses the position of a larger part.
 ///
 /// The contracts do not say at which byte a part begins. Only the contract of [`place_at`] says
 /// what the line and the column of a byte are.
@@ -31,31 +31,30 @@ impl<'a> Places<'a> {
         Ok(Places { text, tables })
     }
 
-    /// Returns the position of an entry's header, such as `[[pool]]`. `index` is the index of the
-    /// entry, counted from 0, in the list with the name `list`. Returns `None` if no such header
-    /// was found.
+    /// Returns the position of an entry's header, such as `[[pool]]`. The entry is at `index`,
+    /// counted from 0, in the list `list`. Returns `None` if no such header was found.
     pub fn entry(&self, list: &str, index: usize) -> Option<TextPlace> {
         let table = self.table(list, index)?;
         Some(place_at(self.text, table.header))
     }
 
-    /// Returns the position of the key `key` in an entry, which is at `index` in the list `list`.
-    /// Returns `None` if no such key was found.
+    /// Returns the position of the key `key` of an entry. The entry is at `index` in the list
+    /// `list`. Returns `None` if no such key was found.
     pub fn key(&self, list: &str, index: usize, key: &str) -> Option<TextPlace> {
         let key = self.key_of(self.table(list, index)?, key)?;
         Some(place_at(self.text, key.start))
     }
 
-    /// Returns the position of the value at the key `key` in an entry, which is at `index` in the
-    /// list `list`. Returns `None` if no such key was found.
+    /// Returns the position of the value of the key `key` of an entry. The entry is at `index` in
+    /// the list `list`. Returns `None` if no such key was found.
     pub fn value(&self, list: &str, index: usize, key: &str) -> Option<TextPlace> {
         let key = self.key_of(self.table(list, index)?, key)?;
         Some(place_at(self.text, key.value))
     }
 
     /// Returns the position of an element of an array, such as an action of a body. The array is
-    /// the value at the key `key` in an entry, which is at `index` in the list `list`. Elements are
-    /// counted from 0. Returns `None` if no such element was found.
+    /// the value of the key `key` of an entry, and the entry is at `index` in the list `list`.
+    /// Elements are counted from 0. Returns `None` if no such element was found.
     pub fn element(
         &self,
         list: &str,
@@ -69,7 +68,7 @@ impl<'a> Places<'a> {
     }
 
     /// Returns the position of the header of the first table with this name. If there is no such
-    /// table, returns the position of the first key with this name before the first header. Returns
+    /// table, returns the position of the first key with this name before all headers. Returns
     /// `None` if there is no such key either.
     pub fn top(&self, name: &str) -> Option<TextPlace> {
         for table in &self.tables {

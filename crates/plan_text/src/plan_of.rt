@@ -21,11 +21,14 @@ use support::number::MEMORY;
 
 /// Parses the bytes of a plan.
 ///
-/// The `max` and the `queue` of a pool are each an integer or the string `unbounded`. With
-/// `queue = "unbounded"`, the pool's queue is unbounded: in the plan, the queue is 1,000,000. Its
-/// `max` has an effect only with `core_timeout = true`: in the plan, the maximum is then `max`, or
-/// [`MAX_THREADS`] with `max = "unbounded"`, and otherwise it is core. A `max` that is a number
-/// must be in range in each case. If the queue has a capacity, `max = "unbounded"` is out of range.
+/// The `max` and the `queue` of a pool are each an integer or the string `unbounded`:
+///
+/// - If `queue` is an integer, it is the capacity of the queue, and `max` is the maximum.
+///   `max = "unbounded"` is then out of range.
+/// - If `queue = "unbounded"`, the queue is unbounded. The `queue` of the plan is then 1,000,000
+///   and has no effect. With `core_timeout = true`, the maximum is `max`, or [`MAX_THREADS`] for
+///   `max = "unbounded"`. Without it, `max` has no effect, and the maximum is core. In both cases,
+///   a `max` that is an integer must be in range.
 ///
 /// [`MAX_THREADS`]: job_bodies::MAX_THREADS
 ///

@@ -44,7 +44,8 @@ fn number_value(number: u64) -> Value
     Value::Integer(number as i64)
 }
 
-/// Returns the value of a size: the string `unbounded`, or the number.
+/// Returns a size as a TOML value: the string `unbounded` if `unbounded` is true, and otherwise the
+/// integer `number`.
 fn size_value(alloc: Global, unbounded: bool, number: u64) -> Result<Value, AllocError>
     requires { unbounded ≡ false → number ≤ MAX_SIZE }
     ensures { IfOk result (λ value. view value ≡ spec.size_data unbounded number) }

@@ -13,9 +13,11 @@ pub struct Sizes {
     pub unbounded: bool,
 }
 
-/// Returns the sizes of a pool with this core, given its `core_timeout`, its `max` and its `queue`;
-/// the last two are `None` for the text `unbounded`. If the queue has a capacity, the maximum
-/// `unbounded` becomes a number that is out of range.
+/// Returns the sizes of a pool, given the values of its keys. A `max` or a `queue` of `None` means
+/// the text `unbounded`.
+///
+/// If the queue has a capacity, a `max` of `None` becomes a number that is out of range. If the
+/// queue is unbounded, `max_over_unbounded` determines the maximum.
 pub fn sizes_of(core: u64, core_timeout: bool, max: Option<u64>, queue: Option<u64>) -> Sizes
     ensures { result ≡ spec.sizes_of core core_timeout max queue }
 {
@@ -33,10 +35,13 @@ pub fn sizes_of(core: u64, core_timeout: bool, max: Option<u64>, queue: Option<u
     }
 }
 
-/// Returns the maximum of a pool with this core and an unbounded queue, given its `core_timeout`
-/// and its `max`, which is `None` for the text `unbounded`. The maximum has an effect only if core
-/// threads may time out, and is core otherwise. But a number that is out of range becomes one that
-/// is out of range in every pool, so that it is a fault as in any other pool.
+/// Returns the maximum of a pool with an unbounded queue. A `max` of `None` means the text
+/// `unbounded`. The first of these rules that applies gives the result:
+///
+/// 1. If `max` is a number that is not from core to [`MAX_SIZE`], the result is `MAX_SIZE + 1`. The
+///    check of the sizes then reports a fault, as for any other pool.
+/// 2. If core threads may time out, the result is `max`, or [`MAX_THREADS`] for `None`.
+/// 3. Otherwise `max` has no effect, and the result is core.
 fn max_over_unbounded(core: u64, core_timeout: bool, max: Option<u64>) -> u64
     ensures { result ≡ spec.max_over_unbounded core core_timeout max }
 {

@@ -21,8 +21,8 @@ fn class_name(classes: &[Class], place: usize) -> &str
     }
 }
 
-/// The end of the text of a submit. It formats as ` as SLOT` if the body has a get of the submit,
-/// and as nothing otherwise.
+/// The end of the text of a submit. It formats as ` as SLOT` if the body has a get of the submit at
+/// `position`, and as nothing otherwise.
 #[derive(Clone, Copy)]
 struct SlotPart<'a> {
     body: &'a [Action],

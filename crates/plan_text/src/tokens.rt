@@ -96,7 +96,7 @@ impl Tokens {
         }
     }
 
-    /// Processes a byte that is not in a token or comment that began earlier.
+    /// Processes a byte outside of all tokens and comments that began before it.
     fn begin(&mut self, offset: usize, byte: u8) -> Result<(), AllocError> {
         self.open = OpenToken::Nothing;
         match byte {

@@ -11,17 +11,18 @@ use crate::plan_values::plan_document;
 use job_bodies::Plan;
 use std::alloc::{AllocError, Global};
 
-/// Writes a plan as TOML. Let the text be no longer than a plan's text may be. Then
-/// [`read_plan`](crate::read_plan) parses it as the same plan, except for the two sizes below.
+/// Writes a plan as TOML.
 ///
-/// An unbounded queue is written as `queue = "unbounded"`, and the `max` of its pool as a number,
-/// or as `max = "unbounded"` if the pool has no maximum of its own.
-/// [`read_plan`](crate::read_plan) gives such a pool 1,000,000 as its queue, and core as its
-/// maximum unless core threads may time out, whatever they were in the plan. The sizes that it
-/// replaces have no effect there.
+/// If the text is not longer than a plan's text may be, [`read_plan`](crate::read_plan) parses it
+/// as the same plan, except for sizes that have no effect. These are sizes of pools with an
+/// unbounded queue: the parsed `queue` is 1,000,000, and the parsed maximum is core unless core
+/// threads may time out.
 ///
-/// If a get names a submit, the submit fills a slot of its own, whose name is `s` followed by the
-/// submit's position in its body. Other submits fill no slot.
+/// An unbounded queue is written as `queue = "unbounded"`. The `max` of a pool is written as a
+/// number, or as `max = "unbounded"` if the pool has no maximum of its own.
+///
+/// A submit that a get names fills a slot of its own. The name of this slot is `s`, followed by the
+/// position of the submit in its body. Other submits fill no slot.
 ///
 /// # Errors
 ///

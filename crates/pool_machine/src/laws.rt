@@ -6,50 +6,56 @@ ghost use Rattle.job_bodies.specs.WellFormed.{has_valid_sizes};
 ghost use Rattle.pool_machine.specs.PoolState.{PoolView, IsSound, new_pool};
 ghost use Rattle.pool_machine.specs.Laws.{IsInvariant, HasSizesOf, QueuesHaveThreads, LoadIsOffered, FailureConditions};
 
-/// Proves that no event changes the core, the maximum or the capacity of a pool, nor whether its
-/// queue is unbounded or its core threads may time out.
+/// Proves that no event changes the sizes of a pool (core, maximum and capacity), whether its queue
+/// is unbounded, or whether its core threads may time out.
 pub fn sizes_stay()
     ensures { (first : PoolView) → IsInvariant (HasSizesOf first) }
 {}
 
-/// States that a pool with valid sizes never exceeds them:
+/// Proves that a pool with valid sizes never exceeds them:
 ///
 /// - It has at most its maximum of threads.
 /// - It has at most as many idle workers as threads.
-/// - Its queue, if bounded, has at most as many jobs as its capacity or, if the capacity is 0, as
-///   many as the pool has idle workers.
+/// - A bounded queue has at most as many jobs as its capacity. With capacity 0, it has at most as
+///   many jobs as the pool has idle workers.
 pub fn pools_stay_sound()
     ensures start { (pool : Pool) → IsTrue (has_valid_sizes pool) → IsSound (new_pool pool) }
     ensures kept { IsInvariant IsSound }
 {}
 
-/// Proves that a pool with a queued job has at least core threads, or at least one if its core
-/// threads may time out. A pool queues a job only if it has at least core threads, and the last
-/// threads do not end while jobs are queued.
+/// Proves that a pool with a queued job has at least core threads, or at least one thread if its
+/// core threads may time out. A pool queues a job only if it has at least core threads. While jobs
+/// are queued, no thread ends if the pool would then have too few.
 pub fn queues_have_threads()
     ensures start { (pool : Pool) → QueuesHaveThreads (new_pool pool) }
     ensures kept { IsInvariant QueuesHaveThreads }
 {}
 
-/// States how the load of a pool changes. The load is the number of its threads plus the number of
+/// Proves how the load of a pool changes. The load is the number of its threads plus the number of
 /// its queued jobs.
 ///
 /// - The load of a new pool is the number of its prestarted threads.
 /// - An offer of a job increases the load by at most 1, and no other operation increases it.
 /// - A pool that refuses a job has a load of at least its capacity plus its maximum.
 ///
-/// So at least that many jobs, minus the prestarted threads, were offered to the pool before.
+/// So before a pool refuses a job, it was offered at least this number of jobs: its capacity plus
+/// its maximum, minus its prestarted threads.
 pub fn load_is_offered()
     ensures { LoadIsOffered }
 {}
 
-/// Proves under which conditions an operation of a pool fails. The pool refuses a job exactly when
-/// its queue is bounded and full and it has its maximum of threads.
-/// [`PoolState::take`](crate::PoolState::take) fails exactly when no worker is idle or the queue is
-/// empty. [`PoolState::retire`](crate::PoolState::retire) fails exactly when no worker is idle, the
-/// pool has at most core threads and these may not time out or are needed, or its queue is bounded
-/// with capacity 0 and each idle worker has a job in it. A core thread that may time out is needed
-/// if it is the last thread and a job is queued.
+/// Proves when the operations of a pool fail:
+///
+/// - The pool refuses a job exactly when its queue is bounded and full, and it has its maximum of
+///   threads.
+/// - [`PoolState::take`](crate::PoolState::take) fails exactly when no worker is idle or the queue
+///   is empty.
+/// - [`PoolState::retire`](crate::PoolState::retire) fails exactly when no worker is idle, when the
+///   pool needs its threads, or when its queue is bounded with capacity 0 and each idle worker has
+///   a job in it.
+///
+/// A pool whose core threads may not time out needs its threads if it has at most core threads. A
+/// pool whose core threads may time out needs its thread if it has only one and a job is queued.
 pub fn failure_conditions()
     ensures { (pool : PoolView) → IsSound pool → FailureConditions pool }
 {}

@@ -12,8 +12,9 @@ use std::alloc::{AllocError, Global};
 use std::collections::VecDeque;
 use std::marker::Model;
 
-/// A thread pool: its sizes, the number of its threads, the number of its idle threads, and the
-/// numbers of the jobs in its queue.
+/// A thread pool: its sizes, the number of its threads, the number of its idle threads, and its
+/// queue. The threads are also called workers. The queue lists jobs by the numbers that identify
+/// them.
 ///
 /// A worker that finished a job is idle until it takes the head of the queue. So the queue can be
 /// full while workers are idle. The rules are those of Java's `ThreadPoolExecutor`. Its queue is an
@@ -59,12 +60,9 @@ impl Model for PoolState {
 }
 
 impl PoolState {
-    /// Creates a pool of these sizes with an empty queue. A prestarted pool has core idle workers
-    /// at first, and any other pool has no threads. Allocates no memory.
-    ///
-    /// The sizes must be valid: core at least 1, the maximum at least core, and the queue capacity
-    /// at least 1, or 0 if the pool may reject jobs, each at most `MAX_SIZE` (the maximum can be
-    /// `MAX_THREADS` if the pool has none). Allocates no memory.
+    /// Creates a pool of these sizes with an empty queue. If the pool is prestarted, it has core
+    /// idle workers at first. Otherwise it has no threads. The sizes must be
+    /// [valid](Pool::has_valid_sizes). Allocates no memory.
     pub fn new(alloc: Global, pool: &Pool) -> PoolState
         requires { IsTrue (has_valid_sizes pool.now) }
         ensures { result ≡ new_pool pool.now }
@@ -174,11 +172,13 @@ impl PoolState {
         self.idle += 1;
     }
 
-    /// Ends an idle worker if the pool has more than core threads, whether or not jobs are queued.
-    /// If core threads may time out, it also ends one if the pool has another thread or no queued
-    /// job. In a bounded queue of capacity 0, each job was handed to an idle worker, and these
-    /// workers do not end. Returns whether a worker ended. If none can end, the pool is unchanged.
-    /// Allocates no memory.
+    /// Ends an idle worker, if one may end, and returns whether a worker ended. If none may end,
+    /// the pool is unchanged. Allocates no memory.
+    ///
+    /// An idle worker may end if the pool has more than core threads, whether or not jobs are
+    /// queued. If core threads may time out, it may also end if the pool has another thread or no
+    /// queued job. In a bounded queue of capacity 0, each job was handed to an idle worker. Such a
+    /// worker does not end.
     pub fn retire(&mut self) -> bool
         ensures ended { OnTrue result (retired self.old ≡ Some self.new) }
         ensures nothing { OnFalse result (retired self.old ≡ None) }
@@ -218,7 +218,8 @@ impl PoolState {
         self.core
     }
 
-    /// Returns the maximum number of threads: core to `MAX_SIZE`, or `MAX_THREADS`.
+    /// Returns the maximum number of threads, which is from core to `MAX_SIZE`, or `MAX_THREADS` if
+    /// the pool has no maximum of its own.
     pub fn max(&self) -> u64
         ensures { result ≡ self.now.max }
     {
@@ -247,7 +248,7 @@ impl PoolState {
         self.times_out
     }
 
-    /// Returns the number of threads, busy and idle: 0 to the maximum.
+    /// Returns the number of threads, busy and idle, which is from 0 to the maximum.
     pub fn threads(&self) -> u64
         ensures value { result ≡ self.now.threads }
         ensures sound { IsSound self.now }
@@ -272,7 +273,7 @@ impl PoolState {
     }
 
     /// Returns the number of jobs in the queue. A bounded queue has at most as many jobs as its
-    /// capacity or, if the capacity is 0, as many as the pool has idle workers.
+    /// capacity. With capacity 0, it has at most as many jobs as the pool has idle workers.
     pub fn queued(&self) -> usize
         ensures value { result ≡ length self.now.queue }
         ensures sound { IsSound self.now }

@@ -9,7 +9,7 @@ use Rattle.soundness.specs.declared.note.Note.{Note}
 use Rattle.soundness.specs.Conditions.{bound_section, in_section}
 use Rattle.refusal_notes.specs.declared.failing_rows.FailingRows.{FailingRows}
 
--- of the rows that it has seen, the visitor has those that fail, unless memory ran out
+-- the visitor has exactly the failing rows of the rows `seen`, in the same order; nothing is claimed if memory ran out
 abbrev pub Keeps : FailingRows → List Row → Type 0
 Keeps found seen = OnOk found.outcome (found.rows.items ≡ filter fails seen)
 

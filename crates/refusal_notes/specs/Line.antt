@@ -9,14 +9,14 @@ use Rattle.soundness.specs.declared.note.Section.{Section}
 use Rattle.soundness.specs.declared.note.Section.TheVariants.{Ranks, Standing, Lifetime, Blocked}
 use Rattle.soundness.specs.declared.note.Note.{Note}
 
--- the text of a section, which is a part of the certificate
+-- the text of a section, such as `pool p standing`
 abbrev pub section_text : Plan → Section → List ℕ
 section_text plan Ranks = codes "ranks"
 section_text plan (Standing p) = codes "pool " ++ (pool_at plan p).name ++ codes " standing"
 section_text plan (Lifetime p) = codes "pool " ++ (pool_at plan p).name ++ codes " lifetime"
 section_text plan (Blocked p) = codes "pool " ++ (pool_at plan p).name ++ codes " blocked"
 
--- the text of the place of a row
+-- the text of the place of a row, such as `class query action 2`
 abbrev pub place_text : Plan → Place → List ℕ
 place_text plan (Class k) = codes "class " ++ (class_at plan k).name
 place_text plan (ClassAction k i) = codes "class " ++ (class_at plan k).name ++ codes " action " ++ decimal i
@@ -44,11 +44,11 @@ rule_text L5 = codes "L5"
 rule_text B1 = codes "B1"
 rule_text B2 = codes "B2"
 
--- the head of each line of a section
+-- the head of each line of a section, such as `pool p blocked, `
 abbrev pub head : Plan → Section → List ℕ
 head plan section = section_text plan section ++ codes ", "
 
--- the part of each line after its head: the place, the rule, and both sides
+-- the part of a line after its head, such as `total: B2 1 above 0`: the place, the rule, and both sides
 abbrev pub condition : Plan → Note → List ℕ
 condition plan note = place_text plan note.place ++ codes ": " ++ rule_text note.rule ++ codes " " ++ decimal note.left ++ codes " above " ++ decimal note.right
 

@@ -1,6 +1,6 @@
 //! The failing conditions of a certificate, as notes. Each note belongs to a section: the ranks, or
 //! one vector of a pool. The *bound* of a pool is its standing or lifetime vector, which bounds its
-//! queue. A pool that may reject jobs or has an unbounded queue can have none.
+//! queue. A pool that may reject jobs or has an unbounded queue can have no bound.
 
 ghost use Rattle.std.specs.Prelude.{◌≡◌, ◌<◌, ◌++◌, IsTrue, IfOk, OnOk, filter, length};
 ghost use Rattle.weights.specs.Bound.{bound_vector, bound_rows};
@@ -20,7 +20,7 @@ use job_bodies::Plan;
 use std::alloc::{AllocError, Global};
 use weights::{Bound, Ranks, RanksOf, Vector, visit_blocked_rows};
 
-/// Appends the failing conditions of the ranks.
+/// Appends the failing conditions of the ranks to the notes.
 pub(crate) fn push_rank_notes(
     alloc: Global,
     notes: &mut Vec<Note>,
@@ -36,7 +36,7 @@ pub(crate) fn push_rank_notes(
     found.push_notes(notes, Section::Ranks)
 }
 
-/// Returns the section of the conditions of the pool's bound: standing or lifetime.
+/// Returns the section for the notes of the pool's bound: standing or lifetime.
 fn section_of(pool: usize, bound: &Bound) -> Section
     ensures { result ≡ bound_section pool bound.now }
 {
@@ -46,7 +46,7 @@ fn section_of(pool: usize, bound: &Bound) -> Section
     }
 }
 
-/// Appends the failing conditions of the standing or lifetime vector of the pool.
+/// Appends the failing conditions of the pool's standing or lifetime vector to the notes.
 fn push_vector_notes(
     alloc: Global,
     notes: &mut Vec<Note>,
@@ -64,7 +64,8 @@ fn push_vector_notes(
     found.push_notes(notes, section_of(pool, bound))
 }
 
-/// Appends the failing conditions of the pool's bound, or nothing if the pool has no bound.
+/// Appends the failing conditions of the pool's bound to the notes. Does nothing if the pool has no
+/// bound.
 fn push_bound_notes(
     alloc: Global,
     notes: &mut Vec<Note>,
@@ -82,7 +83,7 @@ fn push_bound_notes(
     }
 }
 
-/// Appends the failing conditions of the pool's blocked vector.
+/// Appends the failing conditions of the pool's blocked vector to the notes.
 fn push_blocked_notes(
     alloc: Global,
     notes: &mut Vec<Note>,
@@ -103,7 +104,8 @@ fn push_blocked_notes(
     found.push_notes(notes, Section::Blocked(pool))
 }
 
-/// Appends the failing conditions of a pool: first of its bound, and then of its blocked vector.
+/// Appends the failing conditions of a pool to the notes: first those of its bound, and then those
+/// of its blocked vector.
 pub(crate) fn push_pool_notes(
     alloc: Global,
     notes: &mut Vec<Note>,
@@ -123,9 +125,9 @@ pub(crate) fn push_pool_notes(
     push_blocked_notes(alloc, notes, plan, ranks, number, &pool.blocked)
 }
 
-/// Returns the failing conditions of a certificate that fits the plan, each with its left and right
-/// side. The conditions of the ranks come first. Then come, for each pool, the conditions of its
-/// bound and those of its blocked vector.
+/// Returns the failing conditions of a certificate, each with its left and right side. The
+/// certificate must fit the plan. The conditions of the ranks come first. Then come, for each pool,
+/// the conditions of its bound and those of its blocked vector.
 ///
 /// # Errors
 ///

@@ -14,9 +14,11 @@ use cert_text::Cert;
 use job_bodies::Plan;
 use std::alloc::{AllocError, Global};
 
-/// Appends a line for each failing condition, and then a line with the number of failing
-/// conditions, such as `failing 1`. Returns this number. The certificate must fit the plan. To save
-/// memory, stores the failing conditions of only one pool at a time.
+/// Appends a line for each failing condition of the certificate, which must fit the plan. Then
+/// appends a line with the number of these conditions, such as `failing 1`, and returns this
+/// number.
+///
+/// To save memory, stores the failing conditions of only one pool at a time.
 ///
 /// # Errors
 ///
@@ -70,8 +72,9 @@ fn sum(count: usize, more: usize) -> Result<usize, AllocError>
     count.checked_add(more).ok_or(AllocError)
 }
 
-/// Appends a line for each note. A line begins with a *head*, which names the section of its note.
-/// The head is formatted only once for consecutive notes of the same section.
+/// Appends a line for each note. A line begins with a *head*, which names the section of its note,
+/// such as `pool p blocked, `. The head is formatted only once for consecutive notes of the same
+/// section.
 fn push_lines(
     alloc: Global,
     text: &mut String,
@@ -92,8 +95,8 @@ fn push_lines(
     Ok(())
 }
 
-/// Appends the line of the note: `head`, the condition and a newline. `head` must be the text with
-/// which all lines of the note's section begin.
+/// Appends the line of the note: the head, the condition and a newline. `head` must be the head of
+/// the note's section.
 fn push_line_with_head(
     text: &mut String,
     head: &str,

@@ -1,5 +1,5 @@
-//! The text of a note, which is a failing condition. A line begins with a head, which names the
-//! section of the note.
+//! The text of a note, which is a failing condition. The line of a note begins with a head, which
+//! names the section of the note.
 
 ghost use Rattle.std.specs.Prelude.{◌≡◌, ◌++◌, ◌∷◌, [], IfOk, string_bytes, codes, decimal};
 ghost use Rattle.support.specs.Pushed.{Pushes};
@@ -56,7 +56,7 @@ fn push_section(text: &mut String, plan: &Plan, section: Section) -> Result<(), 
 }
 
 /// Appends the text for the section of a pool's vector, such as `pool p standing`. `vector` is the
-/// end of this text: a space and the name of the vector.
+/// end of this text, such as ` standing`.
 fn push_vector(text: &mut String, plan: &Plan, pool: usize, vector: &str) -> Result<(), AllocError>
     ensures { Pushes result text.old text.new
         (codes "pool " ++ (pool_at plan.now pool).name ++ vector.now) }
@@ -114,7 +114,7 @@ fn push_head(text: &mut String, plan: &Plan, section: Section) -> Result<(), All
     text.push_str(", ")
 }
 
-/// Returns the head of the lines of a section, which names the section, such as `pool p blocked, `.
+/// Returns the head of the lines of a section, such as `pool p blocked, `.
 pub(crate) fn head_of(alloc: Global, plan: &Plan, section: Section) -> Result<String, AllocError>
     ensures { IfOk result (λ head. string_bytes head ≡ spec.head plan.now section) }
 {

@@ -18,12 +18,12 @@ module _ {V : Type 0} where
   value_in None = None
   value_in (Some entry) = Some entry.value
 
-  -- the slot with its value replaced by w
+  -- the slot with its value replaced by w; a free slot stays free
   abbrev pub with_value_in : Option (Entry V) → V → Option (Entry V)
   with_value_in None w = None
   with_value_in (Some entry) w = Some (record entry { value = w })
 
-  -- the value in the slot if its entry is for this number, and `other` if not
+  -- the value in the slot if it has an entry for this number, and otherwise `other`
   abbrev pub value_or : ℕ → Option (Entry V) → Option V → Option V
   value_or n None other = other
   value_or n (Some entry) other = if entry.number == n then Some entry.value else other
@@ -41,7 +41,8 @@ module _ {V : Type 0} where
     pub each : (p : ℕ) → entry_at slots p ≡ None
     pub none : taken slots ≡ 0
 
-  -- two tables of slots have the same entries at the same indices; one may have more slots, which are free
+  -- two tables of slots have the same entries at the same indices; their lengths can differ, because a slot past the end of a
+  -- table counts as free
   pub record HasSameEntries (old new : List (Option (Entry V))) : Type 0 where
     pub each : (p : ℕ) → entry_at new p ≡ entry_at old p
     pub count : taken new ≡ taken old

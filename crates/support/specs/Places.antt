@@ -6,7 +6,7 @@ abbrev pub cons_if : Bool → ℕ → List ℕ → List ℕ
 cons_if true n ns = n ∷ ns
 cons_if false n ns = ns
 
--- the places at which the test passes, if the place of the first element is n
+-- the places at which the test passes; the place of the first element is n
 abbrev pub places_from : {X : Type 0} → (X → Bool) → ℕ → List X → List ℕ
 places_from test n [] = []
 places_from test n (x ∷ xs) = cons_if (test x) n (places_from test (n + 1) xs)

@@ -9,7 +9,8 @@ use std::marker::Model;
 
 /// A counter from 0 to `u64::MAX` that increases by one at a time.
 ///
-/// Stores all digits except the last as text. This text changes only at each tenth increment.
+/// All digits of the value except the last are stored as text. This text changes only at each tenth
+/// increment.
 #[derive(Drop)]
 pub struct Counter {
     prefix: String,

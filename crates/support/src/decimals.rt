@@ -1,5 +1,5 @@
-//! The writing of numbers in decimal digits. A general formatter, which supports any value and
-//! padding, would take about thirty more instructions for each number.
+//! The writing of numbers in decimal digits. A general formatter would take about thirty more
+//! instructions for each number, because it supports any value and padding.
 
 ghost use Rattle.std.specs.Prelude.{◌≡◌, OnErr, string_bytes, decimal};
 ghost use Rattle.support.specs.Pushed.{Pushes};

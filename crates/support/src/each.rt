@@ -1,4 +1,4 @@
-//! The function that reads the elements of a list in order.
+//! A function that reads the elements of a list in order.
 
 ghost use Rattle.std.specs.Prelude.{◌≡◌};
 ghost use Rattle.std.specs.Borrow.{Bor};

@@ -13,7 +13,7 @@ pub(crate) struct Entry<V> {
     pub(crate) value: V,
 }
 
-/// Returns whether the slot has the entry of `number`.
+/// Returns whether the slot has an entry for the key `number`.
 #[inline(always)]
 pub(crate) fn has_number<V>(slot: &Option<Entry<V>>, number: usize) -> bool
     ensures { result ≡ has_number number slot.now }
@@ -24,7 +24,7 @@ pub(crate) fn has_number<V>(slot: &Option<Entry<V>>, number: usize) -> bool
     }
 }
 
-/// Returns whether the slot is free or has the entry of `number`.
+/// Returns whether the slot is free or has an entry for the key `number`.
 #[inline(always)]
 pub(crate) fn is_free_for<V>(slot: &Option<Entry<V>>, number: usize) -> bool
     ensures { result ≡ is_free_for number slot.now }

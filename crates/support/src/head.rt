@@ -6,8 +6,8 @@ ghost use Rattle.support.specs.Name as spec;
 use crate::name_of;
 use std::fmt;
 
-/// The number and name of a fault, with which the text of the fault starts, such as `fault 6
-/// BadName`. The position of the fault can follow.
+/// The start of the text of a fault: the number and the name of the fault, such as
+/// `fault 6 BadName`. The position of the fault can follow.
 #[derive(Clone, Copy, PartialEq, Eq)]
 pub struct FaultHead(pub u8);
 

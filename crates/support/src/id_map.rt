@@ -15,8 +15,8 @@ use std::marker::Model;
 /// A map from numbers to values. It is fast if few numbers have values at the same time and most of
 /// these numbers are close to each other. Most look-ups then index a table and compute no hash.
 ///
-/// The table has slots, each for the entry of one number. The index of a number's slot is the
-/// number modulo the length of the table. If the slot is occupied by another number at an
+/// Each slot of the table has at most one entry: a number and its value. The index of a number's
+/// slot is the number modulo the length of the table. If another number occupies this slot at an
 /// insertion, the value is stored in a second map, the overflow map. A look-up checks the slot
 /// first.
 #[derive(Drop)]

@@ -2,7 +2,7 @@
 
 ghost use Rattle.support.specs.Number.{FaultNumbersAreStated};
 
-/// States that each fault has its documented number.
+/// Proves that each fault has its documented number.
 pub fn fault_numbers_are_stated()
     ensures { FaultNumbersAreStated }
 {}

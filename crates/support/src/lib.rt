@@ -1,7 +1,10 @@
-//! Definitions and helpers that most other crates share.
+//! Definitions and helpers that most other crates share:
 //!
-//! They are lemmas about lists whose elements are given by index, the map [`IdMap`], the numbers
-//! and names of faults, the start of a fault's text, and the writing of numbers in decimal digits.
+//! - The map [`IdMap`], and the counter [`Counter`].
+//! - The numbers and names of faults, and the start of a fault's text.
+//! - The writing of numbers in decimal digits.
+//! - The reading of the elements of a list, and its errors.
+//! - Lemmas about lists whose elements are given by index.
 #![tactic(auto)]
 
 mod counter;

@@ -13,12 +13,12 @@ pub const UNKNOWN_KEY: u8 = 3;
 pub const MISSING_KEY: u8 = 4;
 /// A value has the wrong type for its key.
 pub const WRONG_TYPE: u8 = 5;
-/// A name does not consist of a lowercase letter, followed by at most 31 lowercase letters, digits
-/// and `_`.
+/// A name is not valid. A valid name is a lowercase letter, followed by at most 31 lowercase
+/// letters, digits and `_`.
 pub const BAD_NAME: u8 = 6;
 /// Two entries of a list have the same name.
 pub const DOUBLE_NAME: u8 = 7;
-/// A size, a count or a length of work is out of range.
+/// A size, a count or a number of units of work is out of range.
 pub const BAD_NUMBER: u8 = 8;
 /// A class names a pool that does not exist.
 pub const NO_SUCH_POOL: u8 = 9;
@@ -57,12 +57,12 @@ pub const CERT_TOO_LONG: u8 = 34;
 
 /// A run exceeds one of its limits.
 pub const RUN_TOO_LARGE: u8 = 40;
-/// A client or a pool has a receipt for an event of another client or pool, or for an event outside
-/// the history. The history lists the events of a run in order. A receipt is a thread's record of
-/// an event that the thread performed.
+/// A client or a pool has a receipt for an event of another client or pool, or for an event that is
+/// not in the history. A receipt is a thread's record of an event that the thread performed. The
+/// history lists the events of a run in order.
 pub const STRANGE: u8 = 41;
-/// The results of several threads contradict each other. Either the history and the receipts of a
-/// run are not those of a complete run, or the parts of a search do not fit together.
+/// The results of several threads contradict each other. In a run, the history and the receipts are
+/// not those of a complete run. In a search, the parts of the search do not fit together.
 pub const MIXED: u8 = 42;
 /// A gate failed. In a run, a gate is the code that does the declared work. In a search or a check,
 /// a gate is the hook that is called before each pool.

@@ -12,8 +12,8 @@ use std::alloc::{AllocError, Global};
 use std::collections::HashMap;
 use std::marker::Model;
 
-/// A map from numbers to values, for the entries of an [`IdMap`](crate::IdMap) that found their
-/// slot occupied when they were inserted.
+/// A map from numbers to values, for the entries of an [`IdMap`](crate::IdMap) whose slot was
+/// occupied when they were inserted.
 ///
 /// Look-ups in this map are rare, so its methods are not inlined. A caller first checks whether the
 /// map is empty, because a look-up in an empty map would still hash the number.

@@ -20,7 +20,7 @@ pub(crate) fn place_of(number: usize) -> usize
     number % TABLE_LEN
 }
 
-/// Returns whether the slot for `number` has the entry of `number`.
+/// Returns whether the slot for `number` has an entry for `number`.
 #[inline(always)]
 pub(crate) fn is_in_slot<V>(slots: &Vec<Option<Entry<V>>>, number: usize) -> bool
     ensures in_slot { result ≡ has_number number (entry_at slots.now.items (place_of number)) }
@@ -30,7 +30,7 @@ pub(crate) fn is_in_slot<V>(slots: &Vec<Option<Entry<V>>>, number: usize) -> boo
     place < slots.len() && has_number(&slots[place], number)
 }
 
-/// Returns whether the slot for `number` is free or has the entry of `number`. Returns `false` if
+/// Returns whether the slot for `number` is free or has an entry for `number`. Returns `false` if
 /// there are no slots yet.
 #[inline(always)]
 pub(crate) fn can_store<V>(slots: &Vec<Option<Entry<V>>>, number: usize) -> bool
@@ -42,7 +42,8 @@ pub(crate) fn can_store<V>(slots: &Vec<Option<Entry<V>>>, number: usize) -> bool
     place < slots.len() && is_free_for(&slots[place], number)
 }
 
-/// Stores `number` and `value` in the slot for `number`.
+/// Stores an entry with this number and value in the slot for `number`. Replaces the entry that was
+/// there, if any.
 #[inline(always)]
 pub(crate) fn store<V: Drop>(slots: &mut Vec<Option<Entry<V>>>, number: usize, value: V)
     requires { place_of number < vec_len slots.old }

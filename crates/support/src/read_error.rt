@@ -5,7 +5,7 @@ ghost use Rattle.support.specs.declared.read_error.ReadError.TheVariants.{Memory
 
 use std::alloc::{AllocError, AllocFailed};
 
-/// The error of a reading function: out of memory, or the first fault of the input.
+/// The error of a function that reads an input: out of memory, or the first fault of the input.
 #[derive(Drop)]
 pub enum ReadError<F> {
     /// Out of memory.

@@ -1,4 +1,4 @@
--- The conditions of the blocked vector of pool p: fewer jobs of p wait at counted gets than p has threads while a job is in its queue.
+-- The conditions of the blocked vector of pool p. They show that fewer than `least_threads` jobs of p wait at counted gets.
 use Rattle.std.specs.Prelude.{ℕ, ◌-◌, Bool, true, false, ◌&&◌, List, [], ◌∷◌, ◌++◌, map, filter}
 use Rattle.std.specs.List.{flat_map, enumerate_from}
 use Rattle.job_bodies.specs.declared.action.Action.{Action}
@@ -16,7 +16,7 @@ abbrev pub is_get : Action → Bool
 is_get (Get t) = true
 is_get _ = false
 
--- the rows B1 of the counted gets of class k
+-- the rows B1 of class k, one for each counted get
 abbrev pub counted_rows : (ℕ → ℕ → Bool) → Vector → ℕ → Class → List Row
 counted_rows counted v k class =
     map (λ entry. row B1 (place.ClassAction k entry.0) 1 (job_weight v k entry.0))

@@ -14,7 +14,8 @@ abbrev pub place_at : BodyOwner → ℕ → Place
 place_at (Class k) i = ClassAction k i
 place_at (Client c) i = ClientAction c i
 
--- the body is valid, and has a weight within the limit for each of its positions and for its end
+-- the body with these actions is valid, and `weights` has a weight for each position of the body, from 0 to its length; no
+-- weight is above MAX_WEIGHT
 pub record IsWeighed (plan : Plan) (actions : List Action) (weights : List ℕ) : Type 0 where
   pub valid : IsValidBody plan actions
   pub long : length actions < length weights

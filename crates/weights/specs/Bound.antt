@@ -21,8 +21,8 @@ abbrev pub bound_get_return : Bound → GetReturn
 bound_get_return (Standing v) = DoneWeight
 bound_get_return (Lifetime v) = NoWeight
 
--- the limit of the total of a bound of pool p, if the queue of p is bounded: the capacity of the queue for a standing vector, and for a
--- lifetime vector the number of jobs that p accepts before it can refuse one
+-- the limit of the total of a bound of pool p, if the queue of p is bounded. For a standing vector, it is the capacity of the
+-- queue. For a lifetime vector, it is the number of jobs that p accepts before it can refuse one.
 abbrev pub bound_limit : Plan → ℕ → Bound → ℕ
 bound_limit plan p (Standing v) = (pool_at plan p).queue
 bound_limit plan p (Lifetime v) = lifetime_limit (pool_at plan p)

@@ -24,13 +24,14 @@ reach ranks k = slice_index ranks.reach k
 abbrev pub level : Ranks → ℕ → ℕ
 level ranks k = slice_index ranks.levels k
 
--- whether there are a rank for each pool and a reach and a level for each class, and all numbers are within the limit
+-- whether there are a rank for each pool and a reach and a level for each class, and each number is at most MAX_WEIGHT
 abbrev pub ranks_fit : Plan → Ranks → Bool
 ranks_fit plan ranks =
     length ranks.pools == length plan.pools && length ranks.reach == length plan.classes && length ranks.levels == length plan.classes
     && list_all is_small ranks.pools && list_all is_small ranks.reach && list_all is_small ranks.levels
 
--- whether the action of class k is a counted get: a get is counted unless the reach of its job's class is below the rank of k's pool
+-- whether the action of class k is a counted get. A get is counted unless the reach of the class whose job it gets is below the
+-- rank of the pool of k.
 abbrev pub is_counted_action : Plan → Ranks → ℕ → Option Action → Bool
 is_counted_action plan ranks k (Some (Get t)) = not (nat_lt (reach ranks (submitted_class (class_at plan k).body t)) (rank ranks (class_at plan k).pool))
 is_counted_action plan ranks k _ = false
@@ -44,7 +45,7 @@ rank_rows_of_action ranks k body i (Work u) = []
 rank_rows_of_action ranks k body i (Submit k') = row K3 (place.ClassAction k i) (level ranks k' + 1) (level ranks k) ∷ []
 rank_rows_of_action ranks k body i (Get t) = row K2 (place.ClassAction k i) (reach ranks (submitted_class body t)) (reach ranks k) ∷ []
 
--- the rows of class k: K1, then K2 of each get and K3 of each submit
+-- the rows of class k: K1, and then, in the order of the body, K2 for each get and K3 for each submit
 abbrev pub rank_rows_of_class : Ranks → ℕ → Class → List Row
 rank_rows_of_class ranks k class =
     row K1 (place.Class k) (rank ranks class.pool) (reach ranks k)

@@ -1,11 +1,11 @@
--- Rows: the rules of a certificate at their places.
+-- Rows: the conditions of a certificate. Each row is a rule at one place of the plan.
 use Rattle.std.specs.Prelude.{◌≤◌, ℕ, Bool, nat_lt, if◌then◌else◌, List, [], ◌∷◌, Option, Some, None}
 use Rattle.support.specs.In.{In}
 use Rattle.weights.specs.declared.row.Rule.{Rule}
 use Rattle.weights.specs.declared.row.Place.{Place}
 use Rattle.weights.specs.declared.row.Row.{Row}
 
--- the row of this rule at this place, which requires that left is at most right
+-- the row for this rule at this place: the condition that `left` is at most `right`
 abbrev pub row : Rule → Place → ℕ → ℕ → Row
 row rule place left right = record { rule = rule; place = place; left = left; right = right }
 

@@ -12,7 +12,8 @@ use Rattle.weights.specs.Row.{row}
 use Rattle.weights.specs.Vector.{Vector, workers_weight, queued_weight, job_weight, done_weight, client_weight}
 use Rattle.weights.specs.GetReturn.{GetReturn, get_rule, returned_weight}
 
--- the row of the action at position i of a body whose actor has the weight `weight j` at each position j
+-- the row for the action at position i of a body; `weight j` is the weight of the actor at position j, and `place_at j` is the
+-- place of the action at position j
 abbrev pub action_row : GetReturn → Plan → Vector → (ℕ → ℕ) → (ℕ → Place) → List Action → ℕ → Action → Row
 action_row get_return plan v weight place_at body i (Work u) = row V2 (place_at i) (weight (i + 1)) (weight i)
 action_row get_return plan v weight place_at body i (Submit k) = row V3 (place_at i) (weight (i + 1) + queued_weight v k) (weight i)

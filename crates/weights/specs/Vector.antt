@@ -1,5 +1,6 @@
--- Vectors of weights: a number for a worker of each pool; for a job of each class when it is queued, at each position, and when it is done;
--- and for a client of each kind at each position.
+-- Vectors of weights. A vector has a number for a worker of each pool. For a job of each class, it has a number when the job is
+-- queued, at each position of its body, and when it is done. For a client of each kind, it has a number at each position of its
+-- body.
 use Rattle.std.specs.Prelude.{ℕ, ◌+◌, ◌*◌, ◌==◌, ◌&&◌, nat_le, Bool, List, [], length, sum_by, slice_index, slice_index_or}
 use Rattle.std.specs.List.{list_all, enumerate_from}
 use Rattle.job_bodies.specs.Plan.{Plan, class_at}
@@ -36,7 +37,9 @@ client_weights v c = slice_index_or v.clients c []
 abbrev pub client_weight : Vector → ℕ → ℕ → ℕ
 client_weight v c i = slice_index (client_weights v c) i
 
--- V1: whether the vector has a number for each pool, for each point of each class, and for each position of each client kind
+-- whether the vector has the shape of the plan, which is condition V1. It then has a number for a worker of each pool, and for
+-- a client of each kind at each position. For a job of each class, it has a number when the job is queued, at each position,
+-- and when it is done.
 abbrev pub has_shape : Plan → Vector → Bool
 has_shape plan v =
     length v.workers == length plan.pools && length v.classes == length plan.classes && length v.clients == length plan.clients
@@ -52,7 +55,8 @@ has_small_numbers v = list_all is_small v.workers && list_all (list_all is_small
 abbrev pub vector_fits : Plan → Vector → Bool
 vector_fits plan v = has_shape plan v && has_small_numbers v
 
--- the total of a vector: the weight of all clients at position 0, plus the weight of all workers if each pool has its maximum of them
+-- the total of a vector: the weight of all clients at position 0, plus the weight of all workers if each pool has its maximum
+-- of workers
 abbrev pub total : Plan → Vector → ℕ
 total plan v =
     sum_by (λ entry. entry.1.count * client_weight v entry.0 0) (enumerate_from 0 plan.clients)

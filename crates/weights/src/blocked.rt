@@ -1,6 +1,6 @@
-//! The conditions of the blocked vector of a pool, which bounds the number of the pool's jobs that
-//! wait at counted gets. [`Rule`] explains the names of the rows, and [`Counted`] explains counted
-//! gets.
+//! The conditions of the blocked vector of a pool. This vector bounds the number of the pool's jobs
+//! that wait at counted gets. [`Rule`] explains the names of the rows, and [`Counted`] explains
+//! counted gets.
 
 ghost use Rattle.std.specs.Prelude.{◌≡◌, ◌==◌, ◌&&◌, ◌<◌, ◌+◌, ◌∷◌, [], if◌then◌else◌, ℕ, IsTrue, Some, length, map, slice_get};
 ghost use Rattle.std.specs.List.{flat_map};

@@ -1,4 +1,4 @@
-//! The vector which shows that a pool never refuses a job.
+//! The bound of a pool: a vector which shows that the pool never refuses a job.
 
 ghost use Rattle.std.specs.Prelude.{◌≡◌, ◌<◌, IsTrue, length};
 ghost use Rattle.job_bodies.specs.Plan.{pool_at};

@@ -27,9 +27,9 @@ fn is_counted_in(plan: &Plan, ranks: &Ranks, number: usize, class: &Class, posit
 }
 
 impl Ranks {
-    /// Returns whether the action at `position` of the class's body is a counted get. A get of a
-    /// job is counted exactly when the reach of that job's class is at least the rank of the pool
-    /// of `class`.
+    /// Returns whether the action at `position` of the class's body is a counted get. A get is
+    /// counted exactly when the reach of the class whose job it gets is at least the rank of the
+    /// pool of `class`.
     pub fn is_counted(&self, plan: &Plan, class: usize, position: usize) -> bool
         requires fits { IsTrue (spec.ranks_fit plan.now self.now) }
         requires class { class < length plan.now.classes }

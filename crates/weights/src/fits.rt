@@ -1,5 +1,6 @@
-//! The test that a vector has the shape of a plan and numbers of at most [`MAX_WEIGHT`]. The
-//! *points* of a class are the points of its jobs: queued, each position of the body, and done.
+//! The test that a vector has the shape of a plan, and that each of its numbers is at most
+//! [`MAX_WEIGHT`]. Positions of a body are from 0, before its first action, to its length, after
+//! its last action.
 
 ghost use Rattle.std.specs.Prelude.{◌≡◌, ◌+◌, ◌==◌, length, map};
 ghost use Rattle.std.specs.List.{list_all, enumerate_from};
@@ -32,10 +33,10 @@ impl Vector {
     /// Returns whether the vector has the shape of the plan, and each number is at most
     /// [`MAX_WEIGHT`]. A vector has the shape of the plan if it has these numbers:
     ///
-    /// - A number for each pool.
-    /// - For each class, a number for a queued job, for each position of the body, and for a done
-    ///   job.
-    /// - For each client kind, a number for each position of the body.
+    /// - A number for a worker of each pool.
+    /// - For each class, a number for a queued job, for a job at each position of the body, and for
+    ///   a done job.
+    /// - For each client kind, a number for a client at each position of the body.
     pub fn fits(&self, plan: &Plan) -> bool
         ensures { result ≡ spec.vector_fits plan.now self.now }
     {
@@ -44,10 +45,10 @@ impl Vector {
 
     /// Returns whether the vector has the shape of the plan, which means that it has these numbers:
     ///
-    /// - A number for each pool.
-    /// - For each class, a number for a queued job, for each position of the body, and for a done
-    ///   job.
-    /// - For each client kind, a number for each position of the body.
+    /// - A number for a worker of each pool.
+    /// - For each class, a number for a queued job, for a job at each position of the body, and for
+    ///   a done job.
+    /// - For each client kind, a number for a client at each position of the body.
     fn has_shape(&self, plan: &Plan) -> bool
         ensures { result ≡ spec.has_shape plan.now self.now }
     {

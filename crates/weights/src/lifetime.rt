@@ -1,5 +1,5 @@
-//! The conditions of the lifetime vector of a pool, which bounds the number of jobs that are ever
-//! submitted to the pool. [`Rule`] explains the names of the rows.
+//! The conditions of the lifetime vector of a pool. This vector bounds the number of jobs that are
+//! ever submitted to the pool. [`Rule`] explains the names of the rows.
 
 ghost use Rattle.std.specs.Prelude.{◌≡◌, ◌==◌, ◌<◌, ◌∷◌, [], if◌then◌else◌, IsTrue, Some, length, map, slice_get};
 ghost use Rattle.std.specs.List.{flat_map, enumerate_from};
@@ -16,8 +16,10 @@ use crate::{FirstFault, GetReturn, Place, Row, RowVisitor, Rule, StandingFault, 
 use job_bodies::{Class, Plan, Pool};
 
 /// Returns the number of jobs that a pool accepts before it can refuse one. This is the capacity of
-/// its queue plus its maximum, minus its prestarted threads. If core threads may time out, it is
-/// only the capacity of the queue.
+/// its queue plus its maximum, minus its prestarted threads.
+///
+/// If core threads may time out, it is only the capacity of the queue, because Java then starts
+/// threads without a job.
 pub(crate) fn lifetime_limit(pool: &Pool) -> u64
     requires { IsTrue (has_valid_sizes pool.now) }
     ensures { result ≡ lifetime.lifetime_limit pool.now }
@@ -46,7 +48,7 @@ fn visit_worker_rows<V: RowVisitor>(plan: &Plan, vector: &Vector, visitor: &mut 
 }
 
 /// Passes condition L2 for each of `weights` to the visitor. `weights` are the weights of a job of
-/// the class: when it is queued, at each position of its body, and when it is done.
+/// the class: of a queued job, at each position of the body, and of a done job.
 fn visit_l2_rows<V: RowVisitor>(class: usize, weights: &[u64], visitor: &mut V)
     ensures { Visits V.HasSeen visitor.old visitor.new
         (map (λ weight. row L2 (place.Class class) 1 weight) weights.now) }

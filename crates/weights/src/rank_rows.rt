@@ -19,7 +19,7 @@ use job_bodies::{Action, Class, Plan};
 pub type RankFault = Row;
 
 /// Returns condition K2 for the get at `position` of class `number`. It requires that the reach of
-/// this class is at least the reach of the class of the job for which the get waits.
+/// this class is at least the reach of the class whose job it gets.
 fn get_row(
     plan: &Plan,
     ranks: &Ranks,

@@ -8,15 +8,15 @@ use job_bodies::Plan;
 use std::marker::Model;
 
 /// The ranks of pools, and the reaches and levels of classes, in plan order. The ranks and reaches
-/// decide which gets are counted. The levels show that no class submits itself. A certificate
-/// requires that each number is at most [`MAX_WEIGHT`](job_bodies::MAX_WEIGHT).
+/// decide which gets are [counted](crate::Counted). The levels show that no class submits itself,
+/// directly or through other classes. A certificate requires that each number is at most
+/// [`MAX_WEIGHT`](job_bodies::MAX_WEIGHT).
 #[derive(Debug, Drop)]
 pub struct Ranks {
     /// The rank of each pool.
     pub pools: Vec<u64>,
-    /// The reach of each class. A certificate requires that this number is at least the rank of the
-    /// class's pool. It must also be at least the reach of the class of each job that this class
-    /// gets.
+    /// The reach of each class. A certificate requires that the reach is at least the rank of the
+    /// class's pool. It must also be at least the reach of each class whose jobs this class gets.
     pub reach: Vec<u64>,
     /// The level of each class. A certificate requires that the level is above the level of each
     /// class that the class submits.

@@ -3,14 +3,16 @@
 ghost use Rattle.std.specs.Prelude.{◌≡◌};
 ghost use Rattle.weights.specs.Row.{fails, row};
 
-/// A rule of a certificate. Most rules give conditions at several places of the plan.
-/// [`Ranks`](crate::Ranks) explains reaches and levels, and [`Counted`](crate::Counted) explains
-/// counted gets.
+/// A rule of a certificate. Most rules give conditions at several places of the plan. The *actor*
+/// of an action is the job or the client that performs it.
+///
+/// [`Vector`](crate::Vector) explains weights, [`Ranks`](crate::Ranks) explains ranks, reaches and
+/// levels, and [`Counted`](crate::Counted) explains counted gets.
 #[derive(Clone, Copy, Debug, PartialEq, Eq)]
 pub enum Rule {
     /// The reach of a class is at least the rank of its pool.
     K1,
-    /// The reach of a class is at least the reach of the class of each job that it gets.
+    /// The reach of a class is at least the reach of each class whose jobs it gets.
     K2,
     /// The level of a class is above the level of each class that it submits.
     K3,
@@ -28,7 +30,7 @@ pub enum Rule {
     /// The weight of a job at its end is at least the weight of the done job plus the weight of a
     /// worker of its pool.
     V6,
-    /// The weight of a client that repeats is at least as large at its end as at its start.
+    /// A client that repeats weighs at least as much at its end as at its start.
     V7,
     /// In the standing vector of a pool with a bounded queue, a queued job of the pool weighs at
     /// least 1.
@@ -38,13 +40,12 @@ pub enum Rule {
     S2,
     /// In a lifetime vector, each worker weighs 0.
     L1,
-    /// In the lifetime vector of a pool with a bounded queue, a job of the pool weighs at least 1
-    /// at every point. The points are: when it is queued, each position of its body, and when it is
-    /// done.
+    /// In the lifetime vector of a pool with a bounded queue, a job of the pool always weighs at
+    /// least 1: when it is queued, at each position of its body, and when it is done.
     L2,
-    /// The total of the lifetime vector of a pool is at most the capacity of the pool's queue plus
-    /// its maximum, minus its prestarted threads. If core threads may time out, it is at most the
-    /// capacity of the queue.
+    /// If the queue of a pool is bounded, the total of the pool's lifetime vector is at most the
+    /// capacity of the queue plus the maximum of the pool, minus its prestarted threads. If core
+    /// threads may time out, it is at most the capacity of the queue.
     L3,
     /// In a lifetime vector, a get does not increase the weight of the actor that performs it. In
     /// such a vector, this rule replaces V5.
@@ -52,7 +53,7 @@ pub enum Rule {
     /// In the blocked vector of a pool, a job of the pool weighs at least 1 at each counted get.
     B1,
     /// The total of the blocked vector of a pool is less than the core size of the pool. If core
-    /// threads may time out, it is 0.
+    /// threads may time out, the total is 0.
     B2,
 }
 

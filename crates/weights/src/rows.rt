@@ -1,5 +1,5 @@
-//! The rows V2 to V7 of a vector, for all classes and client kinds of a plan. [`Rule`] explains
-//! their names. In a lifetime vector, L5 replaces V5, because a get gives its actor no weight
+//! The rows V2 to V7 of a vector, for all classes and client kinds of a plan. [`Rule`] explains the
+//! names of the rows. In a lifetime vector, L5 replaces V5, because a get gives its actor no weight
 //! ([`GetReturn::NoWeight`]).
 
 ghost use Rattle.std.specs.Prelude.{◌≡◌, ◌+◌, IsTrue, Some, length, slice_get};

@@ -1,6 +1,6 @@
-//! The conditions of the standing vector of a pool. They show that the number of queued jobs never
-//! exceeds the capacity of the queue. If the queue is unbounded, the only conditions are V2 to V7,
-//! and they set no limit on the queued jobs. [`Rule`] explains the names of the rows.
+//! The conditions of the standing vector of a pool. The conditions show that the number of queued
+//! jobs never exceeds the capacity of the queue. If the queue is unbounded, the only conditions are
+//! V2 to V7, which set no limit on the queued jobs. [`Rule`] explains the names of the rows.
 
 ghost use Rattle.std.specs.Prelude.{◌≡◌, ◌==◌, ◌<◌, ◌∷◌, [], if◌then◌else◌, IsTrue, Some, length, map, slice_get};
 ghost use Rattle.job_bodies.specs.WellFormed.{IsWellFormed};

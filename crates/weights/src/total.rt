@@ -1,5 +1,5 @@
 //! The total of a vector: the weight of all clients at their start, plus the weight of all workers
-//! if each pool has its maximum of them.
+//! if each pool has its maximum of workers.
 
 ghost use Rattle.std.specs.Prelude.{◌≡◌, ◌≤◌, ◌*◌, sum_by, IsTrue};
 ghost use Rattle.std.specs.List.{enumerate_from};

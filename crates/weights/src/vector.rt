@@ -1,13 +1,17 @@
-//! Vectors of weights. A vector gives a weight to each point of a plan.
+//! Vectors of weights. A vector gives a weight to each worker, to each job at each stage (queued,
+//! at a position of its body, or done), and to each client at each position of its body.
 
 ghost use Rattle.std.specs.Prelude.{◌≡◌, ◌<◌, length, map};
 ghost use Rattle.weights.specs.Vector as spec;
 
 use std::marker::Model;
 
-/// The weights of all points of a plan, in plan order. A certificate has a blocked vector for each
-/// pool, and can also have a vector that bounds the pool's queue. A certificate requires that each
-/// weight is at most [`MAX_WEIGHT`](job_bodies::MAX_WEIGHT).
+/// The weights of the workers, the jobs and the clients of a plan, in plan order. The total of the
+/// weights bounds a number of jobs, such as the jobs in the queue of a pool.
+///
+/// A certificate has a blocked vector for each pool, and can also have a vector that bounds the
+/// pool's queue. A certificate requires that each weight is at most
+/// [`MAX_WEIGHT`](job_bodies::MAX_WEIGHT).
 #[derive(Debug, Drop)]
 pub struct Vector {
     /// The weight of one worker of each pool.

@@ -7,14 +7,14 @@ ghost use Rattle.weights.specs.Visits.{Visits};
 
 use crate::{Row, RowFault};
 
-/// A visitor of rows, which are the conditions of a certificate. The same walk over the conditions
-/// can serve different visitors: one finds the first failing row, and another collects the failing
-/// rows.
+/// A visitor of rows, which are the conditions of a certificate. A walk over the conditions passes
+/// each of them to a visitor. One visitor finds the first failing row, and another collects all
+/// failing rows.
 pub trait RowVisitor {
     // The visitor has seen exactly these rows, in this order.
     ghost HasSeen: { Self → List FirstFailing → Type 0 };
 
-    /// Processes the next row.
+    /// Processes the next row of the walk.
     fn visit(&mut self, row: Row)
         ensures { Visits HasSeen self.old self.new (row ∷ []) };
 }
