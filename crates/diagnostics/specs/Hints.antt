@@ -21,7 +21,7 @@ names_no_limit text = bytes_eq text (codes "unlimited") || (bytes_eq text (codes
 abbrev pub no_limit_hint : List ℕ → List ℕ → List ℕ
 no_limit_hint key text = if can_be_unbounded key && names_no_limit text then codes "; did you mean \"unbounded\"?" else codes ""
 
--- the end of the message for a maximum without a bound over a queue with a capacity
+-- the end of the message for a maximum of `unbounded` in a pool with a bounded queue
 abbrev pub unbounded_max_hint : List ℕ
 unbounded_max_hint = codes "; max = \"unbounded\" needs queue = \"unbounded\""
 

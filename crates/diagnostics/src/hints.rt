@@ -3,8 +3,8 @@
 ghost use Rattle.std.specs.Prelude.{◌≡◌, option_map};
 ghost use Rattle.diagnostics.specs.Hints as spec;
 
-/// Returns the end of the message for a size of 0. It says what to write instead, or which page
-/// explains the size 0. It is empty if the key is not `queue` or `core`.
+/// Returns the end of the message for a size of 0. For the keys `queue` and `core`, the end says
+/// what to write and which page to read. For any other key, the end is empty.
 pub(crate) fn zero_hint(key: &str) -> &'static str
     ensures { result.now ≡ spec.zero_hint key.now }
 {
@@ -15,9 +15,9 @@ pub(crate) fn zero_hint(key: &str) -> &'static str
     }
 }
 
-/// Returns the end of the message for a string in place of a number. The end asks whether
-/// `unbounded` was meant, if the key is `max` or `queue` and the string is `unlimited`, `infinite`
-/// or `none`. Otherwise the end is empty.
+/// Returns the end of the message for a string in place of a number. If the key is `max` or `queue`
+/// and the string is `unlimited`, `infinite` or `none`, the end asks whether `unbounded` was meant.
+/// Otherwise the end is empty.
 pub(crate) fn no_limit_hint(key: &str, text: &str) -> &'static str
     ensures { result.now ≡ spec.no_limit_hint key.now text.now }
 {

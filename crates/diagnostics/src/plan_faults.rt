@@ -16,9 +16,9 @@ use plan_text::{Places, TextPlace};
 use std::alloc::{AllocError, Global};
 use toml::Table;
 
-/// Returns the faults of a plan's text that the plan parser rejects with `fault`. The first is
-/// `fault`, and the others are those that further checks find. The result has at most 100 faults,
-/// and the number of further faults. Each message is a single line.
+/// Returns the faults of a text that the plan parser rejects with `fault`. The first fault is
+/// `fault`, and further checks find the others. The result has at most 100 faults, and the number
+/// of faults beyond them. Each message is a single line.
 ///
 /// # Errors
 ///

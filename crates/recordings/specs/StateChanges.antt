@@ -48,7 +48,8 @@ pub record SetsLastSubmit (old : TraceValidator) (actor : RecordedActor) (last_s
   pub rounds : (r : ℕ) → round_at new.rounds r ≡ round_with_last_submit actor last_submit r (round_at old.rounds r)
   pub jobs : (j : ℕ) → job_at new.jobs j ≡ job_with_last_submit actor last_submit j (job_at old.jobs j)
 
--- the entry of round r after the line: an action of the round other than `refused` sets its last submit, to None if it is no submit
+-- the entry of round r after the line. If the line is a submit by the round, it sets the last submit. Any other action of the
+-- round, except `refused`, sets the last submit to None
 abbrev pub round_after_action : RecordedLine → ℕ → Option (Option ℕ) → Option (Option ℕ)
 round_after_action (Submits actor job class pool) r there = round_with_last_submit actor (Some job) r there
 round_after_action (Got actor job) r there = round_with_last_submit actor None r there
@@ -58,7 +59,8 @@ round_after_action (Cancels actor job) r there = round_with_last_submit actor No
 round_after_action (InvokesAny actor pool) r there = round_with_last_submit actor None r there
 round_after_action line r there = there
 
--- the entry of job j after the line: an action of the job other than `refused` sets its last submit, to None if it is no submit
+-- the entry of job j after the line. If the line is a submit by the job, it sets the last submit. Any other action of the
+-- job, except `refused`, sets the last submit to None
 abbrev pub job_after_action : RecordedLine → ℕ → Option JobState → Option JobState
 job_after_action (Submits actor job class pool) j there = job_with_last_submit actor (Some job) j there
 job_after_action (Got actor job) j there = job_with_last_submit actor None j there
