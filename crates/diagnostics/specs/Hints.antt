@@ -36,7 +36,7 @@ kind_hint line =
     else (if starts_with nat_eq line (123 ∷ []) then Some (codes "this is JSON, not a plan: a certificate comes after its plan")
     else None)
 
--- the hint for a value of this key that is a word without quotes
+-- the hint for a word without quotes as the value of this key
 abbrev pub word_hint : List ℕ → Option (List ℕ)
 word_hint key =
     if bytes_eq key (codes "name") || bytes_eq key (codes "pool") then Some (codes "write quotes around the value, as in pool = \"web\"")

@@ -192,7 +192,7 @@ lints_of_cause (Some cause) = lint_of_cause cause ∷ []
 
 -- ---- unbounded queues that may grow without limit
 
--- the action at position i of the body submits a job to a pool with an unbounded queue, and the body has no get of it
+-- the action at position i of the body submits a job to a pool with an unbounded queue, and the body has no get of the job
 abbrev pub fills_queue : Plan → List Action → ℕ → Action → Bool
 fills_queue plan body i (Submit k) = (pool_at plan (class_at plan k).pool).unbounded && not (has_get_of body i)
 fills_queue plan body i _ = false

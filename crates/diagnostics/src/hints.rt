@@ -73,8 +73,8 @@ pub(crate) fn kind_hint(line: &str) -> Option<&'static str>
     None
 }
 
-/// Returns a hint for a value of this key that is a word without quotes. The hint says what to
-/// write instead. Returns `None` if the key is `body` or unknown.
+/// Returns a hint for a word without quotes as the value of this key. The hint says what to write
+/// instead of the word. Returns `None` if the key is `body` or unknown.
 pub(crate) fn word_hint(key: &str) -> Option<&'static str>
     ensures { option_map (λ hint. hint.now) result ≡ spec.word_hint key.now }
 {

@@ -116,9 +116,9 @@ fn is_work(action: Action) -> bool
     matches!(action, Action::Work(_))
 }
 
-/// Returns whether the action at this position of the body submits a job that may be rejected while
-/// a future is open. `class` is the class of this job. `needed` has, for each pool, the maximum
-/// number of jobs in its queue at once, if it is known.
+/// Returns whether a future is open at this position of the body (see [`has_open_future`]), and the
+/// job of class `class` that the action submits there may be rejected. `needed` has, for each pool,
+/// the maximum number of jobs in its queue at once, if it is known.
 pub(crate) fn leaves_a_future(
     plan: &Plan,
     needed: &[Option<u64>],

@@ -62,10 +62,10 @@ fn likely_cause(
     }
 }
 
-/// Returns the end of the message for a get if each earlier submit has an `as`, and no name is
-/// similar. The end lists `names`, the names of the earlier submits. If there are no earlier
-/// submits, the end says which submit to write. It then also names the first later submit without
-/// `as`, if there is one.
+/// Returns the end of the message for a get of `name` if each earlier submit has a name, and none
+/// of these names is similar. The end lists `names`, the names of the earlier submits. If there are
+/// no earlier submits, the end says which submit to write. It then also names the first later
+/// submit without `as`, if there is one.
 fn no_submit_before(
     alloc: Global,
     body: &[Value],

@@ -40,9 +40,9 @@ pub fn faults_of(alloc: Global, text: &[u8], fault: PlanFault) -> Result<Faults,
     })
 }
 
-/// Returns the diagnostic for the fault that the plan parser reports. `found` is the diagnostic of
-/// the checks for this fault. If `found` is `None`, the message is the rule that the plan violates,
-/// and the place is the beginning of the text.
+/// Returns the diagnostic for the fault that the plan parser reports. `found` is the diagnostic
+/// that the checks found for this fault. If it is `None`, the message is the rule that the plan
+/// violates, and the place is the beginning of the text.
 fn first_of(
     alloc: Global,
     fault: PlanFault,
