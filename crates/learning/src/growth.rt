@@ -220,8 +220,8 @@ fn mark_step(reachable: &mut [bool], step: &PathStep) {
     }
 }
 
-/// Marks each class that the body of a marked class submits. Returns true if this marked a class
-/// that was not marked before.
+/// Marks each class that the body of a marked class submits. Returns true if another class is
+/// marked afterwards.
 fn propagate(classes: &Entries, reachable: &mut [bool]) -> bool {
     let mut is_more = false;
     for number in 0..classes.entries.len() {

@@ -74,7 +74,7 @@ pub(crate) fn run_pass(
     Ok(pass)
 }
 
-/// The classifier of a pass, with the actors that the current line classified.
+/// The classifier of a pass, and the actors that it classified at the current line.
 #[derive(Drop)]
 struct PassClassifier {
     classes: ActorClassifier,

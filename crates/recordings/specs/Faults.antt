@@ -18,8 +18,7 @@ reason_for before (Some line) = option_map reason.LineRule (first_broken_rule be
 abbrev pub lines_before : List (Option RecordedLine) → ℕ → List RecordedLine
 lines_before lines i = filter_map (λ line. line) (take i lines)
 
--- the reason why the line at index i is bad, or None if there is no such line or it is not bad; a text without lines breaks
--- O1
+-- the reason why the line at index i is bad; None if it is not bad or does not exist; a text without lines breaks O1
 unfoldable pub reason_at : List (Option RecordedLine) → ℕ → Option FaultReason
 reason_at [] i = Some (reason.LineRule rule.Frame)
 reason_at (line ∷ lines) i = option_and_then (reason_for (lines_before (line ∷ lines) i)) (slice_get (line ∷ lines) i)

@@ -63,7 +63,7 @@ is_excused (event.TimedOut actor job) after = is_repeated_next actor job (next_o
 is_excused (event.Interrupted actor job) after = is_repeated_next actor job (next_of actor after)
 is_excused event after = false
 
--- The invalidating event that line `number` reports, if it counts. This depends on the lines after the line.
+-- The invalidating event that line `number` reports, if it counts. Whether it counts depends on the lines after it.
 abbrev pub invalidation_of : ℕ → RecordedLine → List RecordedLine → Option Invalidation
 invalidation_of number line after = option_and_then (λ event. if is_excused event after then None else Some (record { line = number; event = event })) (event_of line)
 

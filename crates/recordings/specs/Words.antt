@@ -1,4 +1,4 @@
--- Parsers for the first word of a line. They return its value with the text after the next space.
+-- Parsers for the first word of a line. They return its value and the text after the next space.
 use Rattle.std.specs.Prelude.{ℕ, if◌then◌else◌, List, Option, Some, None}
 use Rattle.std.specs.Str.{bytes_eq}
 use Rattle.job_bodies.specs.WellFormed.{is_valid_name}

@@ -1,4 +1,4 @@
-//! An iterator over the lines of a recording that checks each line.
+//! Iteration over the lines of a recording, with a check of each line.
 
 ghost use Rattle.std.specs.Prelude.{◌≡◌, ◌≤◌, length, List, Option, IfOk};
 ghost use Rattle.recordings.specs.RecordingLine.{RecordedLine, lines_read};
@@ -10,7 +10,7 @@ use crate::trace_validator::TraceValidator;
 use crate::{BadLine, Line, RecordingLines};
 use std::alloc::{AllocError, Global};
 
-/// An iterator over the lines of a recording that checks each line. A line is bad if it has none of
+/// An iterator over the lines of a recording. It checks each line: a line is bad if it has none of
 /// the forms in `docs/RECORDING.md`, or if it breaks one of the rules O1 to O7 ([`LineRule`]).
 ///
 /// The iterator reads each line once and stores no lines. It needs as much memory as a

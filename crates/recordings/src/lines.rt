@@ -80,8 +80,8 @@ fn split_line(text: &[u8]) -> Option<(Result<Line<'_>, BadLine>, &[u8])>
     }
 }
 
-/// Splits the text at its first newline, and returns the text before the newline with the text
-/// after it. Returns `None` if the text has no newline.
+/// Splits the text at its first newline. Returns the text before the newline and the text after it,
+/// or `None` if the text has no newline.
 #[cold]
 #[inline(never)]
 fn split_whole_line(text: &[u8]) -> Option<(&[u8], &[u8])>

@@ -8,7 +8,7 @@ ghost use Rattle.recordings.specs.ActorPath as spec;
 pub enum RecordedStep {
     /// The actor submitted the job with this number.
     Submits(usize),
-    /// The actor got the job of the submit at this index of the path.
+    /// The actor got the job that it submitted at this index of the path.
     Gets(usize),
 }
 
