@@ -19,11 +19,11 @@ abbrev pub submits_through : Plan → ℕ → List ℕ → ℕ → Bool
 submits_through plan j [] k = submits_class plan j k
 submits_through plan j (next ∷ rest) k = submits_class plan j next && submits_through plan next rest k
 
--- the words for one submit
+-- the words for one submit, such as `a submits b`
 abbrev pub step_words : Plan → ℕ → ℕ → List ℕ
 step_words plan j k = ((class_at plan j).name ++ codes " submits ") ++ (class_at plan k).name
 
--- the words for one submit, before those for another
+-- the words for one submit, followed by a comma
 abbrev pub step_before : Plan → ℕ → ℕ → List ℕ
 step_before plan j k = step_words plan j k ++ codes ", "
 
@@ -44,7 +44,7 @@ circle_part plan k between = if length between == 0 then [] else codes ": " ++ s
 abbrev pub circle_words : Plan → ℕ → List ℕ → List ℕ
 circle_words plan k between = itself_words (class_at plan k).name ++ circle_part plan k between
 
--- the text reports that the class submits itself. It has a circle of submits only if the plan has this circle
+-- the text reports that the class submits itself. If it lists a circle of submits, the plan has this circle
 pub record ReportsCircle (plan : Plan) (k : ℕ) (text : List ℕ) : Type 0 where
   pub between : List ℕ
   pub circle : 0 < length between → IsTrue (submits_through plan k between k)

@@ -28,7 +28,7 @@ diagnostic_line file diagnostic = fault_line file diagnostic.place (string_bytes
 abbrev pub diagnostic_lines : List ℕ → List Diagnostic → List ℕ
 diagnostic_lines file diagnostic = flat_map (diagnostic_line file) diagnostic
 
--- the line of a number of faults that are left out
+-- the line with the number of faults that are left out; the noun is `fault` or `faults`
 abbrev pub count_line : ℕ → List ℕ → List ℕ
 count_line omitted noun = codes "... and " ++ (decimal omitted ++ (codes " more " ++ (noun ++ 10 ∷ [])))
 

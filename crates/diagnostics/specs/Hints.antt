@@ -21,7 +21,7 @@ names_no_limit text = bytes_eq text (codes "unlimited") || (bytes_eq text (codes
 abbrev pub no_limit_hint : List ℕ → List ℕ → List ℕ
 no_limit_hint key text = if can_be_unbounded key && names_no_limit text then codes "; did you mean \"unbounded\"?" else codes ""
 
--- the end of the message for a maximum without a bound over a queue with a capacity
+-- the end of the message for a maximum of `unbounded` in a pool with a bounded queue
 abbrev pub unbounded_max_hint : List ℕ
 unbounded_max_hint = codes "; max = \"unbounded\" needs queue = \"unbounded\""
 
@@ -36,7 +36,7 @@ kind_hint line =
     else (if starts_with nat_eq line (123 ∷ []) then Some (codes "this is JSON, not a plan: a certificate comes after its plan")
     else None)
 
--- the hint for a value of this key that is a word without quotes
+-- the hint for a word without quotes as the value of this key
 abbrev pub word_hint : List ℕ → Option (List ℕ)
 word_hint key =
     if bytes_eq key (codes "name") || bytes_eq key (codes "pool") then Some (codes "write quotes around the value, as in pool = \"web\"")

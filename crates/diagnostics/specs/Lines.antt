@@ -9,7 +9,7 @@ use Rattle.std.specs.Str.{chars, encode_utf8_all}
 abbrev pub HasNoNewline : List ℕ → Type 0
 HasNoNewline text = All (λ byte. byte ≢ 10) text
 
--- a character in a message: a control character with a backslash, as Rust's `escape_default` writes it, and any other as it is
+-- a character as messages print it: a control character is escaped as by Rust's `escape_default`, any other is unchanged
 unfoldable pub plain : ℕ → List ℕ
 plain c = if is_control c then escape_default c else c ∷ []
 
@@ -17,7 +17,7 @@ plain c = if is_control c then escape_default c else c ∷ []
 abbrev pub one_line : List ℕ → List ℕ
 one_line text = encode_utf8_all (flat_map plain (chars text))
 
--- the text is this number of lines: each ends with a newline and has no other
+-- the text consists of `count` lines: each ends with a newline and has no other newline
 pub record IsLines (count : ℕ) (text : List ℕ) : Type 0 where
   pub lines : List (List ℕ)
   pub number : length lines ≡ count

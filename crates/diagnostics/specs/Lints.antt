@@ -78,7 +78,7 @@ brings_jobs marks p k class = slice_index_or marks k false && class.pool == p
 abbrev pub gets_a_job : Plan → List Bool → ℕ → Bool
 gets_a_job plan marks p = list_any (λ (entry : ℕ × Class). brings_jobs marks p entry.0 entry.1) (enumerate_from 0 plan.classes)
 
--- the pool starts threads above its core size if a submit finds its queue full, and in no other case: its queue is bounded, its core
+-- the pool starts threads above its core size exactly when a submit finds its queue full: its queue is bounded, its core
 -- threads never time out, and its maximum is above its core size
 abbrev pub grows_if_full : Pool → Bool
 grows_if_full pool = not pool.unbounded && not pool.core_timeout && nat_lt pool.core pool.max
@@ -87,28 +87,28 @@ grows_if_full pool = not pool.unbounded && not pool.core_timeout && nat_lt pool.
 abbrev pub is_far_above : Pool → ℕ → Bool
 is_far_above pool most = nat_lt (max most 1) (pool.queue / 10)
 
--- the pool starts threads above its core size only if its queue is full, and its queue holds the `most` jobs that can be in it at once
+-- the pool starts threads above its core size only if its queue is full, and the queue holds all `most` jobs
 abbrev pub has_useless_max : Pool → ℕ → Bool
 has_useless_max pool most = grows_if_full pool && nat_le most pool.queue
 
--- the plan says that the pool may reject jobs, but its queue holds the `most` jobs that can be in it at once
+-- the plan says that the pool may reject jobs, but its queue holds all `most` jobs that can be in it at once
 abbrev pub never_rejects : Pool → ℕ → Bool
 never_rejects pool most = pool.may_reject && nat_le most pool.queue
 
--- the lints of pool p if at most `most` jobs are in its queue at once: a maximum or a key `may_reject` without effect, and a queue that is
--- far larger than needed
+-- the lints of pool p if at most `most` jobs are in its queue at once: a maximum without effect, a key `may_reject` without
+-- effect, and a queue that is far larger than needed
 abbrev pub lints_of_known_sizes : ℕ → Pool → ℕ → List Lint
 lints_of_known_sizes p pool most =
     only_if (has_useless_max pool most) (UselessMax p) ++ (only_if (never_rejects pool most) (UselessMayReject p most) ++ only_if (is_far_above pool most) (QueueFarAbove p most))
 
--- the lints of the sizes and of the key `may_reject` of a pool with a bounded queue; none if the maximum number of jobs in its queue is not
--- known
+-- the lints of the sizes and of the key `may_reject` of a pool with a bounded queue. There are none if the maximum number of
+-- jobs in its queue is not known
 abbrev pub lints_of_bounded : ℕ → Pool → Option ℕ → List Lint
 lints_of_bounded p pool None = []
 lints_of_bounded p pool (Some most) = lints_of_known_sizes p pool most
 
--- the lints of the sizes and of the key `may_reject` of any pool; if its queue is unbounded, it never rejects, and the only lint is that
--- the key has no effect
+-- the lints of the sizes and of the key `may_reject` of any pool. A pool with an unbounded queue never rejects, so its only
+-- lint is that the key has no effect
 abbrev pub lints_of_sizes : ℕ → Pool → Option ℕ → List Lint
 lints_of_sizes p pool most = if pool.unbounded then only_if pool.may_reject (NeverRejects p) else lints_of_bounded p pool most
 
@@ -128,7 +128,7 @@ abbrev pub is_work : Action → Bool
 is_work (Work u) = true
 is_work _ = false
 
--- the plan says that the pool of the class may reject jobs, its queue may be too small, and the body of the class has submits or gets
+-- the pool of the class may reject jobs (see `may_reject_jobs`), and the body of the class has submits or gets
 abbrev pub may_run_in_caller : Plan → List (Option ℕ) → Class → Bool
 may_run_in_caller plan needed class = may_reject_jobs plan needed class.pool && not (list_all is_work class.body)
 
@@ -142,8 +142,8 @@ lints_of_classes plan needed marks = flat_map (λ (entry : ℕ × Class). lints_
 
 -- ---- client kinds
 
--- the pool is small for `count` clients: it must not reject jobs, has one core thread, and has a bounded queue with fewer than `count`
--- places
+-- the pool is small for `count` clients: it must not reject jobs, has one core thread, and has a bounded queue with a capacity
+-- below `count`
 abbrev pub is_small : ℕ → Pool → Bool
 is_small count pool = pool.core == 1 && nat_lt pool.queue count && not (needs_no_bound pool)
 
@@ -171,8 +171,8 @@ without_clients plan = if length plan.pools == 0 then NothingToAsk else NoClient
 abbrev pub lints_of_parts : Plan → List (Option ℕ) → List Bool → List Lint
 lints_of_parts plan needed marks = lints_of_pools plan needed marks ++ lints_of_classes plan needed marks ++ lints_of_clients plan needed
 
--- the lints of a plan: one lint of the whole plan if such a lint applies, and otherwise the lints of its parts. For each pool, `needed` has
--- the maximum number of jobs in its queue at once, if it is known. For each class, `marks` has whether it is submitted
+-- the lints of a plan: one of the whole plan if such a lint applies, and otherwise those of its parts. `needed` has, for each
+-- pool, the maximum number of jobs in its queue at once, if known. `marks` has, for each class, whether it is submitted
 abbrev pub lints : Plan → List (Option ℕ) → List Bool → List Lint
 lints plan needed marks =
     if length plan.clients == 0 then without_clients plan ∷ [] else
@@ -192,7 +192,7 @@ lints_of_cause (Some cause) = lint_of_cause cause ∷ []
 
 -- ---- unbounded queues that may grow without limit
 
--- the action at position i of the body submits a job to a pool with an unbounded queue, and the body has no get of it
+-- the action at position i of the body submits a job to a pool with an unbounded queue, and the body has no get of the job
 abbrev pub fills_queue : Plan → List Action → ℕ → Action → Bool
 fills_queue plan body i (Submit k) = (pool_at plan (class_at plan k).pool).unbounded && not (has_get_of body i)
 fills_queue plan body i _ = false
@@ -201,7 +201,7 @@ fills_queue plan body i _ = false
 abbrev pub growing_of_body : Plan → Part → ℕ → List Action → List Lint
 growing_of_body plan of number body = flat_map (λ (entry : ℕ × Action). only_if (fills_queue plan body entry.0 entry.1) (QueueMayGrow of number entry.0)) (enumerate_from 0 body)
 
--- the lints of a class: those of its body if repeating clients submit the class, directly or through other jobs, and otherwise none
+-- the lints of a class: those of its body if repeating clients submit it, directly or through other jobs, and otherwise none
 abbrev pub growing_of_class : Plan → List Bool → ℕ → Class → List Lint
 growing_of_class plan repeated k class = if slice_index_or repeated k false then growing_of_body plan part.Class k class.body else []
 
@@ -215,8 +215,8 @@ growing_of_classes plan repeated = flat_map (λ (entry : ℕ × Class). growing_
 abbrev pub growing_of_clients : Plan → List Lint
 growing_of_clients plan = flat_map (λ (entry : ℕ × Client). growing_of_client plan entry.0 entry.1) (enumerate_from 0 plan.clients)
 
--- a lint for each submit that repeating clients cause, if the queue of its pool is unbounded and its body has no get of it. For each class,
--- `repeated` has whether repeating clients submit it
+-- a lint for each submit that repeating clients cause, if the queue of its pool is unbounded and its body has no get of the
+-- job. `repeated` has, for each class, whether repeating clients submit it
 abbrev pub growing_lints : Plan → List Bool → List Lint
 growing_lints plan repeated = growing_of_classes plan repeated ++ growing_of_clients plan
 
@@ -228,8 +228,8 @@ abbrev pub all_lints : Plan → List (Option ℕ) → Bool → Option Cause → 
 all_lints plan needed safe_at_core cause marks repeated =
     only_if safe_at_core SafeAtCore ++ lints_of_cause cause ++ growing_lints plan repeated ++ lints plan needed marks
 
--- the list `found` has all lints of the plan. `marks` has the classes that clients submit, directly or through other jobs, and `repeated`
--- those that repeating clients submit. `cause` is a cause of the plan, or None if the plan has none
+-- `found` has all lints of the plan. `marks` has the classes that clients submit, directly or through other jobs, and
+-- `repeated` those that repeating clients submit. `cause` is a cause of the plan, or None if the plan has none
 pub record AreLints (plan : Plan) (needed : List (Option ℕ)) (safe_at_core : Bool) (found : List Lint) : Type 0 where
   pub marks : List Bool
   pub submitted : MarksSubmitted plan marks
@@ -240,7 +240,7 @@ pub record AreLints (plan : Plan) (needed : List (Option ℕ)) (safe_at_core : B
   pub none : IfNone cause (IsWithoutCause plan)
   pub is : found ≡ all_lints plan needed safe_at_core cause marks repeated
 
--- the lint is a note: whether it matters depends on the handler of a pool or on the code around a submit, about which a plan says nothing
+-- the lint is a note: whether it matters depends on a pool's handler or on the code around a submit, which no plan describes
 abbrev pub is_note : Lint → Bool
 is_note (RunInCaller k) = true
 is_note (OpenFuture of number place) = true

@@ -1,5 +1,5 @@
--- The futures that are open at a position of a body. A future is open there if its job was submitted before the position, and its get comes
--- after the position.
+-- The futures that are open at a position of a body. A future is open there if its job was submitted before the position, and
+-- its get comes after the position.
 use Rattle.std.specs.Prelude.{ℕ, Bool, false, ◌&&◌, nat_lt, List}
 use Rattle.std.specs.List.{list_any, enumerate_from}
 use Rattle.job_bodies.specs.declared.action.Action.{Action}

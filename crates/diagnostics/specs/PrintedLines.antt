@@ -9,10 +9,10 @@ use Rattle.diagnostics.specs.Lines.{HasNoNewline, IsLines}
 abbrev pub line_count : Faults → ℕ
 line_count faults = 1 + length faults.others.items + (if faults.omitted == 0 then 0 else 1)
 
--- faults are printed in a line each, if neither the file's name nor a message has a newline
+-- each fault is printed on a line of its own, if neither the file's name nor a message has a newline
 abbrev pub EachFaultIsALine : Type 0
 EachFaultIsALine = (file : List ℕ) (faults : Faults) → HasNoNewline file → HaveSingleLines faults → IsLines (line_count faults) (faults_text file faults)
 
--- warnings are printed in a line each, if neither the file's name nor a message has a newline
+-- each warning is printed on a line of its own, if neither the file's name nor a message has a newline
 abbrev pub EachWarningIsALine : Type 0
 EachWarningIsALine = (file : List ℕ) (warnings : List Warning) → HasNoNewline file → WarnInSingleLines warnings → IsLines (length warnings) (warnings_text file warnings)

@@ -1,4 +1,4 @@
--- What the messages of warnings promise.
+-- What the contracts promise about the messages of warnings.
 use Rattle.std.specs.Prelude.{◌≡◌, ℕ, List, string_bytes, ⊤}
 use Rattle.job_bodies.specs.Plan.{Plan}
 use Rattle.diagnostics.specs.declared.lint.Lint.{Lint}
@@ -7,7 +7,7 @@ use Rattle.diagnostics.specs.declared.warnings.Warning.{Warning}
 use Rattle.diagnostics.specs.Circles.{ReportsCircle}
 use Rattle.diagnostics.specs.Lines.{one_line}
 
--- a circle of submits in the words is one of the plan; words for other lints can be any
+-- if the words for `SubmitsItself` list a circle of submits, the plan has this circle; words for other lints can be any
 abbrev pub AreWordsFor : Plan → Lint → List ℕ → Type 0
 AreWordsFor plan (SubmitsItself k) words = ReportsCircle plan k words
 AreWordsFor plan _ words = ⊤

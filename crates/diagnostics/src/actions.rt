@@ -7,8 +7,8 @@ use crate::suggestions::suggestion;
 use job_bodies::{MAX_WORK, is_valid_name};
 use std::alloc::{AllocError, Global};
 
-/// A parsed action of a body: a `work`, a submit or a get. The fields are the class of the
-/// submitted job, and the name under which the action submits or gets a job.
+/// A parsed action of a body, such as `submit query as q`. The fields are the class and the name of
+/// the job, here `query` and `q`. A submit without `as` has no name, and a get has no class.
 #[derive(Clone, Copy)]
 pub(crate) enum ParsedAction<'a> {
     Work,
@@ -102,8 +102,8 @@ fn is_length(text: &str) -> bool {
     }
 }
 
-/// Returns the valid range for the length of a `work` action, if the text looks like one with an
-/// invalid length. The text must not be a valid action. Returns `None` if
+/// Returns the valid range of lengths if the text looks like a `work` action with an invalid
+/// length, such as `work 0`. The text must not be a valid action. Returns `None` if
 ///
 /// - the first word of the text is not `work`, or there is no second word,
 /// - the text has wrong spaces, or
@@ -222,8 +222,8 @@ fn submit_form(alloc: Global, class: &str) -> Result<String, AllocError> {
     format!(in alloc; "write submit {class}, or submit {class} as NAME if its result is needed")
 }
 
-/// Returns the message for a text that is not an action because its first word is no verb of an
-/// action.
+/// Returns the message for a text whose first word is not `work`, `submit` or `get`. `verb` is the
+/// first word of the text, and `first` is the second one.
 fn verb_error(alloc: Global, verb: &str, first: &str) -> Result<String, AllocError> {
     match verb {
         "execute" | "invoke" | "start" | "schedule" => submit_form(alloc, first),

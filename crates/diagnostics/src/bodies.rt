@@ -11,7 +11,7 @@ use std::alloc::{AllocError, Global};
 use support::number::{BAD_ACTION, NO_SUCH_CLASS, SLOT_EMPTY, SLOT_OPEN};
 use toml::Value;
 
-/// A name under which an action submitted a job.
+/// The name of a submitted job, such as `q` in `submit query as q`.
 #[derive(Clone, Copy)]
 struct Slot<'a> {
     name: &'a str,
@@ -222,8 +222,8 @@ fn check_get<'a>(
 }
 
 /// Records that the action with the index `action` gets the job that was submitted under this name.
-/// Changes nothing if there is no such job, or if an earlier action got it. Returns which of these
-/// three cases holds.
+/// Changes nothing if there is no such job, or if an earlier action got it. The result says whether
+/// this action gets the job, an earlier action got it, or there is no such job.
 fn mark_as_got(slots: &mut [Slot<'_>], name: &str, action: usize) -> Marked {
     let mut marked = Marked::Missing;
     for slot in slots.iter_mut() {

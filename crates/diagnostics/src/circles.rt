@@ -64,8 +64,8 @@ impl CircleSearch {
     }
 }
 
-/// Returns the classes through which the class submits itself, in the order of the submits, by a
-/// shortest way. The list is empty if the class submits itself directly, or does not submit itself.
+/// Returns the other classes on a shortest circle of submits from the class back to itself, in
+/// order. The list is empty if the class submits itself directly, or does not submit itself.
 pub(crate) fn classes_between(
     alloc: Global,
     plan: &Plan,

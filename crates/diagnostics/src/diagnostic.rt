@@ -17,7 +17,7 @@ pub struct NumberRange {
 /// A diagnostic for one fault.
 #[derive(Drop)]
 pub struct Diagnostic {
-    /// The number and the position of the fault, as other commands print them.
+    /// The number of the fault, and its entry and action. Other commands print these.
     pub fault: PlanFault,
     /// The place of the fault in the text.
     pub place: TextPlace,

@@ -109,8 +109,8 @@ impl<'a> PlacedEntry<'a> {
         }
     }
 
-    /// Reports a fault of the entry. The message begins with the kind and name of the entry, as in
-    /// `pool db: `, and continues with `words`.
+    /// Reports fault `number` of the entry, at `place`. The message begins with the kind and name
+    /// of the entry, as in `pool db: `, and continues with `words`.
     pub(crate) fn report(
         &self,
         collector: &mut FaultCollector,
@@ -121,9 +121,9 @@ impl<'a> PlacedEntry<'a> {
         self.report_with_range(collector, number, place, words, None)
     }
 
-    /// Reports a fault of the entry. The message begins with the kind and name of the entry, as in
-    /// `pool db: `, and continues with `words`. If the fault is a number that is out of range,
-    /// `range` is the valid range.
+    /// Reports fault `number` of the entry, at `place`. The message begins with the kind and name
+    /// of the entry, as in `pool db: `, and continues with `words`. `range` is the valid range if
+    /// the fault is a number that is out of range.
     pub(crate) fn report_with_range(
         &self,
         collector: &mut FaultCollector,
@@ -143,9 +143,9 @@ impl<'a> PlacedEntry<'a> {
         })
     }
 
-    /// Reports a fault of an action. The message begins with, for example, `class page, action 1
-    /// "get row": `, and continues with `words`. If the fault is a number that is out of range,
-    /// `range` is the valid range.
+    /// Reports fault `number` of an action with this `text`. The message begins, for example, with
+    /// `class page, action 1 "get row": `, and continues with `words`. `range` is the valid range
+    /// if the fault is a number that is out of range.
     pub(crate) fn report_action(
         &self,
         collector: &mut FaultCollector,

@@ -3,8 +3,8 @@
 ghost use Rattle.std.specs.Prelude.{◌≡◌, option_map};
 ghost use Rattle.diagnostics.specs.Hints as spec;
 
-/// Returns the end of the message for a size of 0. It says what to write instead, or which page
-/// explains the size 0. It is empty if the key is not `queue` or `core`.
+/// Returns the end of the message for a size of 0. For the keys `queue` and `core`, the end says
+/// what to write and which page to read. For any other key, the end is empty.
 pub(crate) fn zero_hint(key: &str) -> &'static str
     ensures { result.now ≡ spec.zero_hint key.now }
 {
@@ -15,9 +15,9 @@ pub(crate) fn zero_hint(key: &str) -> &'static str
     }
 }
 
-/// Returns the end of the message for a string in place of a number. The end asks whether
-/// `unbounded` was meant, if the key is `max` or `queue` and the string is `unlimited`, `infinite`
-/// or `none`. Otherwise the end is empty.
+/// Returns the end of the message for a string in place of a number. If the key is `max` or `queue`
+/// and the string is `unlimited`, `infinite` or `none`, the end asks whether `unbounded` was meant.
+/// Otherwise the end is empty.
 pub(crate) fn no_limit_hint(key: &str, text: &str) -> &'static str
     ensures { result.now ≡ spec.no_limit_hint key.now text.now }
 {
@@ -73,8 +73,8 @@ pub(crate) fn kind_hint(line: &str) -> Option<&'static str>
     None
 }
 
-/// Returns a hint for a value of this key that is a word without quotes. The hint says what to
-/// write instead. Returns `None` if the key is `body` or unknown.
+/// Returns a hint for a word without quotes as the value of this key. The hint says what to write
+/// instead of the word. Returns `None` if the key is `body` or unknown.
 pub(crate) fn word_hint(key: &str) -> Option<&'static str>
     ensures { option_map (λ hint. hint.now) result ≡ spec.word_hint key.now }
 {

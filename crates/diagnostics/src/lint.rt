@@ -10,9 +10,9 @@ use job_bodies::Part;
 /// client kinds and actions by their numbers, which begin at 0.
 #[derive(Clone, Copy)]
 pub enum Lint {
-    /// A certificate accepts the plan even if each maximum is lowered to the core size of its pool,
-    /// as [`at_core`](crate::at_core) lowers it. The caller that searched for this certificate
-    /// provides the fact.
+    /// A certificate accepts the plan with the lowered maximums that [`at_core`](crate::at_core)
+    /// returns. The checks of the plan do not search for this certificate: their caller states that
+    /// there is one.
     SafeAtCore,
     /// This class submits itself, directly or through other classes.
     SubmitsItself(usize),
@@ -42,8 +42,8 @@ pub enum Lint {
     /// The plan says that this pool may reject jobs, but the pool never does, because its queue is
     /// unbounded.
     NeverRejects(usize),
-    /// The queue capacity of this pool is more than ten times the second field. The second field is
-    /// the maximum number of jobs in the queue at once.
+    /// The capacity of this pool's queue is more than ten times the maximum number of jobs in the
+    /// queue at once. The second field is this maximum number.
     QueueFarAbove(usize, u64),
     /// No client submits this class, directly or through other jobs.
     ClassWithoutJobs(usize),
@@ -53,13 +53,13 @@ pub enum Lint {
     RunInCaller(usize),
     /// This client kind does not repeat: each client of this kind goes through its body once.
     GoesOnce(usize),
-    /// This client kind has many clients for the small pools to which they submit jobs. Each of
-    /// these pools must not reject jobs, and has one core thread and a bounded queue. The capacity
-    /// of each of these queues is below the number of clients of the kind.
+    /// The pools to which this client kind submits jobs are small for the number of its clients.
+    /// Each of these pools must not reject jobs, has one core thread, and has a bounded queue. The
+    /// capacity of the queue is below the number of clients of the kind.
     Crowd(usize),
-    /// The length of a `work` in the body of a class or client kind is also a size of a pool or the
-    /// count of a client kind. The length is at least 50 units. The fields are the kind of entry
-    /// (class or client kind), the number of the entry, the number of the action, and the length.
+    /// The body of a class or client kind has a `work` of at least 50 units, and its length is also
+    /// a size of a pool or the count of a client kind. The fields are the kind of entry (class or
+    /// client kind), the number of the entry, the number of the action, and the length.
     WorkLikeASize(Part, usize, usize, u32),
     /// The body of a class or client kind submits a job that its pool may reject, while a future is
     /// open. This means that the submit is between another submit and the get of that other submit.

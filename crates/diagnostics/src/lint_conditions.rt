@@ -8,12 +8,12 @@ ghost use Rattle.diagnostics.specs.Lints as spec;
 use crate::open_futures::has_open_future;
 use job_bodies::{Action, Class, Client, Plan, Pool, has_get_of};
 
-/// The number by which [`is_far_above`] divides the capacity of a queue before it compares the
-/// result with the maximum number of jobs in the queue.
+/// The factor of [`is_far_above`]: the capacity of a queue is far above a number of jobs if the
+/// capacity divided by this factor exceeds the number.
 const FAR_ABOVE: u64 = 10;
 
-/// The least length, in units, of a `work` for which a lint reports that the length is also a size
-/// of a pool or the count of a client kind.
+/// The least length of a `work`, in units, for which [`looks_like_a_size`] can return true. Shorter
+/// lengths are not compared with the sizes and counts of the plan.
 const LIKE_A_SIZE: u32 = 50;
 
 /// Returns whether clients submit the class with this number, directly or through other jobs.
@@ -44,8 +44,8 @@ pub(crate) fn most_at(needed: &[Option<u64>], pool: usize) -> Option<u64>
     }
 }
 
-/// Returns whether clients submit a class that runs in the pool with this number, directly or
-/// through other jobs. `marks` has, for each class, whether clients submit it.
+/// Returns whether clients submit jobs to the pool with this number, directly or through other
+/// jobs. `marks` has, for each class, whether clients submit it.
 pub(crate) fn gets_a_job(plan: &Plan, marks: &[bool], pool: usize) -> bool
     ensures { result ≡ spec.gets_a_job plan.now marks.now pool }
 {
@@ -61,10 +61,10 @@ fn brings_jobs(marks: &[bool], number: usize, class: &Class, pool: usize) -> boo
     is_submitted(marks, number) && class.pool == pool
 }
 
-/// Returns whether the pool starts threads above its core size if a submit finds its queue full, and
-/// in no other case: its maximum is above its core size, its queue is bounded, and its core threads
-/// never time out. If core threads may time out, the pool can start such a thread to replace one
-/// that ended, even if its queue is never full.
+/// Returns whether the pool starts threads above its core size exactly when a submit finds its
+/// queue full. Such a pool has a maximum above its core size, a bounded queue, and core threads
+/// that never time out. If core threads may time out, the pool can start a thread above its core
+/// size to replace one that ended, even if its queue is never full.
 pub(crate) fn grows_if_full(pool: &Pool) -> bool
     ensures { result ≡ spec.grows_if_full pool.now }
 {
@@ -116,9 +116,9 @@ fn is_work(action: Action) -> bool
     matches!(action, Action::Work(_))
 }
 
-/// Returns whether the action at this position of the body submits a job that may be rejected while
-/// a future is open. `class` is the class of this job. `needed` has, for each pool, the maximum
-/// number of jobs in its queue at once, if it is known.
+/// Returns whether a future is open at this position of the body (see [`has_open_future`]), and the
+/// job of class `class` that the action submits there may be rejected. `needed` has, for each pool,
+/// the maximum number of jobs in its queue at once, if it is known.
 pub(crate) fn leaves_a_future(
     plan: &Plan,
     needed: &[Option<u64>],
@@ -155,8 +155,8 @@ fn holds_all(pool: &Pool, most: Option<u64>) -> bool
     }
 }
 
-/// Returns whether the action at this position of the body submits a job that the body never gets,
-/// to a pool with an unbounded queue.
+/// Returns whether the action at this position submits a job to a pool with an unbounded queue, and
+/// the body has no get of this job.
 pub(crate) fn fills_queue(plan: &Plan, body: &[Action], position: usize, action: Action) -> bool
     ensures { result ≡ spec.fills_queue plan.now body.now position action }
 {
@@ -205,8 +205,8 @@ fn submits_to_small_alone(plan: &Plan, count: u64, body: &[Action]) -> bool
     body.iter().all(|action| is_for_small(plan, count, *action))
 }
 
-/// Returns `false` if the action submits a job to a pool that is not small for `count` clients, as
-/// [`is_small`] defines it. Otherwise returns `true`.
+/// Returns whether the action is no submit, or submits a job to a pool that is small for `count`
+/// clients (see [`is_small`]).
 fn is_for_small(plan: &Plan, count: u64, action: Action) -> bool
     ensures { result ≡ spec.is_for_small plan.now count action }
 {
@@ -264,8 +264,8 @@ fn is_size_of_any(pools: &[Pool], number: u64) -> bool
     pools.iter().any(|pool| has_size(pool, number))
 }
 
-/// Returns whether the number is a size of the pool that has an effect. If the queue of the pool is
-/// unbounded, its capacity does not count, and its maximum counts only if core threads may time out.
+/// Returns whether the number is a size of the pool that has an effect. If the queue is unbounded,
+/// the capacity has no effect, and the maximum has one only if core threads may time out.
 fn has_size(pool: &Pool, number: u64) -> bool
     ensures { result ≡ spec.has_size number pool.now }
 {

@@ -17,8 +17,8 @@ use std::alloc::{AllocError, Global};
 ///
 /// - `needed` has, for each pool, the maximum number of jobs in its queue at once, or `None` if it
 ///   is not known.
-/// - `is_safe_at_core` says that a certificate accepts the plan with lowered maximums, as
-///   [`at_core`](crate::at_core) returns it.
+/// - `is_safe_at_core` says whether a certificate accepts the plan with the lowered maximums that
+///   [`at_core`](crate::at_core) returns.
 pub(crate) fn lints_of(
     alloc: Global,
     plan: &Plan,

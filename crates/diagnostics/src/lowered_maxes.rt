@@ -1,4 +1,4 @@
-//! Plans whose pools start no threads above their cores because of a full queue.
+//! Plans in which maximums are lowered to the core sizes of their pools.
 
 ghost use Rattle.std.specs.Prelude.{◌≡◌, IfOk, map};
 ghost use Rattle.job_bodies.specs.WellFormed.{IsWellFormed};
@@ -10,12 +10,12 @@ use crate::lint_conditions::grows_if_full;
 use job_bodies::{Plan, Pool};
 use std::alloc::{AllocError, Global};
 
-/// Returns whether some pool starts threads above its core size only if its queue is full, and no
-/// pool of this kind may reject jobs. Such a pool has a bounded queue, a maximum above its core
-/// size, and core threads that never time out.
+/// Returns whether [`at_core`] is useful: some pool starts threads above its core size only if its
+/// queue is full, and no such pool may reject jobs. Such a pool has a bounded queue, a maximum
+/// above its core size, and core threads that never time out.
 ///
-/// With a lower maximum, a pool that may reject jobs can reject more jobs, for which clients then
-/// do not wait. So the plan with lowered maximums would say nothing about the plan itself.
+/// A pool that may reject jobs can reject more with a lower maximum, and clients do not wait for
+/// rejected jobs. So the plan with lowered maximums would say nothing about the plan itself.
 pub fn can_be_lowered(plan: &Plan) -> bool
     ensures { result ≡ spec.can_be_lowered plan.now }
 {

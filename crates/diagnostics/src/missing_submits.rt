@@ -34,8 +34,8 @@ pub(crate) fn missing_submit(
 }
 
 /// Returns the end of the message for a get of a name under which no earlier action submits a job.
-/// If none of the following causes applies, this is the result of [`no_submit_before`]. Otherwise
-/// it states the first of them that applies:
+/// If none of these causes applies, the end is the result of [`no_submit_before`]. Otherwise it
+/// states the first cause that applies:
 ///
 /// 1. An earlier submit without `as` of a class that has this name.
 /// 2. A similar name under which an earlier action submits a job.
@@ -62,10 +62,10 @@ fn likely_cause(
     }
 }
 
-/// Returns the end of the message for a get if each earlier submit has an `as`, and no name is
-/// similar. The end lists `names`, the names of the earlier submits. If there are no earlier
-/// submits, it says which submit to write. It also names the first later submit without `as`, if
-/// there is one.
+/// Returns the end of the message for a get of `name` if each earlier submit has a name, and none
+/// of these names is similar. The end lists `names`, the names of the earlier submits. If there are
+/// no earlier submits, the end says which submit to write. It then also names the first later
+/// submit without `as`, if there is one.
 fn no_submit_before(
     alloc: Global,
     body: &[Value],

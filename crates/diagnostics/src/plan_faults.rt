@@ -16,9 +16,9 @@ use plan_text::{Places, TextPlace};
 use std::alloc::{AllocError, Global};
 use toml::Table;
 
-/// Returns the faults of a plan's text that the plan parser rejects with `fault`. The first is
-/// `fault`, and the others are those that further checks find. The result has at most 100 faults,
-/// and the number of further faults. Each message is a single line.
+/// Returns the faults of a text that the plan parser rejects with `fault`. The first fault is
+/// `fault`, and further checks find the others. The result has at most 100 faults, and the number
+/// of faults beyond them. Each message is a single line.
 ///
 /// # Errors
 ///
@@ -40,9 +40,9 @@ pub fn faults_of(alloc: Global, text: &[u8], fault: PlanFault) -> Result<Faults,
     })
 }
 
-/// Returns the diagnostic for the fault that the plan parser reports. `found` is the diagnostic of
-/// the checks for this fault. If `found` is `None`, the message is the rule that the plan violates,
-/// and the place is the beginning of the text.
+/// Returns the diagnostic for the fault that the plan parser reports. `found` is the diagnostic
+/// that the checks found for this fault. If it is `None`, the message is the rule that the plan
+/// violates, and the place is the beginning of the text.
 fn first_of(
     alloc: Global,
     fault: PlanFault,

@@ -87,8 +87,8 @@ fn key_rule(key: &'static str) -> Option<KeyRule> {
     Some(KeyRule { key, wanted, hint })
 }
 
-/// Returns the key of a plan with the same meaning as `key`, which is a key of Java or of another
-/// configuration format. Returns `None` if there is no such key of a plan.
+/// Returns the key of a plan for a key of Java or of another configuration format, such as `core`
+/// for `corePoolSize`. Returns `None` if there is no such key of a plan.
 fn plan_key_for(key: &str) -> Option<&'static str> {
     match key {
         "corePoolSize" | "corepoolsize" | "core_pool_size" | "threads" | "size" => Some("core"),
@@ -140,7 +140,7 @@ fn unknown_key(
 }
 
 /// Returns the end of the message for a key that an entry of this kind cannot have. The end
-/// suggests another key.
+/// suggests another key, or lists all keys.
 fn key_suggestion(alloc: Global, part: Part, key: &str) -> Result<String, AllocError> {
     match plan_key_for(key) {
         Some(name) if has_key(part, name) => format!(in alloc; "; use {name}"),

@@ -249,7 +249,7 @@ fn entry_of<'a>(
     }
 }
 
-/// Reports an entry that is a value of this type, and not a table.
+/// Reports an entry that is not a table. `found` is the type of its value.
 fn no_table(
     collector: &mut FaultCollector,
     part: Part,

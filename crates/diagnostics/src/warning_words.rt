@@ -187,9 +187,9 @@ fn open_class<'a>(plan: &'a Plan, body: &[Action], position: usize) -> &'a str {
     ""
 }
 
-/// Returns the text of a submit as it is written at this place of the plan's text. If there is no
-/// string at this place, returns the text of a submit without `as` of the class that the action
-/// submits.
+/// Returns the text of the submit at index `action`, as it is written at this place of the plan's
+/// text. If there is no string at this place, returns `submit CLASS` with the name of the submitted
+/// class.
 fn submit_text(
     alloc: Global,
     text: &[u8],

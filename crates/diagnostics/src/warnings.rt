@@ -33,7 +33,7 @@ pub struct Warning {
 /// - `text` is the plan's text.
 /// - `needed` has, for each pool, the maximum number of jobs in its queue at once, or `None` if
 ///   this number is not known.
-/// - `is_safe_at_core` says that a certificate accepts the plan that [`at_core`] returns.
+/// - `is_safe_at_core` says whether a certificate accepts the plan that [`at_core`] returns.
 ///
 /// Each message is a single line. If a message lists submits by which a class submits itself, the
 /// plan has these submits. The contract promises nothing else about places and messages.

@@ -39,8 +39,7 @@ ended_of kinds kind lines = count_by (ends_one kinds kind) lines
 abbrev pub open_of : Kinds → ℕ → List RecordedLine → ℕ
 open_of kinds kind lines = begun_of kinds kind lines - ended_of kinds kind lines
 
--- `most` is the maximum number of rounds of the kind that were open at once: no prefix of the lines leaves more of them open, and some
--- prefix leaves this many open.
+-- After each prefix of the lines, at most `most` rounds of the kind are open. After some prefix, exactly `most` are open.
 pub record IsMostAtOnce (kinds : Kinds) (kind : ℕ) (lines : List RecordedLine) (most : ℕ) : Type 0 where
   pub never_more : (n : ℕ) → open_of kinds kind (take n lines) ≤ most
   pub once : (n : ℕ) × (open_of kinds kind (take n lines) ≡ most)
@@ -74,8 +73,8 @@ pub record IsCrowded (lines : List RecordedLine) : Type 0 where
   pub beyond : MAX_SIZE < most
 
 -- ---- the clients of a kind
--- The client kind's count is the maximum number of its rounds that were open at once, and at least 1. The client kind repeats exactly when
--- more of its rounds began than were open at once.
+-- The count of the client kind is the maximum number of its rounds that were open at once, and at least 1. The client kind
+-- repeats exactly when more of its rounds began than were open at once.
 pub record IsCounted (kinds : Kinds) (lines : List RecordedLine) (kind : ℕ) (client : Client) : Type 0 where
   pub most : ℕ
   pub concurrent : IsMostAtOnce kinds kind lines most
@@ -85,8 +84,8 @@ pub record IsCounted (kinds : Kinds) (lines : List RecordedLine) (kind : ℕ) (c
 abbrev pub client_names : List Client → List (List ℕ)
 client_names clients = map (λ client. client.name) clients
 
--- Each round has a client kind whose name belongs to the family of the round's label. The count of each client kind, and whether it
--- repeats, are those of its rounds.
+-- Each round has a client kind whose name belongs to the family of the round's label. The rounds of a client kind determine
+-- its count and whether it repeats.
 pub record AreCounted (lines : List RecordedLine) (clients : List Client) : Type 0 where
   pub kinds : Kinds
   pub of_kinds : AreOfKinds kinds (client_names clients) lines

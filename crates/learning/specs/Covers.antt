@@ -1,4 +1,4 @@
--- Bodies that cover paths: every path of a list matches them.
+-- Bodies that cover paths. A body covers paths if each of them matches it.
 use Rattle.std.specs.Prelude.{◌≡◌, ◌≤◌, Bool, true, false, List, [], length, filter}
 use Rattle.std.specs.List.{All}
 use Rattle.std.specs.declared.alloc.Global.{Global}
@@ -33,7 +33,8 @@ pub record IsCovering (kind : ActorKind) (body : List Action) (paths : List (Vec
   pub valid_gets : HasValidGets body
   pub no_work : work_of body ≡ []
 
--- The body is valid in a plan, each of the paths matches it, and each of their jobs can have at most one of its classes.
+-- The body is valid in a plan, and each of the paths matches it. Each job of a path can have at most one of the body's
+-- classes.
 pub record IsSurelyCovering (kind : ActorKind) (body : List Action) (paths : List (Vec PathStep Global)) : Type 0 where
   pub covers : Covers kind body paths
   pub short : length body ≤ MAX_ACTIONS

@@ -41,8 +41,8 @@ abbrev pub IsLearnErrorAt : List (Option RecordedLine) → LearnError → Type 0
 IsLearnErrorAt all (Memory error) = IsLearnError (well_formed all) (Memory error)
 IsLearnErrorAt all (InferenceLimit reason) = IsFirstFault all None × IsLearnError (well_formed all) (InferenceLimit reason)
 
--- The new counters are the old ones, each incremented if the line is one that it counts. The pools, the draft and the rounds of each label
--- are unchanged.
+-- Each counter is incremented if the line is one that it counts. The pools, the draft and the rounds of each label are
+-- unchanged.
 pub record Counts (old : RecordedNames) (line : RecordedLine) (new : RecordedNames) : Type 0 where
   pub pools : new.pools ≡ old.pools
   pub draft : new.draft ≡ old.draft
@@ -67,8 +67,8 @@ pub record IsInferredFrom (lines : List RecordedLine) (inferred : InferredPlan) 
   pub unfinished_jobs : inferred.unfinished_jobs ≡ unfinished_jobs lines
   pub failed_gets : inferred.failed_gets ≡ failed_gets lines
 
--- The result is the first invalid line, or a learned plan if no line is invalid. It is never an `InferenceLimit`, which is returned as an
--- error.
+-- The result is the first invalid line, or a learned plan if no line is invalid. It is never an `InferenceLimit`, which is
+-- returned as an error.
 abbrev pub IsCorrectResult : List ℕ → InferenceResult → Type 0
 IsCorrectResult text (reported.Invalid fault) = IsFirstFault (lines_read text) (Some fault)
 IsCorrectResult text (reported.Inferred inferred) = IsFirstFault (lines_read text) None × IsInferredFrom (lines_of text) inferred

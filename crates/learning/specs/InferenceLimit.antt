@@ -17,8 +17,8 @@ IsLabel lines label = HasBegun lines label ⊎ ((pool : List ℕ) × WasSubmitte
 abbrev pub HasActors : List RecordedLine → Type 0
 HasActors lines = (label : List ℕ) × IsLabel lines label
 
--- What each reason implies for the lines. `Classes`, `Kinds` and `Paths` imply only that there are jobs or rounds: how many bodies these
--- jobs and rounds need, and which paths have no body, is not specified. `Text` never occurs, because this crate writes no text.
+-- What each reason implies for the lines. `Classes`, `Kinds` and `Paths` imply only that there are jobs or rounds. How many
+-- bodies these need, and which paths have no body, is not specified. `Text` never occurs, because this crate writes no text.
 abbrev pub IsReason : List RecordedLine → InferenceLimit → Type 0
 IsReason lines Pools = MAX_POOLS < length (recorded_pools lines)
 IsReason lines Classes = (label : List ℕ) × (pool : List ℕ) × WasSubmitted lines label pool

@@ -9,9 +9,10 @@ use Rattle.learning.specs.LearningState.{AreCountsOf}
 abbrev pub labels_of : LabelRounds → List (List ℕ)
 labels_of rounds = map string_bytes rounds.labels.items
 
--- `kinds` has the number of the label of each round. If this number is taken as the round's kind, the name of the kind belongs to the
--- family of the round's label, and the counters of each kind count its rounds. Both hold for any rounds `more` and labels `names` that
--- follow, because the lines so far name none of them. Each entry of `open_labels` is the label number of its round.
+-- `rounds` has the counters after these lines. `kinds` has the label number of each round. Each entry of `open_labels` is the
+-- label number of its round. If label numbers are taken as client kinds, the counters of each kind count its rounds, and the
+-- name of the kind belongs to the family of their label. Both also hold with any rounds `more` and labels `names` that may
+-- follow, because the lines name none of them.
 pub record AreLabelRoundsOf (rounds : LabelRounds) (lines : List RecordedLine) : Type 0 where
   pub kinds : List ℕ
   pub begun : length kinds ≡ rounds.begun

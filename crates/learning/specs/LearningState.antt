@@ -62,7 +62,7 @@ abbrev pub ChangesOne : Option ℕ → (KindCount → KindCount) → List KindCo
 ChangesOne kind change old new = (one : ℕ) → slice_get new one ≡ (if is_kind one kind then option_map change (slice_get old one) else slice_get old one)
 
 -- ---- classes and kinds, while their bodies are learned
--- Each of these pools is the pool of the same number in the recording.
+-- These pools are the first pools of the recording, in order.
 abbrev pub AreFirstPools : List RecordedLine → List Pool → Type 0
 AreFirstPools lines pools = (n : ℕ) (pool : Pool) → slice_get pools n ≡ Some pool → slice_get (recorded_pools lines) n ≡ Some pool
 
@@ -72,8 +72,8 @@ pub record IsJobLabel (lines : List RecordedLine) (label : List ℕ) (number : �
   pub is_pool : slice_get (recorded_pools lines) number ≡ Some pool
   pub submitted : WasSubmitted lines label pool.name
 
--- For the reason `Classes`, the lines submit a job with this label to this pool. For `Kinds`, the lines begin a round with this label. No
--- other reason is possible.
+-- For the reason `Classes`, the lines submit a job with this label to this pool. For `Kinds`, the lines begin a round with
+-- this label. No other reason is possible.
 abbrev pub IsGiven : List RecordedLine → InferenceLimit → List ℕ → ℕ → Type 0
 IsGiven lines reason.Classes label pool = IsJobLabel lines label pool
 IsGiven lines reason.Kinds label pool = HasBegun lines label
@@ -84,7 +84,8 @@ pub record IsEntryOf (lines : List RecordedLine) (beyond : InferenceLimit) (entr
   pub given : IsGiven lines beyond (string_bytes entry.label) entry.pool
   pub named : IsOfFamily (string_bytes entry.label) (string_bytes entry.name)
 
--- Each entry has a label of the lines. The limit on the number of entries is valid, and the reason to report above the limit is `beyond`.
+-- Each entry has a label of the lines. The list may have at most `MAX_CLASSES` entries. `beyond` is the reason to report if
+-- more are needed.
 pub record AreEntriesOf (lines : List RecordedLine) (beyond : InferenceLimit) (entries : Entries) : Type 0 where
   pub each : All (IsEntryOf lines beyond) entries.entries.items
   pub few : entries.limit ≤ MAX_CLASSES

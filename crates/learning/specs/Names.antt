@@ -1,4 +1,4 @@
--- The names of the classes and client kinds of a learned plan, by the labels in the lines.
+-- The names of the classes and client kinds of a learned plan. Each name belongs to the family of a label in the lines.
 use Rattle.std.specs.Prelude.{◌≡◌, ◌≤◌, ◌<◌, ℕ, List, ◌++◌, length, slice_get, codes, decimal, Some}
 use Rattle.std.specs.List.{Contains}
 use Rattle.job_bodies.specs.declared.limits.TheConstants.{MAX_CLASSES, MAX_NAME_BYTES}
@@ -17,7 +17,7 @@ HasBegun lines label = (round : ℕ) × Contains lines (RoundBegins round label)
 abbrev pub WasSubmitted : List RecordedLine → List ℕ → List ℕ → Type 0
 WasSubmitted lines label pool = (actor : RecordedActor) × (job : ℕ) × Contains lines (Submits actor job label pool)
 
--- One of the names LABEL_2, LABEL_3 and so on that a plan may need is too long.
+-- For some number n up to `MAX_CLASSES`, the name LABEL_n is too long for a plan.
 abbrev pub IsLong : List ℕ → Type 0
 IsLong label = (n : ℕ) × (n ≤ MAX_CLASSES) × (MAX_NAME_BYTES < length (label ++ codes "_" ++ decimal n))
 

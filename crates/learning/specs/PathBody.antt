@@ -7,7 +7,7 @@ use Rattle.conformance.specs.declared.step.PathStep.{PathStep}
 use Rattle.conformance.specs.declared.step.PathStep.TheVariants as step
 use Rattle.learning.specs.ValidGets.{HasValidGets}
 
--- The action of a step: a submit of the first class that the job can belong to, or the get of the submit at the same index.
+-- The action of a step: a submit of the first class that the job can belong to, or a get of the submit at the same index.
 abbrev pub action_of : PathStep → Action
 action_of (step.Submits classes) = Submit (slice_index classes.items 0)
 action_of (step.Gets place) = Get place
@@ -21,8 +21,8 @@ abbrev pub HasClass : PathStep → Type 0
 HasClass (step.Submits classes) = 1 ≤ length classes.items
 HasClass (step.Gets place) = Unit {0}
 
--- The path has a body: it is not longer than a body may be, each job can belong to some class, and each get names an earlier submit that no
--- earlier get names.
+-- The path has a body: it is not longer than a body may be, and each of its jobs can belong to some class. Each get names an
+-- earlier submit, and no two gets name the same submit.
 pub record HasBody (path : List PathStep) : Type 0 where
   pub short : length path ≤ MAX_ACTIONS
   pub classes : All HasClass path

@@ -16,7 +16,7 @@ use Rattle.recordings.specs.RecordingLine.{RecordedLine}
 abbrev pub into_range : ℕ → ℕ → ℕ
 into_range low number = max (min number MAX_SIZE) low
 
--- When its recording began, the pool had all its core threads, and at least one.
+-- When the pool's recording began, all its core threads existed, and there was at least one.
 abbrev pub has_core_threads : PoolSizes → Bool
 has_core_threads sizes = not (sizes.prestarted == 0) && (sizes.prestarted == sizes.core)
 
@@ -24,8 +24,8 @@ has_core_threads sizes = not (sizes.prestarted == 0) && (sizes.prestarted == siz
 abbrev pub least_capacity : PoolSizes → ℕ
 least_capacity sizes = if is_synchronous sizes.queue then 0 else 1
 
--- The maximum of a pool with this core and an unbounded queue. If core threads never time out, the maximum has no effect, and it is the
--- core. Otherwise, a pool with a recorded maximum above the largest size of a plan has none.
+-- The maximum of a pool with this core and an unbounded queue. If core threads never time out, the maximum has no effect, and
+-- it is the core. Otherwise, a pool whose recorded maximum is above the largest size of a plan has no maximum.
 abbrev pub max_over_unbounded : ℕ → PoolSizes → ℕ
 max_over_unbounded core sizes = if not sizes.timeout then core else (if nat_lt MAX_SIZE sizes.max then MAX_THREADS else into_range core sizes.max)
 
@@ -37,9 +37,9 @@ planned_max core sizes = if has_unbounded_queue sizes then max_over_unbounded co
 abbrev pub planned_queue : PoolSizes → ℕ
 planned_queue sizes = if has_unbounded_queue sizes then MAX_SIZE else into_range (least_capacity sizes) sizes.capacity
 
--- The pool of a `pool` line, with each size clamped to its range in a plan. If the queue is unbounded, it stays so, and `planned_max` and
--- `planned_queue` give the sizes that have no effect. Core threads may time out if they may in the line. A pool with a `SynchronousQueue` may reject jobs, because in a plan only such a
--- pool can have this queue.
+-- The pool of a `pool` line, with each size clamped to its range in a plan (see `planned_max` and `planned_queue`). Core
+-- threads may time out if the line says so, and an unbounded queue stays unbounded. A pool with a `SynchronousQueue` may
+-- reject jobs, because in a plan only such a pool can have this queue.
 abbrev pub recorded_pool : List ℕ → PoolSizes → Pool
 recorded_pool name sizes = let core = into_range 1 sizes.core in
     record { name = name; core = core; max = planned_max core sizes; queue = planned_queue sizes; prestart = has_core_threads sizes; may_reject = is_synchronous sizes.queue; unbounded = has_unbounded_queue sizes; core_timeout = sizes.timeout }
@@ -64,13 +64,13 @@ unfoldable pub recorded_pools : List RecordedLine → List Pool
 recorded_pools lines = firsts (filter_map pool_of_line lines)
 
 -- ---- sizes without an effect
--- The pool as the text of a plan gives it: if its queue is unbounded, its queue is the largest size, and its maximum is core unless core
--- threads may time out. Otherwise it is unchanged. The sizes that are replaced have no effect there.
+-- The pool with the sizes that the text of a plan gives it. If its queue is unbounded, the capacity is the largest size, and
+-- the maximum is core unless core threads may time out. The replaced sizes have no effect. Any other pool is unchanged.
 abbrev pub normal_pool : Pool → Pool
 normal_pool pool = if pool.unbounded then record pool { max = if pool.core_timeout then pool.max else pool.core; queue = MAX_SIZE } else pool
 
--- If the pools of a plan are those of a recording, each of them is its own `normal_pool`. This still holds after each pool that rejects
--- jobs in the recording is marked as one that may reject jobs.
+-- If the pools of a plan are those of a recording, `normal_pool` changes none of them, even after each pool that rejects jobs
+-- in the recording is marked as one that may reject jobs.
 abbrev pub LearnedPoolsAreNormal : Type 0
 LearnedPoolsAreNormal = (plan : Plan) (lines : List RecordedLine) → plan.pools ≡ recorded_pools lines → map normal_pool (with_rejecting_pools plan lines).pools ≡ (with_rejecting_pools plan lines).pools
 

@@ -1,4 +1,4 @@
--- The number of rounds and jobs that have not ended at the end of the lines, and of the gets that returned nothing.
+-- The numbers of rounds and jobs that have not ended after these lines, and of gets that timed out or were interrupted.
 use Rattle.std.specs.Prelude.{ℕ, ◌-◌, Bool, true, false, List, count_by}
 use Rattle.recordings.specs.RecordingLine.{RecordedLine, RoundEnds, JobStarts, JobEnds, JobThrew, TimedOut, Interrupted}
 use Rattle.recordings.specs.Before.{begins}
@@ -35,7 +35,7 @@ job_starts lines = count_by is_job_start lines
 unfoldable pub job_ends : List RecordedLine → ℕ
 job_ends lines = count_by is_job_end lines
 
--- The number of lines that end a get because its time was over or its thread was interrupted.
+-- The number of gets that timed out or were interrupted.
 unfoldable pub failed_gets : List RecordedLine → ℕ
 failed_gets lines = count_by is_failed_get lines
 

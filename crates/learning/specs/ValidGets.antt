@@ -4,7 +4,7 @@ use Rattle.job_bodies.specs.declared.action.Action.{Action}
 use Rattle.job_bodies.specs.declared.action.Action.TheVariants.{Get}
 use Rattle.job_bodies.specs.WellFormed.{is_valid_get}
 
--- Each get names an earlier submit of the body that no earlier get names.
+-- Each get names an earlier submit of the body, and no two gets name the same submit.
 abbrev pub HasValidGets : List Action → Type 0
 HasValidGets body = (position submit : ℕ) → slice_get body position ≡ Some (Get submit) → IsTrue (is_valid_get body position submit)
 

@@ -59,8 +59,8 @@ impl AssignedClasses {
         }
     }
 
-    /// Returns the steps of the path, in which each submit has the class that is assigned to its
-    /// job. Returns `None` if a submitted job has no class.
+    /// Returns the steps of the path, with the class of each submitted job. Returns `None` if a
+    /// submitted job has no class.
     ///
     /// # Errors
     ///

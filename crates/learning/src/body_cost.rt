@@ -3,8 +3,9 @@
 use job_bodies::Action;
 
 /// Returns true if `body` costs less than `other`, or if it costs the same and has fewer actions.
-/// The cost of a body is the sum of the peaks of the classes that it submits. The peak of a class
-/// is the result of [`peak_of`].
+///
+/// For each class that a body submits, [`peak_of`] returns the maximum number of its jobs that are
+/// open at the same time. The cost of the body is the sum of these numbers.
 pub(crate) fn is_preferred(body: &[Action], other: &[Action]) -> bool {
     let peaks = sum_of_peaks(body);
     let other_peaks = sum_of_peaks(other);

@@ -10,11 +10,11 @@ use std::alloc::{AllocError, Global};
 /// The number of different values of [`Choices`]. For each of them there is one candidate.
 pub(crate) const CANDIDATES: usize = 8;
 
-/// The options for making a candidate, which is a body that may match all paths.
+/// The options of [`candidate`]. Different options can result in different bodies.
 #[derive(Clone, Copy)]
 pub(crate) struct Choices {
-    /// True if no submit of the candidate is matched both with a job that some path gets and with a
-    /// job that another path does not get.
+    /// True if the candidate has separate submits for jobs that their paths get and for jobs that
+    /// their paths do not get.
     pub(crate) marks_gets: bool,
     /// True if the submits of the paths are merged from the last path to the first. If it is false,
     /// they are merged from the first path to the last.
@@ -73,9 +73,9 @@ fn all_job_steps(
     Ok(Some(all))
 }
 
-/// Returns the body that submits the jobs in `common`, in this order. `times` has, for each job,
-/// the number of the submit after which the body gets the job, or `None` if the body does not get
-/// it.
+/// Returns the body that submits the jobs in `common`, in this order, and gets them at `times`. The
+/// time of a job is the number of a submit, from 0: the body gets the job directly after this
+/// submit. If the time is `None`, the body does not get the job.
 fn body_with_gets(
     alloc: Global,
     common: &[PathJob],
@@ -94,9 +94,8 @@ fn body_with_gets(
 /// Appends the gets that come directly after submit number `time`, in the order of the submits of
 /// their jobs.
 ///
-/// - `submits` has, for each submit so far, its index in the body.
-/// - `times` has, for each submit, the number of the submit after which the body gets its job, or
-///   `None` if the body does not get the job.
+/// - `submits` has the index in the body of each submit so far.
+/// - `times` has the time of each job, as in [`body_with_gets`].
 fn push_gets(
     body: &mut Vec<Action>,
     submits: &[usize],

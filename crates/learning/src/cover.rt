@@ -21,8 +21,8 @@ use conformance::{ActorKind, PathMatch, PathState, PathStep, match_path};
 use job_bodies::{Action, MAX_ACTIONS};
 use std::alloc::{AllocError, Global};
 
-/// Returns a body that each of the paths matches. The paths belong to actors of the kind `kind`.
-/// The result is found in these steps:
+/// Returns a body that all paths match. The paths belong to actors of the kind `kind`. The result
+/// is found in these steps:
 ///
 /// - If `body` is valid in a plan and all paths match it, the result is `body`.
 /// - Otherwise, if `body` has `work`, the result is `None`.
@@ -31,12 +31,12 @@ use std::alloc::{AllocError, Global};
 /// - Otherwise, the result is the best of several candidates that all paths match. A candidate has
 ///   all submits of each path, in the path's order, and gets each job as soon as the paths allow.
 ///
-/// The best candidate has the smallest sum, over its classes, of the maximum number of jobs of the
-/// class that are open at the same time. Among candidates with the same sum, it has the fewest
-/// actions.
+/// The cost of a candidate is a sum over its classes: for each class, the maximum number of its
+/// jobs that are open at the same time. The best candidate has the lowest cost. Among candidates of
+/// the same cost, it has the fewest actions.
 ///
-/// Returns `None` if no body with at most [`MAX_ACTIONS`] actions is found. Except for the first
-/// step, no body is found if one of these holds:
+/// Returns `None` if no body with at most [`MAX_ACTIONS`] actions is found. After the first step,
+/// no body is found if a path has one of these faults:
 ///
 /// - The job of a submit cannot belong to any class.
 /// - A get names no earlier submit.

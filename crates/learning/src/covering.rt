@@ -23,10 +23,14 @@ const MAX_PASSES: usize = 600;
 ///
 /// # Errors
 ///
-/// - [`LearnError::InferenceLimit`] in these cases: an actor matches no body after a pass that
-///   changed no body, or after [`MAX_PASSES`] passes; the actors need more classes or client kinds
-///   than a plan may have; a name would be too long; the draft does not form a valid plan.
-/// - [`LearnError::Memory`] if memory runs out.
+/// Returns [`LearnError::Memory`] if memory runs out, and [`LearnError::InferenceLimit`] in these
+/// cases:
+///
+/// - An actor still matches no body after a pass that changed no body, or after [`MAX_PASSES`]
+///   passes.
+/// - The actors need more classes or client kinds than a plan may have.
+/// - A name would be too long.
+/// - The draft does not form a valid plan.
 pub(crate) fn cover_all(
     alloc: Global,
     part: RecordingPart<'_>,

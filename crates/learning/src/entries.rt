@@ -25,7 +25,7 @@ pub(crate) struct Entry {
     /// The name in the learned plan: the label, or the label followed by `_` and a number.
     pub(crate) name: String,
     pub(crate) body: Vec<Action>,
-    /// The paths for which the body was changed. The body matches all of them.
+    /// The paths for which the body was changed. All of them match the body.
     pub(crate) paths: Vec<Vec<PathStep>>,
 }
 

@@ -3,9 +3,8 @@
 use crate::path_jobs::{JobStep, PathJob, submitted_jobs};
 use std::alloc::{AllocError, Global};
 
-/// Returns, for each job that a body submits, after which submit the body may get the job at the
-/// earliest. The number of this submit is the *time*. It is `None` if the body must not get the
-/// job.
+/// Returns the *time* of each job that a body submits: the number, from 0, of the submit after
+/// which the body may first get the job. The time is `None` if the body must not get the job.
 ///
 /// - `common` has the jobs that the body submits, in order. The jobs of each path are a subsequence
 ///   of `common`.
@@ -33,8 +32,8 @@ pub(crate) fn get_times(
     Ok(times)
 }
 
-/// Replaces each time by the time at the same index of `others`, if the time in `others` is later.
-/// `None` is later than any time.
+/// Replaces each time that is earlier than the time at the same index of `others` by that later
+/// time. `None` is later than any time.
 fn delay(times: &mut [Option<usize>], others: &[Option<usize>]) {
     for (time, other) in times.iter_mut().zip(others) {
         *time = later(*time, *other);
@@ -135,8 +134,8 @@ fn record_gets(
     place
 }
 
-/// Records `time` as the time of the get of a job. The job is the first one in `common` that equals
-/// `job` and has no time yet. Does nothing if `job.is_got` is false.
+/// Sets the time of a job to `time`. The job is the first one in `common` that equals `job` and has
+/// no time yet. Does nothing if `job.is_got` is false.
 fn record_get(common: &[PathJob], job: PathJob, time: usize, times: &mut [Option<usize>]) {
     if !job.is_got {
         return;

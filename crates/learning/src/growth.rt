@@ -1,4 +1,4 @@
-//! Changes of bodies, after which the observed paths match them.
+//! Changes of bodies so that observed paths match them.
 
 ghost use Rattle.std.specs.Prelude.{◌≡◌, List, OnOk, IfErr, string_bytes};
 ghost use Rattle.recordings.specs.RecordingLine.{RecordedLine};
@@ -33,8 +33,8 @@ pub(crate) struct Assignment {
 }
 
 impl Entries {
-    /// Returns the assignment of the path to an entry. This is the first entry of this label and
-    /// pool that has a body that the path matches. Returns `None` if there is no such entry.
+    /// Returns the assignment of the path to the first entry of this label and pool whose body the
+    /// path matches. Returns `None` if there is no such entry.
     ///
     /// # Errors
     ///
@@ -58,15 +58,18 @@ impl Entries {
         Ok(None)
     }
 
-    /// Changes the body of an entry with this label and pool so that the path and the entry's
-    /// earlier paths match it. Returns the assignment of the path to the entry.
+    /// Assigns the path to an entry with this label and pool. Changes the body of the entry so that
+    /// the path and the entry's earlier paths match it. If this is possible for no entry, adds an
+    /// entry for this path alone.
     ///
-    /// - If no such body is found for any entry, adds an entry for this path alone.
-    /// - Skips the entries of the classes that `reachable` marks, because the path leads to jobs of
-    ///   these classes (see [`reachable_classes`]). A job of such a class would otherwise lead to
-    ///   jobs of its own class without end.
-    /// - Returns `None` if no entry has this label and pool.
-    /// - Returns `None` if no body is found for the path alone. The added entry then remains.
+    /// Skips the classes that `reachable` marks. The path leads to jobs of these classes (see
+    /// [`reachable_classes`]), so a job of such a class would lead to jobs of its own class without
+    /// end.
+    ///
+    /// Returns the assignment, or `None` in these cases:
+    ///
+    /// - No entry has this label and pool.
+    /// - No body is found for the path alone. The added entry then remains.
     ///
     /// # Errors
     ///
@@ -187,7 +190,7 @@ fn is_path_of(
 }
 
 /// Returns, for each class, whether these steps submit a job of the class, directly or through the
-/// bodies of the jobs that they submit.
+/// bodies of other jobs.
 ///
 /// # Errors
 ///
@@ -217,8 +220,8 @@ fn mark_step(reachable: &mut [bool], step: &PathStep) {
     }
 }
 
-/// Marks each class that the body of a marked class submits. Returns true if this marked a class
-/// that was not marked before.
+/// Marks each class that the body of a marked class submits. Returns true if another class is
+/// marked afterwards.
 fn propagate(classes: &Entries, reachable: &mut [bool]) -> bool {
     let mut is_more = false;
     for number in 0..classes.entries.len() {

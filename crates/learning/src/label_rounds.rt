@@ -58,8 +58,8 @@ impl LabelRounds {
     ///
     /// # Errors
     ///
-    /// - [`LearnError::InferenceLimit`] if a round begins with a number other than the number of
-    ///   earlier rounds, or if a round ends that is not open. Neither occurs in a valid recording.
+    /// - [`LearnError::InferenceLimit`] if the line begins a round whose number is not the number
+    ///   of earlier rounds, or ends a round that is not open. A valid recording has no such line.
     /// - [`LearnError::Memory`] if memory runs out.
     pub(crate) fn take(&mut self, line: &Line<'_>) -> Result<(), LearnError>
         ensures ok { (before : List RecordedLine)
@@ -157,8 +157,8 @@ impl LabelRounds {
         Ok(())
     }
 
-    /// Returns true if the entries are exactly one client kind for each label, in the order of the
-    /// labels.
+    /// Returns true if each label has exactly one client kind, and the entries are these kinds in
+    /// the order of the labels.
     pub(crate) fn are_of(&self, entries: &[Entry]) -> bool
         ensures { IsTrue result → names_of entries.now ≡ labels_of self.now }
     {

@@ -19,8 +19,8 @@ use std::alloc::{AllocError, Global};
 /// The state of a pass over a part of a recording.
 #[derive(Drop)]
 pub(crate) struct Pass {
-    /// For each round, by round number, the first client kind of the plan that the round can belong
-    /// to. It is `None` if the round matches no kind, and until the round is classified.
+    /// The first client kind of the plan to which each round can belong, by round number. It is
+    /// `None` if the round matches no kind or is not yet classified.
     pub(crate) kinds: Vec<Option<usize>>,
     /// True if the pass changed a body.
     pub(crate) is_changed: bool,
@@ -74,7 +74,7 @@ pub(crate) fn run_pass(
     Ok(pass)
 }
 
-/// The classifier of a pass, with the actors that the current line classified.
+/// The classifier of a pass, and the actors that it classified at the current line.
 #[derive(Drop)]
 struct PassClassifier {
     classes: ActorClassifier,

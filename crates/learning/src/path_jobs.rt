@@ -24,9 +24,9 @@ pub(crate) enum JobStep {
     Gets(PathJob),
 }
 
-/// Returns the steps of the path, each with its job. A job gets the first class that it can belong
-/// to. `is_got` is true for the jobs that the path gets and, if `marks_gets` is false, for all
-/// other jobs as well.
+/// Returns the steps of the path, each with its job. The class of a job is the first class that it
+/// can belong to. If `marks_gets` is true, `is_got` is true only for the jobs that the path gets.
+/// Otherwise `is_got` is true for all jobs.
 ///
 /// Returns `None` in these cases:
 ///
@@ -63,8 +63,7 @@ fn job_step(path: &[PathStep], place: usize, marks_gets: bool) -> Option<JobStep
 }
 
 /// Returns the job of the submit at this index of the path. Returns `None` if there is no submit at
-/// this index, or if its job cannot belong to any class. `marks_gets` has the meaning that
-/// [`job_steps`] gives it.
+/// this index, or if its job cannot belong to any class. `marks_gets` is as in [`job_steps`].
 fn job_at(path: &[PathStep], place: usize, marks_gets: bool) -> Option<PathJob> {
     match path.get(place)? {
         PathStep::Submits(classes) => Some(PathJob {

@@ -16,10 +16,10 @@ use std::alloc::{AllocError, Global};
 
 /// Returns the pool of a `pool` line, with each size clamped to its range in a plan.
 ///
-/// - An unbounded queue gets the largest capacity of a plan. Its pool gets the core size as its
-///   maximum, unless core threads may time out.
-/// - If core threads may time out, the queue is unbounded, and the recorded maximum is above the
-///   largest size of a plan, the pool has no maximum.
+/// - The capacity of an unbounded queue is the largest size of a plan.
+/// - If the queue is unbounded and core threads never time out, the maximum is the core size.
+/// - If the queue is unbounded and core threads may time out, a recorded maximum above the largest
+///   size of a plan counts as no maximum.
 /// - `prestart` is true if all core threads were prestarted and there is at least one.
 /// - `may_reject` is true if the queue is a `SynchronousQueue`, because a plan requires this.
 ///

@@ -92,9 +92,9 @@ fn push_from(jobs: &mut Vec<PathJob>, more: &[PathJob], index: usize) -> Result<
     Ok(())
 }
 
-/// Returns true if the merged list may continue with the next job of the first list. The longest
-/// common subsequence of the jobs that then remain must not be shorter than if the list continued
-/// with the next job of the second list.
+/// Returns true if the merged list can continue with the next job of the first list and still be a
+/// shortest one. This holds if the longest common subsequence of the jobs that then remain is at
+/// least as long as after the next job of the second list.
 ///
 /// - `left` and `other_left` are the numbers of jobs that remain in the two lists.
 /// - `lengths` is the table that [`common_lengths`] returns.
@@ -110,9 +110,9 @@ fn length_at(lengths: &[Vec<usize>], left: usize, other_left: usize) -> usize {
     }
 }
 
-/// Returns the length of the longest common subsequence for each suffix of the first list and each
-/// suffix of the second list. The outer index of the table is the length of the first list's
-/// suffix, and the inner index is the length of the second list's suffix.
+/// Returns a table with the length of the longest common subsequence of each suffix of the first
+/// list and each suffix of the second list. The lengths of the two suffixes are the outer and the
+/// inner index of the table.
 fn common_lengths(
     alloc: Global,
     first: &[PathJob],

@@ -7,7 +7,8 @@ ghost use Rattle.learning.specs.ValidGets.{HasValidGets, is_valid_at};
 
 use job_bodies::Action;
 
-/// Returns true if each get names an earlier submit of the body that no earlier get names.
+/// Returns true if each get names an earlier submit of the body, and no two gets name the same
+/// submit.
 pub(crate) fn has_valid_gets(body: &[Action]) -> bool
     ensures { IsTrue result ↔ HasValidGets body.now }
 {
@@ -29,8 +30,8 @@ fn is_valid_at(body: &[Action], position: usize) -> bool
     }
 }
 
-/// Returns true if a get at index `position` may name index `submit`: a submit is at the earlier
-/// index `submit`, and no earlier get names this submit.
+/// Returns true if a get at index `position` may name index `submit`: this earlier index has a
+/// submit, and no get before `position` names it.
 fn is_valid_get(body: &[Action], position: usize, submit: usize) -> bool
     ensures { result ≡ spec.is_valid_get body.now position submit }
 {

@@ -9,13 +9,14 @@ abbrev pub submits : ℕ → RecordedStep → Bool
 submits job (Submits one) = one == job
 submits job (Gets place) = false
 
--- the action is a get of the job that the submit at this index of the same path submits
+-- the action gets the job that was submitted at index `place` of the same path
 abbrev pub gets : ℕ → RecordedStep → Bool
 gets place (Gets got) = got == place
 gets place (Submits job) = false
 
 -- ---- the index of a submit
--- the index of the last submit of a job in a path, given whether the first action is one, and the index in the rest of the path
+-- the index of the last submit of a job in a path; `here` says whether the first action of the path is such a submit, and the
+-- option is the index of the last one in the rest of the path
 abbrev pub place_on : Bool → Option ℕ → Option ℕ
 place_on here (Some place) = Some (place + 1)
 place_on true None = Some 0
@@ -27,11 +28,11 @@ submit_place job [] = None
 submit_place job (step ∷ path) = place_on (submits job step) (submit_place job path)
 
 -- ---- a get
--- some action after this index gets the job that the submit at this index submits
+-- a later action of the path gets the job that was submitted at this index
 abbrev pub is_got : ℕ → List RecordedStep → Bool
 is_got place path = list_any (gets place) (drop (place + 1) path)
 
--- the path with a get of the job that the submit at this index submits, if it has none yet
+-- the path with a get of the job that was submitted at this index; unchanged if there is no index or the path has this get
 abbrev pub with_get_at : Option ℕ → List RecordedStep → List RecordedStep
 with_get_at None path = path
 with_get_at (Some place) path = if is_got place path then path else path ++ Gets place ∷ []

@@ -51,6 +51,6 @@ abbrev pub is_submit_of : ℕ → Option RecordedLine → Bool
 is_submit_of job None = false
 is_submit_of job (Some line) = submits_job job line
 
--- the last line of the actor, other than a `refused` line of the job, submits the job
+-- apart from `refused` lines of the job, the last line of the actor submits the job
 unfoldable pub just_submitted : List RecordedLine → RecordedActor → ℕ → Bool
 just_submitted before actor job = is_submit_of job (last_of (filter (λ line. is_of actor line && not (refuses_job job line)) before))

@@ -9,7 +9,7 @@ use Rattle.recordings.specs.Rules.{first_broken_rule}
 use Rattle.recordings.specs.StateOfLines.{Represents}
 use Rattle.recordings.specs.Faults.{lines_before, reason_at, IsFirstFault}
 
--- no line breaks a rule O1 to O7, given the lines before it
+-- each line keeps the rules O1 to O7, given the lines before it
 abbrev pub AreUnbroken : List RecordedLine → Type 0
 AreUnbroken lines = (before : List RecordedLine) (line : RecordedLine) (after : List RecordedLine) → lines ≡ before ++ line ∷ after → first_broken_rule before line ≡ None
 

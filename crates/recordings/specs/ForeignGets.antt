@@ -1,4 +1,4 @@
--- Foreign gets: the gets of jobs by actors that did not submit them.
+-- Foreign gets: gets of jobs that another actor submitted and has not yet got.
 use Rattle.std.specs.Prelude.{ℕ, ◌+◌, ◌==◌, ◌&&◌, not, Bool, false, if◌then◌else◌, List, length, Option, Some, None}
 use Rattle.std.specs.List.{list_any, filter_map, slice_get}
 use Rattle.recordings.specs.declared.recording_line.RecordedActor.{RecordedActor}

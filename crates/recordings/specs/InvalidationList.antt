@@ -18,8 +18,8 @@ use Rattle.recordings.specs.declared.invalidation.InvalidatingEvent.{Invalidatin
 use Rattle.recordings.specs.declared.invalidation.InvalidatingEvent.TheVariants as event
 use Rattle.recordings.specs.Invalidations.{keyword_of, is_same_type, has_type, repeats_get, next_of, event_of, is_excused}
 
--- An event that invalidates a SAFE answer, as far as the lines read so far show. It is pending if the next line of its actor
--- can discard it and has not been read yet.
+-- An event that invalidates a SAFE answer, unless a later line discards it. It is pending if the next line of its actor can
+-- discard it and has not been read yet.
 pub record InvalidationEntry : Type 0 where
   pub invalidation : Invalidation
   pub pending : Bool
@@ -34,7 +34,7 @@ is_pending event after = false
 abbrev pub entry_unless_excused : ℕ → List RecordedLine → InvalidatingEvent → Option InvalidationEntry
 entry_unless_excused number after event = if is_excused event after then None else Some (record { invalidation = record { line = number; event = event }; pending = is_pending event after })
 
--- The entry for the event of the line with this number, from that line and the lines after it.
+-- The entry for the event that line `number` reports, if there is one. It depends on this line and the lines after it.
 abbrev pub entry_at : ℕ → RecordedLine → List RecordedLine → Option InvalidationEntry
 entry_at number line after = option_and_then (entry_unless_excused number after) (event_of line)
 
@@ -46,8 +46,8 @@ entries_from number (line ∷ after) = cons_option (entry_at number line after) 
 abbrev pub closed_with : (List ℕ → Bool) → InvalidationEntry → List ℕ → Bool
 closed_with closed one word = closed word || (not one.pending && bytes_eq (keyword_of one.invalidation.event) word)
 
--- `kept` is the list `all` of events without some that can never be the first of their type, because an event of the same
--- type that is not pending comes before them. `closed` says which types have such an event before this list.
+-- `kept` is the list `all` without some events that cannot be the first of their type, because an earlier event of the type
+-- is not pending. `closed` says of which types such an earlier event comes before this list.
 pub data IsEnough : (List ℕ → Bool) → List InvalidationEntry → List InvalidationEntry → Type 0 where
   none : (closed : List ℕ → Bool) → IsEnough closed [] []
   keep : (closed : List ℕ → Bool) (kept all : List InvalidationEntry) (one : InvalidationEntry) → IsEnough (closed_with closed one) kept all
@@ -79,7 +79,7 @@ excuses line (event.TimedOut actor job) = repeats_get actor job line
 excuses line (event.Interrupted actor job) = repeats_get actor job line
 excuses line event = false
 
--- The line belongs to the actor of the get.
+-- The line belongs to the actor of the event, which is a get that timed out or was interrupted.
 abbrev pub ends_pending : RecordedLine → InvalidatingEvent → Bool
 ends_pending line (event.TimedOut actor job) = is_of actor line
 ends_pending line (event.Interrupted actor job) = is_of actor line
@@ -104,7 +104,7 @@ getter_of (event.TimedOut actor job) = Some actor
 getter_of (event.Interrupted actor job) = Some actor
 getter_of event = None
 
--- The line of the pending event of an actor.
+-- The number of the line that reports the pending event of an actor, if there is one.
 abbrev pub line_in : PendingLines → RecordedActor → Option ℕ
 line_in pending (Job job) = value_at pending.jobs job
 line_in pending (Round round) = value_at pending.rounds round
@@ -126,19 +126,19 @@ kept_in list = map (entry_in list.pending) list.events.entries
 abbrev pub is_of_type : InvalidatingEvent → InvalidatingEvent → Bool
 is_of_type event other = is_same_type other event
 
--- The list has only events of lines before this one, and it has an event that is not pending of each type that it calls
--- certain.
+-- Each event of the list is from a line before line `number`. For each type in `certain`, the list has an event of this type
+-- that is not pending.
 pub record IsBefore (number : ℕ) (list : InvalidationList) : Type 0 where
   pub ordered : IsOrdered nat_cmp list.events
   pub earlier : AllByRecursion (λ line. line < number) (keys list.events)
   pub certain : (event : InvalidatingEvent) → list_any (is_of_type event) list.certain.items ≡ true → list_any (is_certain_first event) (kept_in list) ≡ true
 
--- The types of the new list are those of the old one and that of the event.
+-- Each type in the new list is a type in the old list or the type of the event.
 abbrev pub AddsType : InvalidatingEvent → List InvalidatingEvent → List InvalidatingEvent → Type 0
 AddsType event old new = (one : InvalidatingEvent) → list_any (is_of_type one) new ≡ true → (list_any (is_of_type one) old || is_same_type event one) ≡ true
 
 -- ---- the pending event of the line's actor
--- The event of line `number` is removed if the line repeats its get, and is certain otherwise.
+-- If `line` repeats the get of the event, the event is removed. Otherwise it stays, and its type may become certain.
 pub data SettlesEvent (line : RecordedLine) (number : ℕ) (old : BTreeMap ℕ Invalidation) (certain : List InvalidatingEvent) (new : BTreeMap ℕ Invalidation) (after : List InvalidatingEvent) : Type 0 where
   discards : (one : Invalidation) → get nat_cmp old number ≡ Some one → excuses line one.event ≡ true → new.entries ≡ remove_entry (is_at (nat_cmp number)) old.entries → IsOrdered nat_cmp new → after ≡ certain
       → SettlesEvent line number old certain new after
@@ -171,7 +171,8 @@ abbrev pub IsWithEntry : Option InvalidationEntry → List InvalidationEntry →
 IsWithEntry None kept new = new ≡ kept
 IsWithEntry (Some one) kept new = IsWithFirst one kept new
 
--- It is stored whether a later line can discard the event of this line.
+-- If a later line can discard the event, `line` is stored as the line of its actor's pending event. Otherwise its type may
+-- become certain.
 pub data IsNoted (event : InvalidatingEvent) (line : ℕ) (old : PendingLines) (certain : List InvalidatingEvent) (new : PendingLines) (after : List InvalidatingEvent) : Type 0 where
   noted_pending : (actor : RecordedActor) → getter_of event ≡ Some actor → ((one : RecordedActor) → line_in new one ≡ (if is_same_actor actor one then Some line else line_in old one)) → after ≡ certain
       → IsNoted event line old certain new after

@@ -29,7 +29,7 @@ abbrev pub has_type : InvalidatingEvent → Invalidation → Bool
 has_type event invalidation = is_same_type invalidation.event event
 
 -- ---- repeated gets
--- The line is a get of the job by the actor, which may return, time out or be interrupted.
+-- The line reports a get of the job by the actor. The get returned, timed out or was interrupted.
 abbrev pub repeats_get : RecordedActor → ℕ → RecordedLine → Bool
 repeats_get actor job (Got who one) = is_same_actor who actor && (one == job)
 repeats_get actor job (TimedOut who one) = is_same_actor who actor && (one == job)
@@ -63,11 +63,11 @@ is_excused (event.TimedOut actor job) after = is_repeated_next actor job (next_o
 is_excused (event.Interrupted actor job) after = is_repeated_next actor job (next_of actor after)
 is_excused event after = false
 
--- The invalidating event of the line with this number, if it counts, from that line and the lines after it.
+-- The invalidating event that line `number` reports, if it counts. Whether it counts depends on the lines after it.
 abbrev pub invalidation_of : ℕ → RecordedLine → List RecordedLine → Option Invalidation
 invalidation_of number line after = option_and_then (λ event. if is_excused event after then None else Some (record { line = number; event = event })) (event_of line)
 
--- All invalidating events of the lines that count. The first line has this number.
+-- The invalidating events of the lines, without those that do not count. `number` is the number of the first line.
 abbrev pub invalidations_from : ℕ → List RecordedLine → List Invalidation
 invalidations_from number [] = []
 invalidations_from number (line ∷ after) = cons_option (invalidation_of number line after) (invalidations_from (number + 1) after)

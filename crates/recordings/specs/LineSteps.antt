@@ -44,8 +44,8 @@ abbrev pub is_get_of : ℕ → JobStep → Bool
 is_get_of job (GetOf one) = one == job
 is_get_of job (SubmitOf one) = false
 
--- The action of the actor in a line. A submit by the actor is a submit, and the actor's first get of a job that it submitted
--- before is a get. Any other line has no action of the actor.
+-- The action of the actor that the line reports, if any. It is a submit if the line is a submit by the actor. It is a get if
+-- the line is the actor's first get of a job that the actor submitted before.
 abbrev pub step_by_line : RecordedActor → List RecordedLine → RecordedLine → Option JobStep
 step_by_line actor before (Submits submitter job class pool) = if is_same_actor submitter actor then Some (SubmitOf job) else None
 step_by_line actor before (Got getter job) = if is_same_actor getter actor && has_submitted before actor job && not (has_got before actor job) then Some (GetOf job) else None

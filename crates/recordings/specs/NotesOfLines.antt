@@ -1,4 +1,4 @@
--- The notes after these lines were read.
+-- The meaning of the notes, in terms of the lines read.
 use Rattle.std.specs.Prelude.{◌≡◌, ◌+◌, ℕ, false, if◌then◌else◌, List, None, length}
 use Rattle.recordings.specs.RecordingLine.{RecordedLine}
 use Rattle.recordings.specs.declared.notes.RecordedNotes.{RecordedNotes}

@@ -11,7 +11,7 @@ use Rattle.recordings.specs.LineSteps.{JobStep, SubmitOf, GetOf, job_of_step, is
 unfoldable pub steps_of : List RecordedLine → RecordedActor → List JobStep
 steps_of lines actor = filter (λ step. not (is_refused lines (job_of_step step))) (steps_by_lines lines actor)
 
--- the action with the job of a get replaced by the index of the job's submit among the actions
+-- the action as a step of the path; a get has the index of the job's submit among the actions, and not the job
 abbrev pub with_place : List JobStep → JobStep → RecordedStep
 with_place steps (SubmitOf job) = Submits job
 with_place steps (GetOf job) = Gets (position_or_len (is_submit_of job) steps)

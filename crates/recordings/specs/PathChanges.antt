@@ -11,7 +11,7 @@ use Rattle.recordings.specs.declared.paths.Paths.{Paths}
 use Rattle.recordings.specs.ActorPath.{with_get, without_submit}
 use Rattle.recordings.specs.StoredPaths.{path_in}
 
--- a change of all stored paths: the new path of an actor, or None, as a function of the actor and its old path
+-- a change of the stored paths: a function from an actor and its old path to its new path; None if the actor has no path
 abbrev pub Change : Type 0
 Change = RecordedActor → Option (List RecordedStep) → Option (List RecordedStep)
 
@@ -38,7 +38,7 @@ removes_actor actor one there = if is_same_actor actor one then None else there
 abbrev pub with_step : RecordedStep → List RecordedStep → List RecordedStep
 with_step step path = path ++ step ∷ []
 
--- the change that appends the submit of the job to the path of the actor, and adds the job
+-- the change that appends the submit of the job to the path of the actor, and adds the job with an empty path
 abbrev pub actor_submits : RecordedActor → ℕ → Change
 actor_submits actor job one there = adds_actor (Job job) one (at_actor actor (with_step (step.Submits job)) one there)
 

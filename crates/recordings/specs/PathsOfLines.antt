@@ -11,7 +11,7 @@ use Rattle.recordings.specs.LineSteps.{is_submitted}
 use Rattle.recordings.specs.Path.{path_of}
 use Rattle.recordings.specs.StoredPaths.{path_at}
 
--- no line breaks a rule O1 to O7, given the lines before it
+-- each line keeps the rules O1 to O7, given the lines before it
 pub record KeepsRules (lines : List RecordedLine) : Type 0 where
   pub unbroken : (before : List RecordedLine) (line : RecordedLine) (after : List RecordedLine) → lines ≡ before ++ line ∷ after → first_broken_rule before line ≡ None
 

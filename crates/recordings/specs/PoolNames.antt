@@ -1,8 +1,8 @@
--- The numbers of pool names.
+-- The hashes of pool names.
 use Rattle.std.specs.Prelude.{ℕ, ◌+◌, ◌*◌, ◌-◌, Bool, false, List, length, slice_index, Option, Some, None, String, string_bytes}
 use Rattle.std.specs.Str.{bytes_eq}
 
--- the number of a name, computed from its first and last byte
+-- the hash of a name: a number that is computed from its first and last byte
 abbrev pub number_of : List ℕ → ℕ
 number_of name = slice_index name 0 + 8 * slice_index name (length name - 1)
 

@@ -18,8 +18,7 @@ is_linked queue.Synchronous = false
 is_linked queue.Priority = false
 is_linked queue.Other = false
 
--- whether the queue counts as unbounded: it is a `LinkedBlockingQueue`, and its line has the capacity of a queue that was created without
--- one
+-- whether the queue counts as unbounded: it is a `LinkedBlockingQueue` with the capacity `UNBOUNDED_CAPACITY`
 abbrev pub has_unbounded_queue : PoolSizes → Bool
 has_unbounded_queue sizes = is_linked sizes.queue && sizes.capacity == UNBOUNDED_CAPACITY
 
@@ -43,7 +42,7 @@ handler_kind_of word =
     else (if bytes_eq word (codes "other") then Some handler.Other
     else None))))
 
--- the flag that the word `yes` or `no` stands for
+-- true for the word `yes`, false for the word `no`, and None for any other word
 unfoldable pub yes_or_no : List ℕ → Option Bool
 yes_or_no word = if bytes_eq word (codes "yes") then Some true else (if bytes_eq word (codes "no") then Some false else None)
 
@@ -51,7 +50,7 @@ yes_or_no word = if bytes_eq word (codes "yes") then Some true else (if bytes_eq
 unfoldable pub parse_queue : List ℕ → Option (QueueKind × List ℕ)
 parse_queue text = strip_word (codes "queue") text >>= λ rest. split_space rest >>= λ words. queue_kind_of words.0 >>= λ kind. Some (kind, words.1)
 
--- the parser for `timeout WORD`, which returns the flag of the word and the other words
+-- the parser for `timeout WORD`, which returns whether the word is `yes`, and the words after it
 unfoldable pub parse_timeout : List ℕ → Option (Bool × List ℕ)
 parse_timeout text = strip_word (codes "timeout") text >>= λ rest. split_space rest >>= λ words. yes_or_no words.0 >>= λ timeout. Some (timeout, words.1)
 

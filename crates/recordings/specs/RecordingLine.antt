@@ -103,7 +103,7 @@ other_line_of word rest =
     else (if bytes_eq word (codes "unseen") then (parse_name rest >>= λ pool. number_of pool.1 >>= λ jobs. Some (Unseen pool.0 jobs))
     else None))))
 
--- the line of several words, given its first word and the other words
+-- the line of at least two words, given its first word and the other words
 unfoldable pub line_of_words : List ℕ → List ℕ → Option RecordedLine
 line_of_words word rest =
     if bytes_eq word (codes "job") then (parse_number rest >>= λ job. job_line_of job.0 job.1)

@@ -61,7 +61,7 @@ is_running before None = true
 abbrev pub keeps_jobs : List RecordedLine → RecordedLine → Bool
 keeps_jobs before line = starts_once before line && is_running before (actor_of line)
 
--- O6: the job of a `refused` line was submitted in the last line of its actor, and has not started
+-- O6: apart from `refused` lines of the job, the last line of the actor submits the job, and the job has not started
 abbrev pub keeps_refusals : List RecordedLine → RecordedLine → Bool
 keeps_refusals before (Refused actor job) = just_submitted before actor job && not (has_started before job)
 keeps_refusals before line = true

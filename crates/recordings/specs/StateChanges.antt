@@ -21,11 +21,11 @@ pub record IsSame (old new : TraceValidator) : Type 0 where
   pub jobs : (j : ℕ) → job_at new.jobs j ≡ job_at old.jobs j
 
 -- ---- a line adds a round or a job
--- the entry of round r, which the line adds if it begins the round
+-- the entry of round r: a new one if the line begins the round, and otherwise the old one, `there`
 abbrev pub round_if_begun : RecordedLine → ℕ → Option (Option ℕ) → Option (Option ℕ)
 round_if_begun line r there = if begins_round r line then Some None else there
 
--- the entry of job j, which the line adds if it submits the job
+-- the entry of job j: a new one if the line submits the job, and otherwise the old one, `there`
 abbrev pub job_if_submitted : RecordedLine → ℕ → Option JobState → Option JobState
 job_if_submitted line j there = if submits_job j line then Some new_job else there
 
@@ -48,7 +48,8 @@ pub record SetsLastSubmit (old : TraceValidator) (actor : RecordedActor) (last_s
   pub rounds : (r : ℕ) → round_at new.rounds r ≡ round_with_last_submit actor last_submit r (round_at old.rounds r)
   pub jobs : (j : ℕ) → job_at new.jobs j ≡ job_with_last_submit actor last_submit j (job_at old.jobs j)
 
--- the entry of round r after the line set the last submit of its actor: the job if the line is a submit, None after another action
+-- the entry of round r after the line. If the line is a submit by the round, it sets the last submit. Any other action of the
+-- round, except `refused`, sets the last submit to None
 abbrev pub round_after_action : RecordedLine → ℕ → Option (Option ℕ) → Option (Option ℕ)
 round_after_action (Submits actor job class pool) r there = round_with_last_submit actor (Some job) r there
 round_after_action (Got actor job) r there = round_with_last_submit actor None r there
@@ -58,7 +59,8 @@ round_after_action (Cancels actor job) r there = round_with_last_submit actor No
 round_after_action (InvokesAny actor pool) r there = round_with_last_submit actor None r there
 round_after_action line r there = there
 
--- the entry of job j after the line set the last submit of its actor: the job if the line is a submit, None after another action
+-- the entry of job j after the line. If the line is a submit by the job, it sets the last submit. Any other action of the
+-- job, except `refused`, sets the last submit to None
 abbrev pub job_after_action : RecordedLine → ℕ → Option JobState → Option JobState
 job_after_action (Submits actor job class pool) j there = job_with_last_submit actor (Some job) j there
 job_after_action (Got actor job) j there = job_with_last_submit actor None j there
@@ -69,7 +71,7 @@ job_after_action (InvokesAny actor pool) j there = job_with_last_submit actor No
 job_after_action line j there = there
 
 -- ---- a line changes the progress of a round or a job
--- the entry of round r, which the line removes if it ends the round
+-- the entry of round r: None if the line ends the round, and otherwise the old one, `there`
 abbrev pub round_after_progress : RecordedLine → ℕ → Option (Option ℕ) → Option (Option ℕ)
 round_after_progress line r there = if ends_round r line then None else there
 

@@ -19,7 +19,7 @@ abbrev pub is_at : ℕ → Option ℕ → Bool
 is_at j None = false
 is_at j (Some last_submit) = last_submit == j
 
--- the state of the rule check is right for these lines
+-- the state of the rule check is the state after these lines
 pub record Represents (lines : TraceValidator) (before : List RecordedLine) : Type 0 where
   pub begun : lines.begun ≡ said.has_begun before
   pub closed : lines.closed ≡ said.is_closed before

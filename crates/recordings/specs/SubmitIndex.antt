@@ -11,7 +11,7 @@ use Rattle.recordings.specs.ActorPath.{gets}
 abbrev pub unclaimed : ℕ → ℕ → SubmitEntry
 unclaimed job place = record { job = job; place = place; got = false }
 
--- the entries of the submits of a part of a path that begins at this index
+-- the entries of the submits in a part of a path; the part begins at index n
 abbrev pub entries_from : ℕ → List RecordedStep → List SubmitEntry
 entries_from n [] = []
 entries_from n (Submits job ∷ path) = record { job = job; place = n; got = list_any (gets n) path } ∷ entries_from (n + 1) path
@@ -26,13 +26,13 @@ entry_at entries at = get_or entries at (unclaimed 0 0)
 abbrev pub job_at : List SubmitEntry → ℕ → ℕ
 job_at entries at = let entry = entry_at entries at in entry.job
 
--- the entry at this index is the last one of the job
+-- the entry at this index is the last one for the job
 pub record IsLastOf (entries : List SubmitEntry) (job at : ℕ) : Type 0 where
   pub within : at < length entries
   pub is : job_at entries at ≡ job
   pub last : (k : ℕ) → at < k → k < length entries → job_at entries k ≢ job
 
--- no entry is one of the job
+-- no entry is for the job
 abbrev pub IsAbsent : List SubmitEntry → ℕ → Type 0
 IsAbsent entries job = (k : ℕ) → k < length entries → job_at entries k ≢ job
 

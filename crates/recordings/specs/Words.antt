@@ -1,4 +1,4 @@
--- Parsers for the first word of a line. They return its value with the text after the next space.
+-- Parsers for the first word of a line. They return its value and the text after the next space.
 use Rattle.std.specs.Prelude.{ℕ, if◌then◌else◌, List, Option, Some, None}
 use Rattle.std.specs.Str.{bytes_eq}
 use Rattle.job_bodies.specs.WellFormed.{is_valid_name}
@@ -23,7 +23,7 @@ parse_number text = split_space text >>= λ words. number_of words.0 >>= λ n. S
 unfoldable pub parse_name : List ℕ → Option (List ℕ × List ℕ)
 parse_name text = split_space text >>= λ words. name_of words.0 >>= λ name. Some (name, words.1)
 
--- the words after the first one, if that is this word
+-- the words after `word`, if the first word is `word`
 unfoldable pub strip_word : List ℕ → List ℕ → Option (List ℕ)
 strip_word word text = split_space text >>= λ words. if bytes_eq words.0 word then Some words.1 else None
 

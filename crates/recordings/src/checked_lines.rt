@@ -1,4 +1,4 @@
-//! A reader of recordings that checks each line against the rules O1 to O7.
+//! Iteration over the lines of a recording, with a check of each line.
 
 ghost use Rattle.std.specs.Prelude.{◌≡◌, ◌≤◌, length, List, Option, IfOk};
 ghost use Rattle.recordings.specs.RecordingLine.{RecordedLine, lines_read};
@@ -10,10 +10,10 @@ use crate::trace_validator::TraceValidator;
 use crate::{BadLine, Line, RecordingLines};
 use std::alloc::{AllocError, Global};
 
-/// An iterator over the lines of a recording. It checks each line against the rules O1 to O7, given
-/// the lines before it.
+/// An iterator over the lines of a recording. It checks each line: a line is bad if it has none of
+/// the forms in `docs/RECORDING.md`, or if it breaks one of the rules O1 to O7 ([`LineRule`]).
 ///
-/// The iterator reads each line once and stores no line. Its memory use is that of a
+/// The iterator reads each line once and stores no lines. It needs as much memory as a
 /// [`TraceValidator`].
 #[derive(Drop)]
 pub struct CheckedLines<'a> {
@@ -44,9 +44,9 @@ impl<'a> CheckedLines<'a> {
         self.number
     }
 
-    /// Returns the next line if it is valid, or the fault of the line if it is bad. Returns `None`
-    /// after the last line of a valid recording. If the text has no newline, returns the fault that
-    /// line 1 breaks [`LineRule::Frame`].
+    /// Returns the next line, or `None` after the last line. If the next line is bad, returns its
+    /// fault. In a text without a newline, line 1 counts as a bad line that breaks
+    /// [`LineRule::Frame`].
     ///
     /// Do not call this method again after a fault.
     ///

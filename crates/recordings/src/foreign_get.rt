@@ -1,8 +1,8 @@
-//! Foreign gets: gets of jobs by actors that did not submit them, before the submitters got them.
+//! Foreign gets: an actor gets a job that another actor submitted and has not yet got.
 
 use crate::RecordedActor;
 
-/// A get of a job by an actor that did not submit the job, before the submitter got it.
+/// A get of a job that another actor submitted and has not yet got.
 #[derive(Clone, Copy, PartialEq, Eq)]
 pub struct ForeignGet {
     /// The line number of the get, from 1.

@@ -1,8 +1,9 @@
 //! A fast parser for the most frequent kinds of lines.
 //!
-//! The parser reads the words of a line from left to right, so it never searches for the newline.
-//! It returns `None` if the line is bad or of another kind, has no newline, or has a number that is
-//! 0 or above 999,999,999. The parser in `line_forms` then parses the line.
+//! The parser reads a line from left to right, without a search for its newline. It returns `None`
+//! for a line that it does not parse, and the caller then tries the parser in `line_forms`. It does
+//! not parse bad lines, lines of other kinds, lines without a newline, and lines with a number that
+//! is 0 or above 999,999,999.
 
 ghost use Rattle.std.specs.Prelude.{◌≡◌, ◌≤◌, ◌<◌, ◌+◌, ◌++◌, ◌∷◌, true, length, take, codes, decimal, Some, IfSome};
 ghost use Rattle.std.specs.List.{list_all};
@@ -15,11 +16,11 @@ ghost use Rattle.recordings.specs.declared.recording_line.RecordedActor.TheVaria
 use crate::recording_line::{Line, RecordedActor};
 use job_bodies::MAX_NAME_BYTES;
 
-/// The maximum number of digits of a number that this parser accepts. A number with at most 9
-/// digits is below `MAX_LINE_NUMBER`, so the parser need not compare it with this limit.
+/// The maximum number of digits in a number. A number of 9 digits is below `MAX_LINE_NUMBER`, so
+/// this parser does not compare numbers with `MAX_LINE_NUMBER`.
 const MOST_DIGITS: usize = 9;
 
-/// Parses the first line of a text if it has one of the frequent forms. Returns the line with the
+/// Parses the first line of a text if it has one of the frequent forms. Returns the line and the
 /// text after its newline.
 #[inline(always)]
 pub(crate) fn split_frequent_line(text: &[u8]) -> Option<(Line<'_>, &[u8])>
@@ -39,8 +40,8 @@ pub(crate) fn split_frequent_line(text: &[u8]) -> Option<(Line<'_>, &[u8])>
     }
 }
 
-/// Parses a line about a job. `words` is the text after `job N`. Returns the line and the text
-/// after its newline, or `None` if the line has no frequent form.
+/// Parses a line that begins with `job N`. `job` is the number N, and `words` is the text after it.
+/// Returns the line and the text after its newline, or `None` if the line has no frequent form.
 #[inline(always)]
 fn split_job_line(job: usize, words: &[u8]) -> Option<(Line<'_>, &[u8])>
     requires { is_valid_number job ≡ true }
@@ -57,8 +58,8 @@ fn split_job_line(job: usize, words: &[u8]) -> Option<(Line<'_>, &[u8])>
     split_action(RecordedActor::Job(job), words)
 }
 
-/// Parses a line about a round. `words` is the text after `round N`. Returns the line and the text
-/// after its newline, or `None` if the line has no frequent form.
+/// Parses a line that begins with `round N`. `round` is the number N, and `words` is the text after
+/// it. Returns the line and the text after its newline, or `None` if the line has no frequent form.
 #[inline(always)]
 fn split_round_line(round: usize, words: &[u8]) -> Option<(Line<'_>, &[u8])>
     requires { is_valid_number round ≡ true }
@@ -76,8 +77,8 @@ fn split_round_line(round: usize, words: &[u8]) -> Option<(Line<'_>, &[u8])>
     split_action(RecordedActor::Round(round), words)
 }
 
-/// Parses `got J` or `submit J CLASS POOL`, which comes after the actor in a line. Returns the line
-/// with the text after its newline.
+/// Parses the part of a line after the actor: `got J` or `submit J CLASS POOL`. Returns the line
+/// and the text after its newline.
 #[inline(always)]
 fn split_action(actor: RecordedActor, words: &[u8]) -> Option<(Line<'_>, &[u8])>
     requires { is_valid_actor actor ≡ true }
@@ -95,8 +96,8 @@ fn split_action(actor: RecordedActor, words: &[u8]) -> Option<(Line<'_>, &[u8])>
     split_submit(actor, words)
 }
 
-/// Parses `J CLASS POOL`, which comes after `submit` in a line. Returns the line with the text
-/// after its newline.
+/// Parses the part of a line after `submit`: `J CLASS POOL`. Returns the line and the text after
+/// its newline.
 #[inline(always)]
 fn split_submit(actor: RecordedActor, words: &[u8]) -> Option<(Line<'_>, &[u8])>
     requires { is_valid_actor actor ≡ true }
@@ -116,8 +117,8 @@ fn split_submit(actor: RecordedActor, words: &[u8]) -> Option<(Line<'_>, &[u8])>
     Some((line, after))
 }
 
-/// Parses a number at the start of the text, followed directly by the byte `end`. Returns the
-/// number with the text after this byte.
+/// Parses a number at the start of the text. The byte `end` must come directly after it. Returns
+/// the number and the text after this byte.
 #[inline(always)]
 fn split_number(text: &[u8], end: u8) -> Option<(usize, &[u8])>
     ensures { IfSome result (λ read.
@@ -149,8 +150,8 @@ fn digit_of(byte: u8) -> usize
     usize::from(byte).wrapping_sub(usize::from(b'0'))
 }
 
-/// Parses a name at the start of the text, followed directly by the byte `end`. Returns the name
-/// with the text after this byte.
+/// Parses a name at the start of the text. The byte `end` must come directly after it. Returns the
+/// name and the text after this byte.
 #[inline(always)]
 fn split_name(text: &[u8], end: u8) -> Option<(&str, &[u8])>
     ensures { IfSome result

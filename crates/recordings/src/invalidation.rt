@@ -1,6 +1,5 @@
-//! The events of a recording that invalidate a SAFE answer, and their texts. SAFE means that no
-//! sequence of the plan's events ends in a deadlock, or in a submit that a pool refuses although it
-//! must not reject jobs.
+//! The events of a recording that invalidate a SAFE answer, and their texts. A plan is SAFE if no
+//! sequence of its events ends in a deadlock, and no pool refuses a job unless it may reject jobs.
 
 ghost use Rattle.std.specs.Prelude.{◌≡◌, Some};
 ghost use Rattle.recordings.specs.EventText as spec;
@@ -9,7 +8,8 @@ ghost use Rattle.recordings.specs.Invalidations.{keyword_of};
 use crate::RecordedActor;
 use std::fmt;
 
-/// An event that invalidates a SAFE answer for the rest of the recording after its line.
+/// An event that invalidates a SAFE answer: after its line, the answer no longer applies to the
+/// recording.
 ///
 /// The event formats as a short phrase without the line number, such as `job 4 was refused`.
 #[derive(Clone, Copy, PartialEq, Eq)]

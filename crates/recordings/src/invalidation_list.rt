@@ -1,4 +1,4 @@
-//! The events in the lines read so far that invalidate a SAFE answer.
+//! The list of the events that invalidate a SAFE answer, collected line by line.
 
 ghost use Rattle.std.specs.Prelude.{◌≡◌, ◌+◌, [], ℕ, None, OnOk, IfOk};
 ghost use Rattle.std.specs.List.{list_any};
@@ -16,12 +16,12 @@ use crate::{Line, RecordedActor};
 use std::alloc::{AllocError, Global};
 use std::collections::BTreeMap;
 
-/// A list of the invalidating events that may be the first of their type. An event is pending if it
-/// is a get that timed out or was interrupted, and the next line of its actor can still discard it.
-/// For each type, the list has at least these events:
+/// A list of the invalidating events in the lines read so far. It has each event that may be the
+/// first of its type in the recording.
 ///
-/// - the first event that is not pending;
-/// - all pending events before it.
+/// A get that timed out or was interrupted is *pending* until the next line of its actor. That line
+/// can discard the event. For each type, the list has at least the first event that is not pending,
+/// and all pending events before it.
 ///
 /// Processing a line takes one look-up of its actor. If the actor has a pending event, it takes a
 /// second look-up to find this event.
@@ -73,8 +73,8 @@ impl InvalidationList {
         }
     }
 
-    /// Returns the first event of each type, in the order of the lines. A pending event counts like
-    /// any other event.
+    /// Returns the first event of each type, in the order of the lines. A pending event counts too,
+    /// although a later line may discard it.
     ///
     /// # Errors
     ///
@@ -167,7 +167,7 @@ fn settle_event(
     }
 }
 
-/// Appends the event, unless `certain` has an event of the same type.
+/// Appends the event to `certain`, unless `certain` has an event of the same type.
 fn push_type(
     certain: &mut Vec<InvalidatingEvent>,
     event: InvalidatingEvent,
@@ -199,7 +199,7 @@ fn firsts_of(
     Ok(firsts)
 }
 
-/// Appends the event, unless `invalidations` has an event of the same type.
+/// Appends the invalidation, unless the list has an event of the same type.
 fn push_new_type(
     invalidations: &mut Vec<Invalidation>,
     invalidation: Invalidation,

@@ -13,8 +13,8 @@ use support::IdMap;
 pub(crate) struct JobState {
     started: bool,
     cancelled: bool,
-    /// The job that was submitted by the last line of this job. It is `None` if the last line is
-    /// not a submit, or if the job has no line yet. `refused` lines are ignored.
+    /// The job that this job submitted in its last line, apart from `refused` lines. `None` if that
+    /// line is not a submit, or if this job has no such line yet.
     last_submit: Option<usize>,
 }
 
@@ -64,10 +64,10 @@ impl Jobs {
         job < self.submitted && self.get(job).is_none_or(|state| state.cancelled)
     }
 
-    /// Returns the job that was submitted by the last line of `job`. `refused` lines are ignored.
-    /// Returns `None` in these cases:
+    /// Returns the job that `job` submitted in its last line, apart from `refused` lines. Returns
+    /// `None` in these cases:
     ///
-    /// - The last line is not a submit, or `job` has no line yet.
+    /// - That line is not a submit, or `job` has no such line yet.
     /// - `job` was not submitted, or it is done.
     pub(crate) fn last_submit(&self, job: usize) -> Option<usize>
         ensures { result ≡ last_submit_in (job_at self.now job) }
@@ -123,7 +123,7 @@ impl Jobs {
         }
     }
 
-    /// Stores the job that was submitted by the last line of `job`, or `None` if this line is not a
+    /// Stores the job that `job` submitted in its last line, or `None` if that line is not a
     /// submit. Does nothing if `job` is done.
     pub(crate) fn set_last_submit(&mut self, job: usize, last_submit: Option<usize>)
         ensures submitted { self.new.submitted ≡ self.old.submitted }

@@ -2,8 +2,8 @@
 
 ghost use Rattle.recordings.specs.Laws.{RecordingLinesAreCanonical, UnboundedCapacityIsStated};
 
-/// States that each valid line has exactly one text. A text parses as a line exactly if the line is
-/// valid and the text is the text of this line.
+/// States that each valid line has exactly one text. A text parses as a line if and only if the
+/// line is valid and has this text.
 pub fn recording_lines_are_canonical()
     ensures { RecordingLinesAreCanonical }
 {}

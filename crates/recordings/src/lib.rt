@@ -1,6 +1,7 @@
 //! Recordings of test runs. A recording is a text with a line for each event, such as a submit, a
-//! get or the start of a job. An actor is a job, or a round of a thread outside the pools. The
-//! submits and gets of an actor are its path. The lines follow the rules O1 to O7 ([`LineRule`]).
+//! get or the start of a job. An actor is a job or a round. A round is what a client outside the
+//! pools does from the beginning of its body to the end. The submits and gets of an actor are its
+//! path. The lines follow the rules O1 to O7 ([`LineRule`]).
 //!
 //! [`CheckedLines`] reads the lines and stops at the first bad line. [`Paths`] and
 //! [`RecordedNotes`] store what a comparison with a plan needs.

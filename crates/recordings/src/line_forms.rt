@@ -35,7 +35,8 @@ pub(crate) fn line_of(text: &[u8]) -> Option<Line<'_>>
 
 // ---- lines of actors
 
-/// Parses `text`, which comes after `job N` in a line, and returns the whole line.
+/// Parses a line that begins with `job N`. `job` is the number N, and `text` is the rest of the
+/// line.
 #[tactic(auto, unfolding(crate::specs::RecordingLine::job_line_of))]
 fn job_line_of(job: usize, text: &[u8]) -> Option<Line<'_>>
     ensures { option_map line_view result ≡ spec.job_line_of job text.now }
@@ -53,7 +54,8 @@ fn job_line_of(job: usize, text: &[u8]) -> Option<Line<'_>>
     action_of(RecordedActor::Job(job), word, rest)
 }
 
-/// Parses `text`, which comes after `round N` in a line, and returns the whole line.
+/// Parses a line that begins with `round N`. `round` is the number N, and `text` is the rest of the
+/// line.
 #[tactic(auto, unfolding(crate::specs::RecordingLine::round_line_of))]
 fn round_line_of(round: usize, text: &[u8]) -> Option<Line<'_>>
     ensures { option_map line_view result ≡ spec.round_line_of round text.now }
@@ -69,8 +71,8 @@ fn round_line_of(round: usize, text: &[u8]) -> Option<Line<'_>>
     action_of(RecordedActor::Round(round), word, rest)
 }
 
-/// Parses the text after the actor in a line, and returns the whole line. `word` is the first word
-/// of the text, and `rest` is the text after this word.
+/// Parses a line that reports an action of this actor. `word` is the first word after the actor,
+/// and `rest` is the text after this word.
 #[tactic(auto, unfolding(crate::specs::RecordingLine::action_of))]
 fn action_of<'a>(actor: RecordedActor, word: &[u8], rest: &'a [u8]) -> Option<Line<'a>>
     ensures { option_map line_view result ≡ spec.action_of actor word.now rest.now }
@@ -86,7 +88,8 @@ fn action_of<'a>(actor: RecordedActor, word: &[u8], rest: &'a [u8]) -> Option<Li
     job_action_of(actor, word, job)
 }
 
-/// Parses `J CLASS POOL`, which comes after `submit` in a line, and returns the whole line.
+/// Parses a line that reports a submit by this actor. `text` is the part of the line after
+/// `submit`: `J CLASS POOL`.
 #[tactic(auto, unfolding(crate::specs::RecordingLine::submit_of))]
 fn submit_of(actor: RecordedActor, text: &[u8]) -> Option<Line<'_>>
     ensures { option_map line_view result ≡ spec.submit_of actor text.now }
@@ -102,8 +105,8 @@ fn submit_of(actor: RecordedActor, text: &[u8]) -> Option<Line<'_>>
     })
 }
 
-/// Returns the line with this actor, this job and, between them, this word, such as `got`. Returns
-/// `None` if no form of line has this word between an actor and a job.
+/// Returns the line that consists of the actor, the word and the job, such as `round 2 got 5`.
+/// Returns `None` if no form of a line has this word between an actor and a job.
 #[tactic(auto, unfolding(crate::specs::RecordingLine::job_action_of))]
 fn job_action_of<'a>(actor: RecordedActor, word: &[u8], job: usize) -> Option<Line<'a>>
     ensures { option_map line_view result ≡ spec.job_action_of actor word.now job }

@@ -63,11 +63,11 @@ impl<'a> RecordingLines<'a> {
     }
 }
 
-/// Parses the first line of a text, whatever its form. Returns the line and the text after its
-/// newline, or `None` if the text has no newline.
+/// Parses the first line of a text. Returns the line, or [`BadLine`] if the line has no valid form,
+/// and the text after its newline. Returns `None` if the text has no newline.
 ///
-/// The function is inlined to keep the parsing of frequent lines fast: a call would first clear the
-/// space for its return value.
+/// The function is inlined because a call would first clear the space for its return value. This
+/// would slow down the parsing of frequent lines.
 #[inline(always)]
 fn split_line(text: &[u8]) -> Option<(Result<Line<'_>, BadLine>, &[u8])>
     ensures { MatchOption result (lines_read text.now ≡ [])
@@ -80,8 +80,8 @@ fn split_line(text: &[u8]) -> Option<(Result<Line<'_>, BadLine>, &[u8])>
     }
 }
 
-/// Splits the text at its first newline, and returns the text before the newline with the text
-/// after it. Returns `None` if the text has no newline.
+/// Splits the text at its first newline. Returns the text before the newline and the text after it,
+/// or `None` if the text has no newline.
 #[cold]
 #[inline(never)]
 fn split_whole_line(text: &[u8]) -> Option<(&[u8], &[u8])>

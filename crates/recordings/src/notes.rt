@@ -1,5 +1,5 @@
 //! Notes on a recording: the events that invalidate a SAFE answer, and the first foreign get. A
-//! foreign get is a get of a job by an actor other than its submitter, before the submitter got it.
+//! foreign get is a get of a job that another actor submitted and has not yet got.
 
 ghost use Rattle.std.specs.Prelude.{◌≡◌, ◌+◌, ◌++◌, ◌∷◌, [], List, OnOk, IfOk, length};
 ghost use Rattle.recordings.specs.RecordingLine.{RecordedLine, line_view};
@@ -17,8 +17,7 @@ use crate::unclaimed::UnclaimedJobs;
 use std::alloc::{AllocError, Global};
 
 /// The events that invalidate a SAFE answer, and the first foreign get, in the lines read so far. A
-/// foreign get is a get of a job by an actor that did not submit the job, before the submitter got
-/// it.
+/// foreign get is a get of a job that another actor submitted and has not yet got.
 ///
 /// The size grows with the number of jobs that their submitters have not got, and with the number
 /// of actors whose last line is `timeout` or `interrupted`. Processing a line takes a constant
@@ -59,8 +58,8 @@ impl RecordedNotes {
         self.unclaimed.take(line)
     }
 
-    /// Returns the first event of each type that invalidates a SAFE answer, in the order of the
-    /// lines. A `timeout` or `interrupted` line is not such an event if the next line of its actor
+    /// Returns the events that invalidate a SAFE answer, in the order of the lines: the first event
+    /// of each type. A `timeout` or `interrupted` line does not count if the next line of its actor
     /// is a `timeout`, `interrupted` or `got` of the same job.
     ///
     /// # Errors
@@ -74,8 +73,8 @@ impl RecordedNotes {
         self.invalidations.firsts(alloc)
     }
 
-    /// Returns the first get of a job by an actor that did not submit the job, before the submitter
-    /// got it. Returns `None` if there is no such get.
+    /// Returns the first foreign get: a get of a job that another actor submitted and had not yet
+    /// got. Returns `None` if there is no such get.
     pub fn foreign_get(&self) -> Option<ForeignGet>
         ensures { (lines : List RecordedLine)
             → IsNotesOf self.now lines

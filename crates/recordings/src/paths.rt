@@ -14,11 +14,9 @@ use crate::step::RecordedStep;
 use crate::{Line, RecordedActor};
 use std::alloc::{AllocError, Global};
 
-/// The paths of the live actors after the lines read so far. These actors are live:
-///
-/// - a round that began and has not ended;
-/// - a job that was submitted and is not done. A job that was refused, cancelled or removed and
-///   never ran remains live, with an empty path.
+/// The paths of the live actors after the lines read so far. A round is live from its begin to its
+/// end. A job is live from its submit until it is done. A job that never runs, because it was
+/// refused, cancelled or removed, remains live with an empty path.
 ///
 /// Processing a line takes at most two look-ups in tables. For a `got` line, it also takes a binary
 /// search among the submits of the actor. No contract states the size or the time.

@@ -123,7 +123,7 @@ fn yes_or_no(word: &[u8]) -> Option<bool>
     }
 }
 
-/// Parses `queue KIND` at the start of the text, and returns the kind with the text after it.
+/// Parses `queue KIND` at the start of the text. Returns the kind and the text after it.
 #[tactic(auto, unfolding(crate::specs::PoolSizes::parse_queue))]
 fn parse_queue(text: &[u8]) -> Option<(QueueKind, &[u8])>
     ensures { option_map (λ read. (read.0, read.1.now)) result ≡ spec.parse_queue text.now }
@@ -132,8 +132,8 @@ fn parse_queue(text: &[u8]) -> Option<(QueueKind, &[u8])>
     Some((queue_kind_of(word)?, rest))
 }
 
-/// Parses `timeout WORD` at the start of the text, and returns a boolean with the text after it.
-/// The boolean is `true` if WORD is `yes`, and `false` if WORD is `no`.
+/// Parses `timeout yes` or `timeout no` at the start of the text. Returns true for `yes` and false
+/// for `no`, and the text after this word.
 #[tactic(auto, unfolding(crate::specs::PoolSizes::parse_timeout))]
 fn parse_timeout(text: &[u8]) -> Option<(bool, &[u8])>
     ensures { option_map (λ read. (read.0, read.1.now)) result ≡ spec.parse_timeout text.now }

@@ -2,8 +2,8 @@
 
 use crate::pool_sizes::PoolSizes;
 
-/// An actor, which submits and gets jobs. It is a running job, or a round of a thread outside the
-/// pools.
+/// An actor, which submits and gets jobs. It is a running job or a round. A round is one pass of a
+/// thread outside the pools through the body of a client.
 #[derive(Clone, Copy, PartialEq, Eq, Hash)]
 pub enum RecordedActor {
     Job(usize),

@@ -5,13 +5,14 @@ ghost use Rattle.recordings.specs.RuleText.{rule_text};
 
 use std::fmt;
 
-/// A rule for a line of a recording, given the lines before it.
+/// A rule for the lines of a recording. Whether a line keeps the rule depends on the lines before
+/// it.
 #[derive(Clone, Copy, PartialEq, Eq)]
 pub enum LineRule {
     /// O1: the first line is `recording 1`, and no other line is `recording 1`. No line comes after
     /// `end`.
     Frame,
-    /// O2: a line other than a `pool` line names only pools that have a `pool` line before it.
+    /// O2: a `pool` line of a pool comes before any other line that names the pool.
     Pools,
     /// O3: jobs are numbered from 0 in the order of their `submit` lines, and rounds in the order
     /// of their `begin` lines. Any other line that names a job comes after the job's `submit` line.

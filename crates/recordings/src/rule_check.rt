@@ -1,4 +1,4 @@
-//! The check of a line against the rules, given the lines before it.
+//! The check of a line against the rules O1 to O7, which depends on the lines before it.
 
 ghost use Rattle.std.specs.Prelude.{◌≡◌, List};
 ghost use Rattle.recordings.specs.RecordingLine.{RecordedLine, line_view};
@@ -12,7 +12,7 @@ use crate::trace_validator::TraceValidator;
 use crate::{Line, RecordedActor};
 
 /// Returns the first rule that the line breaks, or `None` if it breaks no rule. `lines` is the
-/// state before the line.
+/// state of the check after the lines before it.
 pub(crate) fn first_broken_rule(lines: &TraceValidator, line: &Line<'_>) -> Option<LineRule>
     ensures { (before : List RecordedLine)
         → Represents lines.now before

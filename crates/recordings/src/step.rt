@@ -8,7 +8,7 @@ ghost use Rattle.recordings.specs.ActorPath as spec;
 pub enum RecordedStep {
     /// The actor submitted the job with this number.
     Submits(usize),
-    /// The actor got the job of the submit at this index of the path.
+    /// The actor got the job that it submitted at this index of the path.
     Gets(usize),
 }
 
@@ -23,7 +23,7 @@ impl RecordedStep {
         }
     }
 
-    /// Returns true if this step is a get of the job of the submit at this index of the path.
+    /// Returns true if this step gets the job that was submitted at index `place` of the path.
     pub fn gets(self, place: usize) -> bool
         ensures { result ≡ spec.gets place self }
     {

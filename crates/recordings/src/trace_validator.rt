@@ -13,12 +13,13 @@ use crate::rule_check::first_broken_rule;
 use crate::state_update::apply_line;
 use std::alloc::{AllocError, Global};
 
-/// The state of the check of a recording against the line rules, after the lines read so far.
+/// The state of the check of a recording against the rules O1 to O7 ([`LineRule`]), after the lines
+/// read so far.
 ///
-/// The size of the state grows with the number of pools, of rounds that have not ended and of jobs
-/// that are not done. A job that was refused, cancelled or removed and never ran is not done.
-/// Checking a line takes a few look-ups in tables, however many lines were read before. No contract
-/// states the size or the time.
+/// The size of the state grows with the number of pools, of open rounds and of jobs that are not
+/// done. A job that never runs, because it was refused, cancelled or removed, is not done. Checking
+/// a line takes a few look-ups in tables, however many lines were read before. No contract states
+/// the size or the time.
 #[derive(Drop)]
 pub struct TraceValidator {
     pub(crate) begun: bool,

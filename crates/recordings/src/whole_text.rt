@@ -9,8 +9,8 @@ use crate::fault::RecordingFault;
 use std::alloc::{AllocError, Global};
 
 /// Returns the fault of the first bad line of a recording, or `None` if there is no bad line.
-/// Ignores the text after the last newline. If the text has no newline, returns the fault that line
-/// 1 breaks [`LineRule::Frame`](crate::LineRule::Frame).
+/// Ignores the text after the last newline. In a text without a newline, line 1 counts as a bad
+/// line that breaks [`LineRule::Frame`](crate::LineRule::Frame).
 ///
 /// # Errors
 ///

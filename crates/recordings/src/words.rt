@@ -32,8 +32,8 @@ pub(crate) fn name_of(text: &[u8]) -> Option<&str>
     }
 }
 
-/// Parses a number and a space at the start of the text, and returns the number with the text after
-/// the space.
+/// Parses a number and a space at the start of the text. Returns the number and the text after the
+/// space.
 pub(crate) fn parse_number(text: &[u8]) -> Option<(usize, &[u8])>
     ensures { option_map (λ read. (read.0, read.1.now)) result ≡ spec.parse_number text.now }
 {
@@ -41,7 +41,7 @@ pub(crate) fn parse_number(text: &[u8]) -> Option<(usize, &[u8])>
     Some((number, after.strip_prefix(b" ")?))
 }
 
-/// Parses a name and a space at the start of the text, and returns the name with the text after the
+/// Parses a name and a space at the start of the text. Returns the name and the text after the
 /// space.
 #[tactic(auto, unfolding(crate::specs::Words::parse_name))]
 pub(crate) fn parse_name(text: &[u8]) -> Option<(&str, &[u8])>
@@ -64,8 +64,8 @@ pub(crate) fn strip_word<'a>(word: &str, text: &'a [u8]) -> Option<&'a [u8]>
     }
 }
 
-/// Parses this word, a space, a number and a space at the start of the text. Returns the number
-/// with the text after the last space.
+/// Parses this word, a space, a number and a space at the start of the text. Returns the number and
+/// the text after the last space.
 #[tactic(auto, unfolding(crate::specs::Words::parse_word_and_number))]
 pub(crate) fn parse_word_and_number<'a>(word: &str, text: &'a [u8]) -> Option<(usize, &'a [u8])>
     ensures { option_map (λ read. (read.0, read.1.now)) result
