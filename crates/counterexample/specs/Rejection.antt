@@ -19,8 +19,8 @@ is_rejection_by p _ = false
 abbrev pub NoneRejected : Plan → List Event → ℕ → Type 0
 NoneRejected plan events p = (j : ℕ) → ¬ In (Some (outcome.Rejected p j)) (outcomes plan (Some (start plan)) events)
 
--- the last event is a submit whose job pool p rejects; each earlier event is possible and is not a refused submit, and p rejects no job
--- before
+-- the last event is a submit whose job pool p rejects. Before it, each event is possible, none is a refused submit, and p rejects
+-- no job.
 pub record EndsRejected (plan : Plan) (events : List Event) (p : ℕ) : Type 0 where
   pub front : List Event
   pub last : Event
