@@ -126,8 +126,8 @@ fn standing(alloc: Global) -> Result<Vec<Vector>, AllocError> {
     Ok(vectors)
 }
 
-/// Tests when jobs that wait only for each other wait permanently: only if each pool that has one of
-/// them in its queue has at least core threads, and starts no thread above core.
+/// Tests when jobs that wait only for each other wait permanently. This is so only if each pool
+/// that has one of them in its queue has at least core threads, and starts no thread above core.
 #[test]
 fn jobs_wait_for_ever_only_at_core(rt: HostRuntime) -> Result<(), Fail> {
     let alloc = rt.alloc();

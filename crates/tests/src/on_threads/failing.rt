@@ -15,10 +15,10 @@ const WRITE_FAILED: ServeFault = ServeFault { number: 61 };
 // The maximum number of bytes that a call of a failing source or sink reads or writes.
 const PIECE: usize = 250;
 
-/// Returns the output of the command, followed by a note for each unexpected result of a
-/// repetition. The command is repeated with these sources and sinks:
+/// Returns the output of the command. Then repeats the command, and adds a note for each unexpected
+/// result. The repetitions have these sources and sinks:
 ///
-/// - a source and a sink that transfer one byte in each call;
+/// - a source and a sink that transfer one byte in each call, and
 /// - a source or a sink of which one call fails.
 pub fn run_with_failures<R: Threads + Wait + Sync>(
     rt: &R,
@@ -34,11 +34,11 @@ pub fn run_with_failures<R: Threads + Wait + Sync>(
     Ok(answer)
 }
 
-/// Repeats the command, and appends a note to the answer for each unexpected result. The command is
-/// repeated with these sources and sinks:
+/// Repeats the command, and appends a note to the answer for each unexpected result. The
+/// repetitions have these sources and sinks:
 ///
-/// - a source and a sink that transfer one byte in each call. The result must be `ended`;
-/// - a source or a sink of which one call fails.
+/// - A source and a sink that transfer one byte in each call. The result must be `ended`.
+/// - A source or a sink of which one call fails.
 pub fn push_differences<R: Threads + Wait + Sync>(
     rt: &R,
     alloc: Global,

@@ -23,9 +23,9 @@ pub struct Case<'a> {
 }
 
 impl Case<'_> {
-    /// Runs the command again for each call of the source and of the sink. In each of these runs,
-    /// this call fails, or the sink accepts no byte in this call and all later calls. Appends a
-    /// note to the answer for each unexpected result.
+    /// Runs the command again for each call of the source and of the sink, so that this call fails.
+    /// Also runs it with sinks that accept no byte from some call on. Appends a note to the answer
+    /// for each unexpected result.
     pub fn push_differences(
         &self,
         alloc: Global,
