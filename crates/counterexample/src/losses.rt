@@ -59,9 +59,9 @@ impl<'a> Losses<'a> {
         Losses { machine, potential }
     }
 
-    /// Returns the loss of the choice, made by `actor`. The loss is at most [`MAX_LOST`]. The
-    /// choice must be possible. If a new client starts, or a thread takes a job or ends, `actor` has
-    /// no effect.
+    /// Returns the loss of the choice if `actor` makes it. The loss is at most [`MAX_LOST`]. The
+    /// choice must be possible. If a new client starts, or a thread takes a job or ends, `actor`
+    /// has no effect.
     pub(crate) fn of(&self, choice: Choice, actor: Option<Parent>) -> u64 {
         let lost = match choice {
             Choice::Begin(kind) => self.of_begin(kind),

@@ -239,12 +239,14 @@ impl<'a> Machine<'a> {
         Some(job)
     }
 
-    /// Returns `true` if an idle thread of the pool can end, as [`SearchPool::can_retire`] does.
+    /// Returns `true` if an idle thread of the pool can end, as [`SearchPool::can_retire`]
+    /// determines.
     pub(crate) fn can_retire(&self, pool: usize) -> bool {
         self.pools.get(pool).is_some_and(|pool| pool.can_retire())
     }
 
-    /// Makes an idle thread of the pool end, and returns `true`, as [`SearchPool::retire`] does.
+    /// Ends an idle thread of the pool if [`SearchPool::can_retire`] returns `true`. Returns
+    /// whether a thread ended.
     pub(crate) fn retire(&mut self, pool: usize) -> bool {
         match self.pools.get_mut(pool) {
             Some(pool) => pool.retire(),

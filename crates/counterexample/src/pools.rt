@@ -197,7 +197,8 @@ impl SearchPool {
             && (self.unbounded || self.capacity > 0 || queued < self.idle)
     }
 
-    /// Ends an idle thread, and returns `true`. Returns `false` if [`can_retire`] does.
+    /// Ends an idle thread and returns `true`, if [`can_retire`] returns `true`. Otherwise changes
+    /// nothing and returns `false`.
     ///
     /// [`can_retire`]: SearchPool::can_retire
     pub(crate) fn retire(&mut self) -> bool {

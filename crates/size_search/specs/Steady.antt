@@ -142,12 +142,12 @@ zeros numbers = replicate (length numbers) 0
 abbrev pub zero_vector : Vector → Vector
 zero_vector v = record { workers = zeros v.workers; classes = map zeros v.classes; clients = map zeros v.clients }
 
--- the blocked vector of a pool: all 0 if none of its gets is counted
+-- the blocked vector of a pool: all 0 if the flag is true, which says that none of its gets is counted, and otherwise the vector
 abbrev pub blocked_of : Vector → Bool → Vector
 blocked_of v true = zero_vector v
 blocked_of v false = v
 
--- the vector as the bound of a pool that needs a bound; none for another pool
+-- the vector as the bound of a pool; none if the flag is true, which says that the pool needs no bound
 abbrev pub bound_of : Vector → Bool → Option Bound
 bound_of v true = None
 bound_of v false = Some (Standing v)

@@ -46,7 +46,7 @@ NoneWaitsForItself plan = (p : ℕ) → ¬ WaitsForItself plan p
 
 -- ---- classes that no client submits
 
--- clients submit each class that has a get and whose pool's core threads may time out, directly or through other jobs
+-- clients submit, directly or through other jobs, each class that has a get and whose pool's core threads may time out
 abbrev pub GetsAreUsed : Plan → Type 0
 GetsAreUsed plan = (k j : ℕ) → MayLoseThreads plan k → GetsClass (class_at plan k).body j → IsSubmitted plan (client_bodies plan) k
 

@@ -1,4 +1,4 @@
--- Maximums that leave room for the cores that a certificate needs, if a core would be above its maximum.
+-- Plans whose maximums were raised to the cores that a certificate needs.
 use Rattle.std.specs.Prelude.{◌≡◌, ◌≤◌, ◌<◌, ℕ, max, if◌then◌else◌, map, length, IsTrue, IsFalse}
 use Rattle.std.specs.List.{enumerate_from}
 use Rattle.job_bodies.specs.Plan.{Pool, Plan, pool_at}

@@ -21,8 +21,8 @@ fn nested(alloc: Global, sizes: &str, count: u64) -> Result<String, AllocError> 
     )
 }
 
-// The events of a whole round of the client, in which each of two core threads runs a job, and of
-// its next submit, whose job waits for a queued job while the other thread ends.
+// The events of a whole round of the client and of its next submit. In the round, each of two core
+// threads runs a job. After the next submit, one thread waits for a queued job, and the other ends.
 const STARVED: [Event; 12] = [
     Event::Client(0),
     Event::Job(0),

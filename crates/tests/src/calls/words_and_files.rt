@@ -247,7 +247,7 @@ const NO_ANSWERS: &[(&[&str], &str, u8)] = &[
     ),
     (&["sizing", "certify", "none.toml"], "unread none.toml", 3),
     (&["sizing", "check", "-", "-"], "input twice", 2),
-    // Of two texts, neither is a bundle itself, except a recording.
+    // If two texts are given, neither may be a bundle. The exception is a recording.
     (&["sizing", "ask", "plan.toml", "both"], "bundle both", 2),
     (&["sizing", "check", "both", "cert.json"], "bundle both", 2),
     (&["sizing", "conform", "both", "-"], "bundle both", 2),
