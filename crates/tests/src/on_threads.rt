@@ -40,8 +40,8 @@ use std::thread::Threads;
 ///   check on threads, with several numbers of workers.
 /// - `fit` and `fit bundle`: the output of `fit` as sizes and as a bundle. If the text is short,
 ///   the test repeats the command with single bytes, and with a source and a sink that fail. The
-///   same applies to `refute`, `refute bundle`, and each kind of `ask` except `ask head` and `ask
-///   html`.
+///   same applies to `refute`, `refute bundle`, and each kind of `ask` except `ask head` and
+///   `ask html`.
 /// - `fit and check`: if `fit` writes a bundle, the first line of the output of `check` for this
 ///   bundle, and then the output of `fit` for the plan in the bundle. Otherwise the answer is the
 ///   output of `fit`.
