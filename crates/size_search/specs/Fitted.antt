@@ -60,7 +60,7 @@ abbrev pub is_total : Place → Bool
 is_total Total = true
 is_total _ = false
 
--- the certificate fits the plan, and each condition that fails is S2, L3 or B2
+-- the certificate fits the plan, and only conditions that limit a total fail: the rules S2, L3 and B2
 abbrev pub fails_only_at_totals : Plan → Cert → Bool
 fails_only_at_totals plan cert = cert_fits plan cert && list_all (λ note. is_total note.place) (failing plan cert)
 
