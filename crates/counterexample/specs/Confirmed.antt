@@ -19,8 +19,8 @@ use Rattle.counterexample.specs.Witness.{LeadsTo, NoneRefused, EndsRefused}
 
 -- ---- the reasons for a permanent wait
 
--- `standing` has a vector for the pool, it satisfies the conditions of a standing vector, and under it a rejected job does not increase the
--- weight of a state
+-- `standing` has a vector for the pool that satisfies the conditions of a standing vector, and under this vector a rejected job
+-- does not increase the weight of a state
 pub record GivenStanding (plan : Plan) (standing : List Vector) (p : ℕ) : Type 0 where
   pub vector : Vector
   pub given : slice_get standing p ≡ Some vector
@@ -28,13 +28,13 @@ pub record GivenStanding (plan : Plan) (standing : List Vector) (p : ℕ) : Type
   pub hold : AllHold (standing_rows plan p vector)
   pub light : RejectedAreLight plan vector
 
--- why pool p starts no thread: it has all its threads; or it may have fewer, but has at least core threads, and its queue is unbounded or
--- `standing` has a valid standing vector for it
+-- pool p starts no thread, for this reason. `PoolsAreFull`: p has all its threads. `PoolsStayAtCore`: p is full (`IsFull`), or it
+-- has at least core threads and `standing` has a valid standing vector for it.
 abbrev pub StartsNoneFor : Plan → List Vector → State → Reason → ℕ → Type 0
 StartsNoneFor plan standing s PoolsAreFull p = HasMaxThreads plan s p
 StartsNoneFor plan standing s PoolsStayAtCore p = IsFull plan s p ⊎ (GivenStanding plan standing p × ((pool_at plan p).core ≤ threads plan s p))
 
--- each pool with a queued member starts no thread, for this reason
+-- no pool with a queued member starts a thread, for this reason
 abbrev pub AllStartNoneFor : Plan → List ℕ → List Vector → State → Reason → Type 0
 AllStartNoneFor plan members standing s reason = WhereMembersQueue plan s members (StartsNoneFor plan standing s reason)
 
@@ -46,8 +46,8 @@ IsReason plan members standing s None = ¬ AllStartNoneFor plan members standing
 
 -- ---- the result
 
--- no event is a refused submit, and after all events the members wait only for each other; they do so permanently if there is a
--- reason
+-- no event is a refused submit, and after all events the members wait only for each other. If there is a reason, they wait
+-- permanently.
 pub record IsStuck (plan : Plan) (events : List Event) (members : List ℕ) (standing : List Vector) (reason : Option Reason) : Type 0 where
   pub rising : IsTrue (are_rising members)
   pub none_refused : NoneRefused plan events
@@ -57,14 +57,14 @@ pub record IsStuck (plan : Plan) (events : List Event) (members : List ℕ) (sta
 abbrev pub BeginsWith : List Event → List Event → Type 0
 BeginsWith events front = (rest : List Event) × (events ≡ front ++ rest)
 
--- the list begins with the events `front`, which have this ending
+-- the list begins with the events `front`, and these events have this ending
 abbrev pub HasEnding : Plan → List Event → List ℕ → List Vector → List Event → Ending → Type 0
 HasEnding plan events members standing front (Refused p) = BeginsWith events front × EndsRefused plan front p
 HasEnding plan events members standing front (StuckForever stuck reason) = (front ≡ events) × (stuck.items ≡ members) × IsStuck plan events members standing (Some reason)
 HasEnding plan events members standing front (StuckNow stuck) = (front ≡ events) × (stuck.items ≡ members) × IsStuck plan events members standing None
 
--- the answer of `confirmed`: None exactly when no event is a refused submit and the events do not lead to a waiting set whose
--- numbers are these members in ascending order; otherwise a witness with its ending
+-- the answer of `confirmed`. It is a witness with its ending, or None exactly if two conditions hold: no event is a refused
+-- submit, and the events do not lead to a waiting set whose members are these numbers in ascending order.
 abbrev pub IsAnswer : Plan → List Event → List ℕ → List Vector → Option Witness → Type 0
 IsAnswer plan events members standing None = NoneRefused plan events × (IsTrue (are_rising members) → ¬ LeadsTo plan events (λ s. IsWaitingSet plan s members))
 IsAnswer plan events members standing (Some witness) = HasEnding plan events members standing witness.events.items witness.ending

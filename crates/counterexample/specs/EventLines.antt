@@ -6,7 +6,7 @@ use Rattle.counterexample.specs.declared.ending.Ending.{Ending}
 use Rattle.counterexample.specs.declared.ending.Ending.TheVariants.{Refused, StuckForever, StuckNow}
 use Rattle.counterexample.specs.declared.witness.Witness.{Witness}
 
--- the line that asks whether these jobs wait only for each other; no line if there are no jobs
+-- the `stuck` line, which asks whether these jobs wait only for each other; no line if there are no jobs
 abbrev pub question : List ℕ → List Line
 question [] = []
 question (j ∷ js) = Stuck (j ∷ js) ∷ []
@@ -17,7 +17,7 @@ stuck_members (Refused p) = []
 stuck_members (StuckForever members reason) = members.items
 stuck_members (StuckNow members) = members.items
 
--- a line for each event, and then the line that asks whether these jobs wait only for each other
+-- a line for each event, and then the `stuck` line for these jobs, if there are any
 abbrev pub lines_of : List Event → List ℕ → List Line
 lines_of events members = map (λ event. Perform event) events ++ question members
 

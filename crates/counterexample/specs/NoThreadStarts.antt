@@ -1,4 +1,4 @@
--- The test that the pools with queued members start no further thread, computed from the live view of a state.
+-- The test that no pool with a queued member starts a further thread, computed from the live view of a state.
 use Rattle.std.specs.Prelude.{ℕ, ◌==◌, ◌&&◌, ◌||◌, not, nat_lt, nat_le, Bool, true, false, List, length, Option, Some, None, is_some, slice_get}
 use Rattle.std.specs.List.{list_all, enumerate_from}
 use Rattle.job_bodies.specs.Plan.{Plan, Class, pool_at}
@@ -29,13 +29,14 @@ is_light plan v entry = not (pool_at plan entry.1.pool).may_reject || nat_le (do
 abbrev pub rejected_are_light : Plan → Vector → Bool
 rejected_are_light plan v = list_all (is_light plan v) (enumerate_from 0 plan.classes)
 
--- there is a vector, it satisfies all conditions of a standing vector of the pool, and under it a rejected job does not increase the weight
--- of a state
+-- there is a vector that satisfies all conditions of a standing vector of the pool, and under which a rejected job does not
+-- increase the weight of a state
 abbrev pub has_standing : Plan → ℕ → Option Vector → Bool
 has_standing plan p None = false
 has_standing plan p (Some v) = vector_fits plan v && not (is_some (first_failing (standing_rows plan p v))) && rejected_are_light plan v
 
--- the pool has at least core threads, and starts none above core, because its queue is unbounded or there is a valid standing vector
+-- the pool has at least core threads, and starts none above core, because its queue is unbounded or `standing` has a valid
+-- standing vector for it
 abbrev pub stays_at_core : Plan → View → List Vector → ℕ → Bool
 stays_at_core plan view standing p = has_core_threads view p && ((pool_in view p).unbounded || has_standing plan p (slice_get standing p))
 
@@ -60,6 +61,6 @@ abbrev pub job_starts_no_thread : Plan → View → List Vector → Reason → O
 job_starts_no_thread plan view standing reason None = true
 job_starts_no_thread plan view standing reason (Some job) = phase_starts_no_thread plan view standing reason job.class job.phase
 
--- each pool with a queued member starts no thread, for this reason
+-- no pool with a queued member starts a thread, for this reason
 abbrev pub all_start_no_thread : Plan → View → List Vector → Reason → List ℕ → Bool
 all_start_no_thread plan view standing reason members = list_all (λ j. job_starts_no_thread plan view standing reason (live_job view.jobs j)) members

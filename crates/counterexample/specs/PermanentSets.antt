@@ -12,19 +12,21 @@ use Rattle.weights.specs.Vector.{Vector}
 use Rattle.weights.specs.Standing.{standing_rows}
 use Rattle.soundness.specs.WeightLaws.{RejectedAreLight}
 
--- some vector satisfies the conditions of a standing vector of the pool, and under it a rejected job does not increase the weight of a
--- state, which holds for every vector if no pool may reject jobs
+-- some vector satisfies the conditions of a standing vector of the pool, and under this vector a rejected job does not increase
+-- the weight of a state. If no pool may reject jobs, the second condition holds for every vector.
 pub record HasStanding (plan : Plan) (p : ℕ) : Type 0 where
   pub vector : Vector
   pub hold : AllHold (standing_rows plan p vector)
   pub light : RejectedAreLight plan vector
 
--- a pool with a standing vector never has more than core threads, whatever the other pools do and even if its core threads may time out
+-- a pool with a standing vector never has more than core threads, whatever the other pools do and even if its core threads may
+-- time out
 abbrev pub StandingPoolsStayAtCore : Type 0
 StandingPoolsStayAtCore = (plan : Plan) (p : ℕ) (s : State) → IsWellFormed plan → p < length plan.pools → HasStanding plan p → IsReached plan s → threads plan s p ≤ (pool_at plan p).core
 
--- pool p starts no thread: it is full, or it has at least core threads and never has more. A pool with a queued job has at least core
--- threads, unless its core threads may time out: it may then have fewer, and the next submit starts a thread, which can take the job
+-- pool p starts no thread: it is full (`IsFull`), or it has at least core threads and a standing vector. Only a pool whose core
+-- threads may time out can have fewer than core threads while a job is queued. Then the next submit starts a thread, which can
+-- take the job.
 abbrev pub StartsNoThread : Plan → State → ℕ → Type 0
 StartsNoThread plan s p = IsFull plan s p ⊎ (HasStanding plan p × ((pool_at plan p).core ≤ threads plan s p))
 

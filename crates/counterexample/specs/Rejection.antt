@@ -10,17 +10,17 @@ use Rattle.written_machine.specs.Step.{step}
 use Rattle.written_machine.specs.Reach.{start, outcomes, Reaches}
 use Rattle.counterexample.specs.Witness.{NoneRefused}
 
--- whether pool p rejected the job of a submit
+-- whether the outcome is that pool p rejected a job
 abbrev pub is_rejection_by : ℕ → Outcome → Bool
 is_rejection_by p (outcome.Rejected q j) = q == p
 is_rejection_by p _ = false
 
--- pool p rejects no job
+-- pool p rejects no job in these events
 abbrev pub NoneRejected : Plan → List Event → ℕ → Type 0
 NoneRejected plan events p = (j : ℕ) → ¬ In (Some (outcome.Rejected p j)) (outcomes plan (Some (start plan)) events)
 
--- the last event is a submit whose job pool p rejects; each earlier event is possible and is not a refused submit, and p rejects no job
--- before
+-- the last event is a submit whose job pool p rejects. Before it, each event is possible, none is a refused submit, and p rejects
+-- no job.
 pub record EndsRejected (plan : Plan) (events : List Event) (p : ℕ) : Type 0 where
   pub front : List Event
   pub last : Event

@@ -1,8 +1,12 @@
-//! A best-first search for a violation. To expand a state is to visit its successors. Several
-//! measures take turns in selecting the next state to expand: the weight that was lost under a
-//! vector, the number of threads that do not wait, and the least room of a pool that may refuse a
-//! job. A violation is permanent if it is a refused submit, or if jobs wait only for each other and
-//! no later event ends the wait.
+//! A best-first search for a violation. The search repeatedly selects a reached state and *expands*
+//! it: it visits the successors of this state. Several measures take turns in the selection:
+//!
+//! - the weight, under a vector, that was lost on the way to the state,
+//! - the number of threads that do not wait at a get, and
+//! - the least room of a pool that may refuse a job.
+//!
+//! A violation is *permanent* if it is a refused submit, or if jobs wait only for each other and no
+//! later event ends the wait.
 
 use crate::branches::Branch;
 use crate::choices::Choices;
@@ -14,8 +18,8 @@ use std::alloc::{AllocError, Global};
 use std::collections::{BinaryHeap, HashSet};
 use std::hash::{BuildHasherDefault, FoldHasher};
 
-/// The maximum number of vectors that the search uses as measures. The measure of a vector is the
-/// weight, under the vector, that was lost on the way to a state.
+/// The maximum number of vectors that the search uses as measures. For each of these vectors, the
+/// measure of a state is the weight that was lost on the way to this state.
 const MAX_VECTORS: usize = 2;
 
 /// A state that the search reached. The state is open until the search visits its successors. Then
@@ -29,8 +33,8 @@ struct Node {
     is_open: bool,
 }
 
-/// A reached state that was recreated, and for each vector the weight that was lost on the way to
-/// this state.
+/// A reached state that was recreated by a replay, and the weight that was lost on the way to this
+/// state, for each vector.
 #[derive(Drop)]
 struct ReplayedState<'a> {
     walk: Walk<'a>,
@@ -49,9 +53,11 @@ pub(crate) struct BestFirstResult {
     pub(crate) left: usize,
 }
 
-/// Searches from the plan's initial state for a permanent violation, in at most `states` visited
-/// states. Continues in turn from the oldest open state, and from the open state with the smallest
-/// value of each of these measures:
+/// Searches for a permanent violation, from the plan's initial state. Visits at most `states`
+/// states.
+///
+/// The search expands one open state after another. In turn, it selects the oldest open state, and
+/// the open state with the smallest value of each of these measures:
 ///
 /// - the weight lost under each of the first [`MAX_VECTORS`] vectors in `potentials`,
 /// - the number of threads that do not wait at a get, and
@@ -81,8 +87,8 @@ struct BestFirst<'a> {
     /// For each measure, a heap of the open states, with the most promising state on top. The
     /// initial state is in no heap. The heaps can also contain closed states.
     opens: Vec<BinaryHeap<(u64, usize), Global>>,
-    /// The number of the state at which the search for the oldest open state starts. All states
-    /// with smaller numbers are closed.
+    /// A number such that all states with smaller numbers are closed. The search for the oldest
+    /// open state starts at this number.
     oldest: usize,
     /// The number of states that the search may still visit.
     left: usize,
@@ -217,9 +223,10 @@ impl<'a> BestFirst<'a> {
         Ok(None)
     }
 
-    /// Visits the state to which the branch leads from state `number`. Adds it to the open states
-    /// if it was not reached before and no submit was refused. Returns the violation in the new
-    /// state, but omits a violation that is not permanent if one is already stored.
+    /// Visits the successor to which the branch leads from state `number`. Adds the successor to
+    /// the open states if no submit was refused and the search has not reached this state before.
+    /// Returns the violation in the successor, if there is one. A violation that is not permanent
+    /// is returned only if `stuck_now` has no events yet.
     fn visit(
         &mut self,
         replayed: &ReplayedState<'a>,
@@ -244,8 +251,8 @@ impl<'a> BestFirst<'a> {
         Ok(None)
     }
 
-    /// Adds the open state `number` to the heap of each measure. `walk` is in this state, and
-    /// `branch` leads to it from the state `replayed`.
+    /// Adds the open state `number` to the heap of each measure. `walk` is in this state.
+    /// `replayed` is the preceding state, from which `branch` leads to this state.
     fn add_open(
         &mut self,
         replayed: &ReplayedState<'a>,

@@ -16,9 +16,9 @@ const MAX_ACTORS: usize = 8;
 /// A choice and the actor that makes it.
 ///
 /// - `place` is the index of the choice.
-/// - `newer` selects an actor that is ready for the choice: it is the number of actors that became
-///   ready later than the selected one. `newer` has no effect if a new client starts, or if a
-///   thread takes a job or ends.
+/// - `newer` selects the actor among those that are ready for the choice: 0 is the one that became
+///   ready last, 1 is the one before it, and so on. If a new client starts, or if a thread takes a
+///   job or ends, `newer` has no effect.
 #[derive(Clone, Copy, PartialEq, Eq)]
 pub(crate) struct Branch {
     pub(crate) place: usize,
@@ -77,8 +77,8 @@ impl<'a> Walk<'a> {
             && !ready.is_empty())
     }
 
-    /// Returns the weight that the state loses under the vector `potential` if the branch is taken,
-    /// as [`Losses::of`] computes it. Returns 0 if there is no choice with the branch's index.
+    /// Returns the weight under the vector `potential` that the state loses by this branch. The
+    /// result is that of [`Losses::of`], or 0 if no choice has the branch's index.
     pub(crate) fn loss(&self, branch: Branch, potential: &Potential) -> u64 {
         let Some(choice) = self.choices.all.get(branch.place).copied() else {
             return 0;
@@ -123,8 +123,8 @@ impl<'a> Walk<'a> {
         least
     }
 
-    /// Returns `true` if some pool has a queued job but no idle thread, or if its idle threads can
-    /// all end.
+    /// Returns `true` if some pool has a queued job, and each idle thread of this pool, if any, can
+    /// end.
     pub(crate) fn has_closed(&self) -> bool {
         self.machine
             .pools

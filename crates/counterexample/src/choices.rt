@@ -32,7 +32,8 @@ pub(crate) enum Choice {
 pub(crate) struct Choices {
     pub(crate) all: Vec<Choice>,
     /// Whether core threads of some pool may time out. Jobs can then wait only for each other in a
-    /// state that does not last, because an idle thread either ends or takes a job.
+    /// state that soon ends, because an idle thread that could have ended takes a queued job
+    /// instead.
     pub(crate) has_core_timeout: bool,
     /// For each choice, the limit for its submit, or `None` if the choice submits no job or submits
     /// it to a bounded queue.

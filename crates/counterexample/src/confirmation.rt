@@ -24,18 +24,18 @@ use weights::Vector;
 ///
 /// - `members` should be the numbers of jobs that wait only for each other after the events, in
 ///   ascending order and without duplicates.
-/// - `standing` should be empty or have one vector for each pool, which may prove that the pool
+/// - `standing` should be empty, or have one vector for each pool. A vector can prove that its pool
 ///   never has more than `core` threads.
 ///
 /// The events are performed in order. A submit is *refused* only if its pool has no room for the
 /// job and must not reject jobs. A rejection that the plan allows is an event like any other.
 ///
-/// - If a submit is refused, returns a witness that ends with this event, without the later events.
+/// - If a submit is refused, returns a witness that ends with this event. Later events are ignored.
 /// - If an event is not possible, and no submit was refused before it, returns `None`.
 /// - Otherwise, if the members are in ascending order and wait only for each other after the
 ///   events, returns a witness with all events. If they are not, returns `None`.
 ///
-/// A vector is used as a proof only if these conditions hold:
+/// A vector counts as a proof only if these conditions hold:
 ///
 /// - Its pool has at least `core` threads after the events. If core threads may time out, the pool
 ///   may have fewer, and then the next submit starts a thread.

@@ -19,8 +19,12 @@ pub enum Ending {
 pub enum Reason {
     /// Each pool that has one of the jobs in its queue has `max` threads.
     PoolsAreFull,
-    /// For each pool that has one of the jobs in its queue, one of these holds: the pool has `max`
-    /// threads, or it has at least `core` threads and starts none above `core`. The latter is so if
-    /// its queue is unbounded, or if a standing vector proves that the queue is never full.
+    /// Each pool that has one of the jobs in its queue starts no further thread. One of these
+    /// holds:
+    ///
+    /// - The pool has `max` threads.
+    /// - The pool has at least `core` threads and an unbounded queue.
+    /// - The pool has at least `core` threads, and a standing vector proves that its queue is never
+    ///   full.
     PoolsStayAtCore,
 }

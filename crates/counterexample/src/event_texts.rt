@@ -12,8 +12,8 @@ use std::alloc::AllocError;
 use support::push_number;
 
 /// Appends each event of the witness on a line of its own, in the format that the command `replay`
-/// reads. If jobs wait only for each other after the events, appends a `stuck` line with the
-/// numbers of these jobs.
+/// reads. If the witness ends with jobs that wait only for each other, then appends a line with
+/// their numbers, such as `stuck 0 2`.
 ///
 /// # Errors
 ///

@@ -1,9 +1,13 @@
 //! Fingerprints of states, by which a search recognises the states that it has reached.
 //!
-//! Two states have the same fingerprint if they differ only in how jobs and clients are numbered,
-//! in finished jobs that no actor will get, or in clients that are again at their first submit. Two
-//! other states may have the same fingerprint by chance. The search then continues from only one of
-//! them.
+//! Two states have the same fingerprint if they differ only in these respects:
+//!
+//! - how jobs and clients are numbered,
+//! - finished jobs that no actor will get, and
+//! - clients that are again at their first submit.
+//!
+//! Two other states can have the same fingerprint by chance. The search then continues from only
+//! one of them.
 
 use crate::choices::{Choice, Choices};
 use crate::machine::{Job, Machine, Phase};
@@ -92,9 +96,9 @@ impl Prints<'_> {
         }
     }
 
-    /// Adds the fingerprint of a job to that of its parent, if the parent will get the job.
-    /// Otherwise adds it to that of the whole state, unless the job is done. The jobs that this job
-    /// will get must have been added before.
+    /// Adds the fingerprint of this job to the fingerprint of its parent if the parent will get the
+    /// job, and otherwise to the fingerprint of the whole state. Skips a done job that no actor
+    /// will get. The jobs that this job will get must have been added before.
     fn add_job(&mut self, number: usize, job: &Job) {
         let of_jobs = self.of_jobs.get(number).copied().unwrap_or(0);
         let phase = match job.phase {
@@ -132,8 +136,8 @@ impl Prints<'_> {
             && self.machine.child(job.parent, job.submit) == Some(number)
     }
 
-    /// Adds the fingerprint of a client to that of the whole state. Adds nothing if the client is
-    /// at its first submit.
+    /// Adds the fingerprint of a client to the fingerprint of the whole state. Skips a client that
+    /// is at its first submit.
     fn add_client(&mut self, choices: &Choices, number: usize) {
         let actor = Parent::Client(number);
         let Some((position, _)) = self.machine.point(actor) else {

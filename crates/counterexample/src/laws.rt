@@ -28,11 +28,15 @@ pub fn standing_pools_stay_at_core()
     ensures { StandingPoolsStayAtCore }
 {}
 
-/// States that a permanent waiting set lasts. A waiting set is a set of jobs that wait only for
-/// each other. It is permanent if each pool that has a member in its queue has `max` threads, or has
-/// at least `core` threads and either an unbounded queue or a vector as in
-/// [`standing_pools_stay_at_core`]. After every list of events, a permanent waiting set is still a
-/// waiting set, and none of its jobs has moved.
+/// States that a permanent waiting set lasts. After every list of events, a permanent waiting set
+/// is still one, and none of its jobs has moved.
+///
+/// A waiting set is a set of jobs that wait only for each other. It is permanent if one of these
+/// holds for each pool that has a member in its queue:
+///
+/// - The pool has `max` threads.
+/// - The pool has at least `core` threads and an unbounded queue.
+/// - The pool has at least `core` threads and a vector as in [`standing_pools_stay_at_core`].
 pub fn permanent_waiting_sets_stay()
     ensures { PermanentWaitingSetsStay }
 {}

@@ -3,9 +3,11 @@
 //!
 //! A [`Witness`] is a list of events. Either its last event is a refused submit, or some jobs wait
 //! only for each other after it. The search is not trusted: [`confirmed`] replays the events that
-//! the search finds. If core threads of a pool may time out, its idle threads can end in events of a
-//! witness. Jobs that wait only for each other once idle threads have ended are found before, and
-//! these threads then end in the last events.
+//! the search finds.
+//!
+//! If core threads of a pool may time out, events of a witness can end idle threads of this pool.
+//! The search also finds jobs that wait only for each other once such threads have ended. The last
+//! events of the witness then end these threads.
 //!
 //! A pool that may reject jobs, as the plan allows, refuses none. A submit that it rejects is an
 //! ordinary event of a witness. [`find_rejection`] searches for events that lead to a rejection. A

@@ -1,6 +1,8 @@
-//! The loss of a choice: the amount by which the choice decreases the weight of the state. A vector
-//! of weights determines the weight of each state, and no event increases it. If the vector's total
-//! exceeds the bound by `e`, a walk that violates the bound loses at most `e` in all.
+//! The losses of choices. A vector of weights gives each state a weight, and no event increases it.
+//! The loss of a choice is the amount by which the choice decreases this weight.
+//!
+//! If the total of a vector exceeds a bound by `e`, a walk that violates this bound loses at most
+//! `e` in all. So a guided walk prefers choices with small losses.
 
 use crate::choices::Choice;
 use crate::machine::Machine;
@@ -9,15 +11,14 @@ use crate::vectors::Potential;
 use job_bodies::{Action, MAX_ACTIONS};
 use written_machine::Parent;
 
-/// The largest loss that [`Losses::of`] returns. It also stands for the loss of a choice if this
-/// loss cannot be computed.
+/// The largest loss that [`Losses::of`] returns. It is also the result if the loss of a choice
+/// cannot be computed.
 const MAX_LOST: u64 = 1_000_000;
 /// The maximum number of ancestors that are followed when a job ends. The end of a job can unblock
 /// its parent, and if the parent then ends, this can unblock the grandparent, and so on.
 const MAX_PARENTS: usize = 16;
 
-/// A state and a vector, from which the loss of each choice is computed. The loss of a choice is
-/// the weight, under the vector, that the state loses by this choice.
+/// A state and a vector of weights, from which the loss of each choice in this state is computed.
 #[derive(Clone, Copy)]
 pub(crate) struct Losses<'a> {
     machine: &'a Machine<'a>,
@@ -58,9 +59,9 @@ impl<'a> Losses<'a> {
         Losses { machine, potential }
     }
 
-    /// Returns the loss of the choice, made by `actor`. The loss is at most [`MAX_LOST`]. The
-    /// choice must be possible. If a new client starts, or a thread takes a job or ends, `actor` has
-    /// no effect.
+    /// Returns the loss of the choice if `actor` makes it. The loss is at most [`MAX_LOST`]. The
+    /// choice must be possible. If a new client starts, or a thread takes a job or ends, `actor`
+    /// has no effect.
     pub(crate) fn of(&self, choice: Choice, actor: Option<Parent>) -> u64 {
         let lost = match choice {
             Choice::Begin(kind) => self.of_begin(kind),
@@ -145,9 +146,9 @@ impl<'a> Losses<'a> {
         self.of_submit(&self.weighted_actor(actor)?, position, position)
     }
 
-    /// Returns the loss of the submit at position `at` by an actor at position `from` that performs
-    /// only work before the submit. The loss of a refused submit is 0. Returns `None` if the action
-    /// at `at` is not a submit.
+    /// Returns the loss of the submit at position `at` of the body. The actor is at position
+    /// `from`, and performs only work before this submit. The loss of a refused submit is 0.
+    /// Returns `None` if the action at `at` is not a submit.
     fn of_submit(&self, weighted: &WeightedBody, from: usize, at: usize) -> Option<u64> {
         let Action::Submit(class) = *weighted.body.get(at)? else {
             return None;
@@ -174,9 +175,12 @@ impl<'a> Losses<'a> {
     }
 
     /// Returns the weight that the state loses when a thread takes the first job of its pool's
-    /// queue, which must be of this class. If the end of the job can then unblock its parent at
-    /// once, the loss by the parent's next steps is included, and so on for further ancestors.
-    /// Returns `None` if no thread of the pool can take a job.
+    /// queue. This job must be of the class. Returns `None` if no thread of the pool can take a
+    /// job.
+    ///
+    /// If the job ends at once and its parent waits for it, the result includes the loss by the
+    /// next steps of the parent. The same applies to further ancestors. At most [`MAX_PARENTS`]
+    /// ancestors are followed.
     fn of_take(&self, class: usize) -> Option<u64> {
         let pool = self.machine.plan.class_at(class)?.pool;
         let mut job = self.machine.pools.get(pool)?.next_to_take()?;

@@ -26,7 +26,7 @@ pub(crate) struct Job {
     /// The latest job that this job created, or `None` if it has created none.
     newest: Option<usize>,
     /// The job that the same parent created immediately before this one. It is `None` if there is
-    /// no such job, or if the parent started its body again between the two jobs.
+    /// no such job, or if the parent is a client that started its body again in between.
     before: Option<usize>,
 }
 
@@ -68,8 +68,8 @@ impl StepOutcome {
     }
 }
 
-/// A state of the lightweight machine on which the search runs: the pools, the jobs, and the
-/// clients that have moved.
+/// A state of the machine on which the search runs: the pools, the jobs, and the clients that have
+/// moved.
 #[derive(Drop)]
 pub(crate) struct Machine<'a> {
     pub(crate) plan: &'a Plan,
@@ -134,9 +134,9 @@ impl<'a> Machine<'a> {
         }
     }
 
-    /// Returns the actor's position in its body, and the action at this position, which is `None`
-    /// at the end of the body. The whole result is `None` if the actor is a queued or done job, or
-    /// if the machine does not have the actor.
+    /// Returns the actor's position in its body, and the action at this position. The action is
+    /// `None` at the end of the body. The whole result is `None` if the actor is a queued or done
+    /// job, or if the machine does not have the actor.
     pub(crate) fn point(&self, actor: Parent) -> Option<(usize, Option<Action>)> {
         match actor {
             Parent::Client(number) => {
@@ -239,12 +239,14 @@ impl<'a> Machine<'a> {
         Some(job)
     }
 
-    /// Returns `true` if an idle thread of the pool can end, as [`SearchPool::can_retire`] does.
+    /// Returns `true` if an idle thread of the pool can end, as [`SearchPool::can_retire`]
+    /// determines.
     pub(crate) fn can_retire(&self, pool: usize) -> bool {
         self.pools.get(pool).is_some_and(|pool| pool.can_retire())
     }
 
-    /// Makes an idle thread of the pool end, and returns `true`, as [`SearchPool::retire`] does.
+    /// Ends an idle thread of the pool if [`SearchPool::can_retire`] returns `true`. Returns
+    /// whether a thread ended.
     pub(crate) fn retire(&mut self, pool: usize) -> bool {
         match self.pools.get_mut(pool) {
             Some(pool) => pool.retire(),

@@ -13,9 +13,10 @@ use interleaving::{Phase, World};
 use job_bodies::{Class, Plan};
 use weights::Vector;
 
-/// Returns `true` if no pool with a job of `members` in its queue can start a thread, for this
-/// [`Reason`]. If the reason is [`PoolsStayAtCore`](Reason::PoolsStayAtCore), the vectors in
-/// `standing` can prove that their pools never have more than `core` threads.
+/// Returns `true` if `reason` holds for each pool that has a job of `members` in its queue. Such a
+/// pool then starts no further thread. If the reason is
+/// [`PoolsStayAtCore`](Reason::PoolsStayAtCore), the vectors in `standing` can prove that their
+/// pools never have more than `core` threads.
 pub(crate) fn all_start_no_thread(
     plan: &Plan,
     world: &World,
@@ -83,7 +84,7 @@ fn pool_starts_no_thread(
     pool < plan.pools().len() && starts_none_for(plan, world, pool, standing, reason)
 }
 
-/// Returns `true` if the pool starts no thread, for this reason.
+/// Returns `true` if `reason` holds for the pool, so that the pool starts no further thread.
 fn starts_none_for(
     plan: &Plan,
     world: &World,
@@ -123,8 +124,10 @@ fn stays_at_core(plan: &Plan, world: &World, pool: usize, standing: &[Vector]) -
     state.threads() >= state.core() && (state.is_unbounded() || has_standing(plan, pool, standing))
 }
 
-/// Returns `true` if `standing` has a vector for the pool that satisfies all conditions of a
-/// standing vector. A rejected job must also not increase the weight of a state under this vector.
+/// Returns `true` if `standing` has a vector for the pool that satisfies two conditions:
+///
+/// - The vector is a standing vector of the pool.
+/// - Under the vector, a rejected job does not increase the weight of a state.
 fn has_standing(plan: &Plan, pool: usize, standing: &[Vector]) -> bool
     requires { pool < length plan.now.pools }
     ensures { result ≡ spec.has_standing plan.now pool (slice_get standing.now pool) }

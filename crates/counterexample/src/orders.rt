@@ -32,7 +32,7 @@ impl Rng {
 }
 
 /// Returns, for each choice, its key in the fixed order with this number. A walk prefers choices
-/// with small keys. There are [`FIXED_ORDERS`] orders, after which the numbers repeat them.
+/// with small keys. There are [`FIXED_ORDERS`] different orders, and larger numbers repeat them.
 pub(crate) fn fixed_order(
     alloc: Global,
     choices: &[Choice],

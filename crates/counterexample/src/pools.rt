@@ -14,10 +14,11 @@ pub(crate) enum Admission {
     Refused,
 }
 
-/// Returns the greatest number of threads that the pool can have. This is its core size if its
-/// queue is unbounded, and otherwise its maximum. If core threads may time out, Java can start
-/// threads above core over an unbounded queue too, but only between the steps of a submit. In a
-/// witness, each submit is one event.
+/// Returns the greatest number of threads that the pool can have in a witness: its core size if its
+/// queue is unbounded, and otherwise its maximum.
+///
+/// If core threads may time out, Java can start threads above core even if the queue is unbounded.
+/// But it does so only between the steps of a submit, and in a witness each submit is one event.
 pub(crate) fn most_threads(pool: &Pool) -> u64 {
     if pool.unbounded { pool.core } else { pool.max }
 }
@@ -167,9 +168,9 @@ impl SearchPool {
         &self.queue
     }
 
-    /// Returns `true` if no thread is idle, or if all idle threads can end, so that each queued job
-    /// then waits for a running job to end. If `permanent` is `true`, the pool must also have `max`
-    /// threads, all of them busy.
+    /// Returns `true` if no thread is idle, or if all idle threads can end. Each queued job then
+    /// waits until a running job ends. If `permanent` is `true`, all threads must be busy, and the
+    /// pool must have `max` threads.
     pub(crate) fn is_closed(&self, permanent: bool) -> bool {
         if permanent {
             self.idle == 0 && self.threads == self.max
@@ -178,15 +179,16 @@ impl SearchPool {
         }
     }
 
-    /// Returns `true` if all idle threads can end although jobs are queued: core threads may time
-    /// out, and another thread is busy. If the queue has the capacity 0, each queued job was handed
-    /// to an idle thread, which does not end.
+    /// Returns `true` if all idle threads can end although jobs are queued. This requires that core
+    /// threads may time out and that another thread is busy. Returns `false` if the queue has the
+    /// capacity 0: each queued job was then handed to an idle thread, which does not end.
     fn can_lose_idle_threads(&self) -> bool {
         self.core_timeout && self.idle < self.threads && (self.unbounded || self.capacity > 0)
     }
 
-    /// Returns `true` if core threads may time out and an idle thread can end: the pool has another
-    /// thread or no queued job, and the thread was not handed a job.
+    /// Returns `true` if core threads may time out and an idle thread can end. The pool must have
+    /// another thread or no queued job. If the queue has the capacity 0, each queued job was handed
+    /// to an idle thread, so more threads must be idle than jobs are queued.
     pub(crate) fn can_retire(&self) -> bool {
         let queued = self.queue.len() as u64;
         self.core_timeout
@@ -195,7 +197,8 @@ impl SearchPool {
             && (self.unbounded || self.capacity > 0 || queued < self.idle)
     }
 
-    /// Ends an idle thread, and returns `true`. Returns `false` if [`can_retire`] does.
+    /// Ends an idle thread and returns `true`, if [`can_retire`] returns `true`. Otherwise changes
+    /// nothing and returns `false`.
     ///
     /// [`can_retire`]: SearchPool::can_retire
     pub(crate) fn retire(&mut self) -> bool {

@@ -1,6 +1,6 @@
-//! The limits of a search for unbounded queues. Such a queue always has room, so a search could add
-//! jobs to it forever. A search makes no submit to an unbounded queue that already has as many jobs
-//! as the limit of this submit.
+//! The limits of submits to unbounded queues. An unbounded queue always has room, so a search could
+//! add jobs to it forever. The search makes a submit to such a queue only if the queue has fewer
+//! jobs than the limit of this submit.
 //!
 //! The limits leave room for the jobs that the running jobs of all pools can have submitted, and
 //! for a few more, which can become running jobs.
@@ -9,8 +9,8 @@ use crate::pools::most_threads;
 use job_bodies::{Action, Plan};
 use std::alloc::{AllocError, Global};
 
-/// The limit for the submits of clients, as a number of queued jobs. The limits for the submits of
-/// jobs are not lower.
+/// The limit for submits by clients, as a number of queued jobs. The limit for submits by jobs is
+/// at least as large.
 const FOR_CLIENTS: u64 = 16;
 
 /// A limit for a submit to a pool with an unbounded queue.
@@ -63,9 +63,9 @@ impl<'a> QueueLimits<'a> {
     }
 }
 
-/// Returns the maximum number of jobs that a search puts into the pool's unbounded queue: the limit
-/// for submits by clients, plus a number for each thread of any pool. This number is the greatest
-/// number of submits to the unbounded queue in a body that the thread can run.
+/// Returns the maximum number of jobs that a search puts into the pool's unbounded queue. It is the
+/// sum of [`FOR_CLIENTS`] and a number for each thread of each pool: the greatest number of submits
+/// to this queue in one body that the thread can run.
 pub(crate) fn most_queued(plan: &Plan, pool: usize) -> u64 {
     let mut jobs = FOR_CLIENTS;
     for (number, from) in plan.pools().iter().enumerate() {

@@ -24,9 +24,9 @@ use std::alloc::{AllocError, Global};
 /// The result is the same for each call with the same arguments.
 ///
 /// The search looks for a witness against a changed plan. In the changed plan, this pool must not
-/// reject jobs and has a queue of at least 1. The events of this witness are replayed in the given
-/// plan. The search also ends if another pool refuses a submit, or if jobs wait only for each
-/// other.
+/// reject jobs and has a queue of at least 1. The events of this witness are then replayed in the
+/// given plan. The search can also end at another violation: another pool refuses a submit, or jobs
+/// wait only for each other.
 ///
 /// # Errors
 ///

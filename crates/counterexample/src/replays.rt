@@ -8,8 +8,8 @@ use job_bodies::Plan;
 use std::alloc::{AllocError, Global};
 use written_machine::{Event, Parent};
 
-/// The state of a replay of some events of a script, which is a list of events. It consists of the
-/// machine, and of the clients and jobs of the replay that correspond to those of the script.
+/// The state of a replay of some events of a script. It has the machine, and maps the clients and
+/// jobs of the script to those of the replay, whose numbers can differ.
 #[derive(Drop)]
 pub(crate) struct Replay<'a> {
     pub(crate) machine: Machine<'a>,

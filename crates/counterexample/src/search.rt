@@ -1,7 +1,7 @@
-//! The search for a witness: several kinds of walks, and then a best-first search. A walk makes one
-//! possible choice after the other. A guided walk makes the choices that lose the least weight
-//! under a vector. A violation is permanent if it is a refused submit, or if jobs wait only for
-//! each other and no later event ends the wait.
+//! The search for a witness: several kinds of walks, and then a best-first search. A walk starts in
+//! the plan's initial state and makes possible choices. A guided walk makes the choices that lose
+//! the least weight under a vector. A violation is *permanent* if it is a refused submit, or if
+//! jobs wait only for each other and no later event ends the wait.
 
 ghost use Rattle.std.specs.Prelude.{◌≤◌, IfOk};
 
@@ -134,9 +134,9 @@ impl Search<'_> {
         self.reserved = 0;
     }
 
-    /// Performs the walks in fixed orders, until one of them finds a permanent violation. The first
-    /// walk may visit all remaining states, and the other walks together half of the states that
-    /// then remain. No walk visits more than [`longest_walk`] states.
+    /// Performs the walks in fixed orders, until one of them finds a permanent violation. No walk
+    /// visits more than [`longest_walk`] states. The first walk may visit all remaining states. The
+    /// other walks together may visit half of the states that then remain.
     fn in_fixed_orders(&mut self) -> Result<Option<CandidateWitness>, AllocError> {
         let first = self.fixed_rules(0)?;
         if let Some(found) = self.walk_once(first, None)? {
@@ -211,9 +211,9 @@ impl Search<'_> {
         }
     }
 
-    /// Performs a walk by these rules, guided by the vector `potential` if there is one. Returns a
-    /// probable witness if the walk finds a permanent violation. Stores the events of a violation
-    /// that is not permanent in `stuck_now`, if `stuck_now` has no events yet.
+    /// Performs a walk by these rules. If there is a vector `potential`, it guides the walk.
+    /// Returns a probable witness if the walk finds a permanent violation. Stores the events of a
+    /// violation that is not permanent in `stuck_now`, if `stuck_now` has no events yet.
     fn walk_once(
         &mut self,
         rules: Rules,
@@ -285,8 +285,8 @@ impl Search<'_> {
     }
 
     /// Returns the rules of the random walk with this number. In every eighth walk, any number of
-    /// clients may move. In the other walks, the limit is between 1 and 7 in the first 64 walks,
-    /// and is one higher after every further 64 walks.
+    /// clients may move. In the other walks, at most 1 to 7 clients may move. This limit grows by 1
+    /// after every 64 walks.
     fn random_rules(&mut self, number: usize) -> Result<Rules, AllocError> {
         let mut rules = self.fixed_rules(number)?;
         shuffle(&mut rules.keys, &mut self.rng);
@@ -317,9 +317,10 @@ fn longest_walk(plan: &Plan) -> usize {
     room.saturating_mul(12).saturating_add(128) as usize
 }
 
-/// Shortens the script, which is a list of events that ends in `violation`, and returns the result
-/// as a probable witness. The shorter script ends in the same violation or in a refused submit.
-/// Core threads that must time out before the jobs wait only for each other end after it.
+/// Shortens the script, whose events end in `violation`, and returns the result as a probable
+/// witness. The shorter script ends in the same violation or in a refused submit. If the jobs wait
+/// only for each other once some idle threads have ended, the witness also has the events that end
+/// these threads.
 fn answer_of(
     alloc: Global,
     plan: &Plan,

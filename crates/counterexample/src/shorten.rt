@@ -7,15 +7,16 @@ use job_bodies::Plan;
 use std::alloc::{AllocError, Global};
 use written_machine::Event;
 
-/// The maximum number of events that are replayed to shorten one script. [`WHOLE_REPLAYS`] replays
-/// of the whole script are allowed in addition.
+/// The maximum number of events that are replayed to shorten one script. In addition, the whole
+/// script may be replayed [`WHOLE_REPLAYS`] times.
 const MAX_REPLAYED: u64 = 6_000_000;
-/// The number of replays of the whole script that are allowed in addition to [`MAX_REPLAYED`]
-/// events. They allow a long script to be shortened too.
+/// The number of times that the whole script may be replayed, in addition to [`MAX_REPLAYED`]
+/// events. These replays allow a long script to be shortened too.
 const WHOLE_REPLAYS: u64 = 24;
 /// The maximum number of rounds, each of which tries every kind of removal.
 const MAX_ROUNDS: usize = 8;
-/// An upper bound on the number of times that the size of the parts to remove can be halved.
+/// The maximum number of times that the size of the parts to remove is halved. It is large enough
+/// for every script.
 const MAX_HALVES: usize = 40;
 
 /// The state of the shortening of a script: the script so far, and the number of events that may

@@ -1,7 +1,7 @@
-//! The vectors whose totals exceed the bounds that the plan's sizes set. The standing vector of a
-//! pool bounds the number of its queued jobs, and its blocked vector bounds the number of its jobs
-//! that wait for other jobs. A pool that may reject jobs, or whose queue is unbounded, needs no
-//! standing vector.
+//! The vectors that show where a plan may fail: their totals exceed the bounds that the plan's
+//! sizes set. The standing vector of a pool bounds the number of its queued jobs. The blocked
+//! vector of a pool bounds the number of its jobs that wait for other jobs. A pool that may reject
+//! jobs, or whose queue is unbounded, needs no standing vector.
 
 use job_bodies::Plan;
 use least_vectors::{Kind, Levels, ResizedPlan, reach};
@@ -17,9 +17,9 @@ pub(crate) struct Potential {
     pub(crate) clients: Vec<Vec<u64>>,
 }
 
-/// Returns the vectors that show where the plan may fail: of the lightest vectors that each pool
-/// needs in a certificate, those that are heavier than the plan's sizes allow. The list is empty if
-/// a class submits itself, directly or through other classes.
+/// Returns the vectors that show where the plan may fail. Computes the lightest vectors that each
+/// pool needs in a certificate, and returns those whose totals are larger than the plan's sizes
+/// allow. The list is empty if a class submits itself, directly or through other classes.
 pub(crate) fn missed_vectors(alloc: Global, plan: &Plan) -> Result<Vec<Potential>, AllocError> {
     let mut vectors = MissedVectors {
         alloc,
@@ -86,10 +86,10 @@ impl MissedVectors {
         Ok(false)
     }
 
-    /// Gives this rank to each pool without a rank that has a blocked vector for this rank with a
-    /// total below the number of threads that the pool has while a job is queued. Returns whether
-    /// any pool got the rank. If none did, records the blocked vectors that were found, which are
-    /// too heavy.
+    /// Gives `rank` to each pool that has no rank and has enough threads: the total of its lightest
+    /// blocked vector for this rank is below the number of threads that the pool has while a job is
+    /// queued. Returns whether any pool got the rank. If none did, records the blocked vectors that
+    /// were found, because their totals are too large.
     fn rank_pools(
         &mut self,
         growing: &ResizedPlan,

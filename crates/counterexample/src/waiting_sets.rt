@@ -36,8 +36,8 @@ impl JobSet {
         Ok(members)
     }
 
-    /// Returns a minimal subset of members that still wait only for each other. If `permanent` is
-    /// `true`, each pool with a member in its queue must have `max` threads. If the work reaches
+    /// Returns a minimal subset of the members that still wait only for each other. If `permanent`
+    /// is `true`, each pool with a member in its queue must have `max` threads. If the work reaches
     /// [`MAX_LOOKS`], the subset may not be minimal.
     pub(crate) fn made_least(
         self,
@@ -94,12 +94,11 @@ impl JobSet {
         }
     }
 
-    /// Repeatedly removes the members that wait for no job or for a job outside the set, until
-    /// there are none. If `permanent` is `true`, also removes each queued job in a pool with fewer
-    /// than `max` threads.
+    /// Removes members until each remaining member waits only for members. If `permanent` is
+    /// `true`, also removes each queued job in a pool with fewer than `max` threads.
     ///
     /// There are at most 2 rounds more than pools: each round between the first and the last finds
-    /// fewer pools whose queued jobs wait only for members.
+    /// fewer closed pools.
     fn shrink(
         &mut self,
         alloc: Global,
@@ -115,9 +114,9 @@ impl JobSet {
         Ok(())
     }
 
-    /// Returns, for each pool, whether it is closed. In a closed pool, no thread is idle or all idle
-    /// threads can end, and each running job is a member, so a queued job then waits only for
-    /// members. If `permanent` is `true`, a closed pool must also have `max` threads, all busy.
+    /// Returns, for each pool, whether it is closed. The queued jobs of a closed pool wait only for
+    /// members: each running job is a member, and no thread is idle or all idle threads can end. If
+    /// `permanent` is `true`, a closed pool must also have `max` threads, all busy.
     fn closed_pools(
         &self,
         alloc: Global,

@@ -1,6 +1,7 @@
 //! Walks. A walk repeatedly makes a possible choice: the one that comes first in an order, or the
-//! one that loses the least weight under a vector. A choice whose submit was just rejected comes
-//! after all others, because an actor may come back to that submit again and again.
+//! one that loses the least weight under a vector. If a pool has just rejected the submit of a
+//! choice, this choice comes after all others. Otherwise an actor could repeat the same submit
+//! forever.
 
 use crate::choices::{Choice, Choices};
 use crate::losses::Losses;
@@ -13,8 +14,8 @@ use job_bodies::{Action, Plan};
 use std::alloc::{AllocError, Global};
 use written_machine::Parent;
 
-/// The factor by which the loss of a choice is multiplied before the key of the choice is added.
-/// The factor is greater than every key, so the keys decide only among choices with equal losses.
+/// The factor by which the loss of a choice is multiplied. Then the key of the choice is added. The
+/// factor is greater than every key, so the keys decide only among choices with equal losses.
 const FOR_A_LOSS: u64 = 10_000_000_000_000;
 
 /// The violation in which a list of events ends. Every violation except `StuckNow` is *permanent*.
@@ -25,16 +26,17 @@ pub(crate) enum Violation {
     /// Some jobs wait only for each other, and each pool that has one of these jobs in its queue
     /// has `max` threads.
     StuckForever,
-    /// Some jobs wait only for each other now, or once idle threads end. A later event may end it.
+    /// Some jobs wait only for each other, either already or once idle threads end. A later event
+    /// may end this wait.
     StuckNow,
 }
 
 /// The rules by which a walk makes its choices, and the limits of the walk.
 #[derive(Drop)]
 pub(crate) struct Rules {
-    /// The key of each choice. The walk makes a possible choice that loses the least weight. Among
-    /// choices with equal losses, it makes the one with the least key. In a walk without a vector,
-    /// no choice loses weight.
+    /// The key of each choice. The walk makes the possible choice that loses the least weight.
+    /// Among choices with equal losses, it makes the one with the least key. In a walk without a
+    /// vector, all losses are 0.
     pub(crate) keys: Vec<u64>,
     /// The maximum number of clients that move.
     pub(crate) max_active_clients: usize,
@@ -83,9 +85,9 @@ pub(crate) struct Walk<'a> {
     pub(crate) has_blocked: bool,
 }
 
-/// Performs a walk by these rules from the plan's initial state, guided by the vector `potential`
-/// if there is one. After each choice, performs the steps that need no further choice. The walk
-/// ends at a violation, if no choice is possible, or at the limit of states.
+/// Performs a walk by these rules from the plan's initial state. If there is a vector `potential`,
+/// it guides the walk. After each choice, performs the steps that need no further choice. The walk
+/// ends at a violation, when no choice is possible, or at the limit of states.
 pub(crate) fn perform_walk<'a>(
     alloc: Global,
     plan: &'a Plan,
@@ -162,7 +164,7 @@ impl<'a> Walk<'a> {
     }
 
     /// Returns the violation if some jobs wait only for each other, and `None` otherwise. If `now`
-    /// is `false`, returns only a permanent violation.
+    /// is `false`, returns `None` also if the violation is not permanent.
     pub(crate) fn stuck(&self, alloc: Global, now: bool) -> Result<Option<Violation>, AllocError> {
         let members = JobSet::greatest(alloc, &self.machine, false)?;
         if members.is_empty() {
@@ -195,8 +197,8 @@ impl<'a> Walk<'a> {
 
     /// Makes the choice with this index. If the choice needs an actor that is ready for it, `newer`
     /// selects the actor: 0 for the one that became ready last, 1 for the one before, and so on.
-    /// Changes nothing and returns [`WalkStep::Nothing`] if the choice is not possible. The start
-    /// of a new client must be possible.
+    /// Changes nothing and returns [`WalkStep::Nothing`] if the choice is not possible. But if the
+    /// choice starts a new client, the caller must ensure that it is possible.
     pub(crate) fn choose(&mut self, place: usize, newer: usize) -> Result<WalkStep, AllocError> {
         match self.choices.all.get(place).copied() {
             Some(Choice::Begin(kind)) => {
@@ -217,9 +219,9 @@ impl<'a> Walk<'a> {
         }
     }
 
-    /// Removes one of the actors that are ready for this choice, and returns it. `newer` is the
-    /// number of those that became ready later than this actor. Returns `None` if there is no such
-    /// actor.
+    /// Removes one of the actors that are ready for this choice, and returns it. `newer` selects
+    /// the actor: 0 for the one that became ready last, 1 for the one before, and so on. Returns
+    /// `None` if there is no such actor.
     fn take_ready(&mut self, place: usize, newer: usize) -> Option<Parent> {
         let ready = self.ready.get_mut(place)?;
         let at = ready.len().checked_sub(1)?.checked_sub(newer)?;
@@ -231,8 +233,8 @@ impl<'a> Walk<'a> {
     }
 
     /// Returns the index of the choice that the walk makes next, or `None` if no choice is
-    /// possible. This is the possible choice with the smallest loss of weight under `potential`, or
-    /// any possible choice without a vector. Of several, it is the one with the least key.
+    /// possible. Selects the choice that loses the least weight under `potential`. Among choices
+    /// with equal losses, and in a walk without a vector, selects the choice with the least key.
     ///
     /// - A choice in `rejected` is returned only if no other choice is possible.
     /// - A submit to an unbounded queue that is at its limit is never returned.
@@ -293,7 +295,8 @@ impl<'a> Walk<'a> {
                 .any(|action| matches!(action, Action::Submit(_)))
     }
 
-    /// Performs the first submit of a new client, the last actor that became ready for it.
+    /// Performs the first submit of a new client. This client must be the actor that became ready
+    /// last for this submit.
     fn submit_of(&mut self, client: Parent) -> Result<WalkStep, AllocError> {
         let place = match self.machine.point(client) {
             Some((position, _)) => self.choices.place_of(&self.machine, client, position),
@@ -325,8 +328,9 @@ impl<'a> Walk<'a> {
         }
     }
 
-    /// Performs all steps of the actor up to its next submit, a get that must wait, or its end. An
-    /// actor at a submit becomes ready for it. If the parent waited for the job, continues with it.
+    /// Performs the actor's steps up to its next submit, a get that must wait, or its end. At a
+    /// submit, adds the actor to those that are ready for it. If a job ends for which its parent
+    /// waits, continues with the steps of the parent.
     pub(crate) fn settle(&mut self, actor: Parent) -> Result<(), AllocError> {
         let mut actor = actor;
         for _ in 0..u64::MAX {

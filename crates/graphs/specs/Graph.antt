@@ -1,4 +1,4 @@
--- Graphs. The nodes are the numbers below the length of a list, which has the successors of each node.
+-- Directed graphs. A graph is a list with the successors of each node. Its nodes are the numbers below the length of this list.
 use Rattle.std.specs.Prelude.{◌<◌, ℕ, List, [], length, slice_index_or}
 use Rattle.support.specs.In.{In}
 

@@ -4,7 +4,7 @@ use Rattle.support.specs.In.{In}
 use Rattle.graphs.specs.Graph.{successors, IsReached}
 use Rattle.graphs.specs.declared.node_set.NodeSet.{NodeSet}
 
--- the marks have one entry for each node, which is true exactly if the node is reached
+-- there is one mark for each node, and it is true exactly if the node is reached
 pub record MarksReached (graph : List (List ℕ)) (first : List ℕ) (marks : List Bool) : Type 0 where
   pub as_many : length marks ≡ length graph
   pub reached : (node : ℕ) → (slice_index_or marks node false ≡ true) ↔ IsReached graph first node
@@ -32,7 +32,7 @@ pub record Grows (old new : NodeSet) : Type 0 where
   pub waiting : (node : ℕ) → In node new.pending.items → In node old.pending.items ⊎ Has new node
   pub fewer : unfound new + length new.pending.items ≡ unfound old + length old.pending.items
 
--- every node of the set is reached; if a node of the set is not pending, the set also has its successors
+-- every node of the set is reached, and the set also has the successors of each of its nodes that is not pending
 pub record IsReaching (graph : List (List ℕ)) (first : List ℕ) (set : NodeSet) : Type 0 where
   pub as_many : length set.is_found.items ≡ length graph
   pub reached : (node : ℕ) → Has set node → IsReached graph first node

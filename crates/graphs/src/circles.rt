@@ -1,4 +1,4 @@
-//! The nodes that are on a circle.
+//! The nodes of a graph that are on a circle: a path from such a node leads back to it.
 
 ghost use Rattle.std.specs.Prelude.{◌≤◌, ◌<◌, ◌≡◌, ◌↔◌, ℕ, true, IfOk, IfSome, IfNone, length};
 ghost use Rattle.graphs.specs.Graph as spec;
@@ -9,8 +9,8 @@ use crate::node_set::NodeSet;
 use std::alloc::{AllocError, Global};
 
 impl Graph {
-    /// Returns the first node from number `first` on that is on a circle, or `None` if there is
-    /// none.
+    /// Returns the first node that is on a circle, of the nodes with the number `first` or a higher
+    /// one. Returns `None` if none of these nodes is on a circle.
     ///
     /// # Errors
     ///

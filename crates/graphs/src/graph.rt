@@ -1,4 +1,4 @@
-//! Graphs, as the list of the successors of each node.
+//! Directed graphs, stored as the list of successors of each node.
 
 ghost use Rattle.std.specs.Prelude.{◌≡◌, ℕ, List, [], ◌∷◌, ◌++◌, OnOk, length, map};
 ghost use Rattle.graphs.specs.Graph as spec;

@@ -29,8 +29,7 @@ fn level_above(levels: &[u64], nodes: &[usize]) -> u64
     highest
 }
 
-/// Returns, for each node, the least level that is above the current levels of its successors.
-/// `levels` has the current levels.
+/// Returns, for each node, the least level that is above the levels of its successors in `levels`.
 fn next_levels(alloc: Global, graph: &Graph, levels: &[u64]) -> Result<Vec<u64>, AllocError>
     requires { (node : ℕ) → slice_index levels.now node < 2 ^ 32 }
     ensures { IfOk result (λ next. next.items ≡ map (spec.level_above levels.now) graph.now) }

@@ -1,5 +1,6 @@
-//! Graphs with numbered nodes: the nodes that are reached from some nodes, the nodes that are on a
-//! circle, and the levels of the nodes of a graph without a circle.
+//! Directed graphs, whose nodes are numbered from 0. The methods of a [`Graph`] find the nodes that
+//! can be reached from given nodes, find a node on a circle, and compute the levels in a graph
+//! without a circle.
 #![tactic(auto)]
 
 mod circles;

@@ -1,4 +1,5 @@
-//! Sets of nodes to which the successors of their nodes are added.
+//! Sets of nodes of a graph. Such a set grows by the successors of its nodes, until it has all
+//! nodes that can be reached from the first ones.
 
 ghost use Rattle.std.specs.Prelude.{◌≡◌, ◌<◌, ◌+◌, ◌≤◌, ◌⊎◌, ℕ, List, [], OnOk, IfOk, length, slice_index_or, false};
 ghost use Rattle.support.specs.In.{In};
@@ -92,7 +93,7 @@ impl NodeSet {
         Ok(())
     }
 
-    /// Adds the nodes that are reached from the nodes in the set.
+    /// Adds each node to which a path from a node in the set leads.
     pub(crate) fn add_all(&mut self, graph: &Graph) -> Result<(), AllocError>
         requires closed { IsClosed graph.now }
         requires as_many { length self.old.is_found.items ≡ length graph.now }

@@ -1,4 +1,4 @@
-//! The nodes that are reached from some nodes of a graph.
+//! The nodes of a graph that can be reached from given nodes.
 
 ghost use Rattle.std.specs.Prelude.{IfOk};
 ghost use Rattle.graphs.specs.Graph.{AreNodes, IsClosed};
@@ -9,8 +9,8 @@ use crate::node_set::NodeSet;
 use std::alloc::{AllocError, Global};
 
 impl Graph {
-    /// Returns, for each node, whether it is one of these nodes, or a path from one of them leads
-    /// to it.
+    /// Returns, for each node, whether it is in `first` or a path from a node in `first` leads to
+    /// it.
     ///
     /// # Errors
     ///

@@ -8,12 +8,12 @@ use Rattle.size_search.specs.Submitted.{IsSubmitted, repeated_bodies}
 abbrev pub client_bodies : Plan → List (List Action)
 client_bodies plan = map (λ (client : Client). client.body) plan.clients
 
--- the marks have one entry for each class, which is true exactly when clients submit the class, directly or through other jobs
+-- there is one mark for each class, and it is true exactly when clients submit the class, directly or through other jobs
 pub record MarksSubmitted (plan : Plan) (marks : List Bool) : Type 0 where
   pub as_many : length marks ≡ length plan.classes
   pub submitted : (k : ℕ) → (slice_index_or marks k false ≡ true) ↔ IsSubmitted plan (client_bodies plan) k
 
--- there is one mark for each class, and it is true exactly when clients of kinds that repeat submit the class, directly or through other
+-- there is one mark for each class, and it is true exactly when repeating clients submit the class, directly or through other
 -- jobs
 pub record MarksRepeated (plan : Plan) (marks : List Bool) : Type 0 where
   pub as_many : length marks ≡ length plan.classes

@@ -13,8 +13,11 @@ IsCause plan (ClientNeverGets c i) = LostByClients plan false c i
 IsCause plan (ClassNeverGets k i) = LostByJobs plan false k i
 IsCause plan (PoolWaitsForItself p) = WaitsForItself plan p
 
--- no class submits itself, no repeating client causes a submit that is never got, to a pool that needs a bound, and no pool whose core
--- threads may time out waits for itself
+-- the plan has no cause:
+--
+-- - no class submits itself,
+-- - each job that repeating clients submit to a pool that needs a bound, directly or through other jobs, is got, and
+-- - no pool whose core threads may time out waits for itself
 pub record IsWithoutCause (plan : Plan) : Type 0 where
   pub no_circle : NoCircle plan
   pub clients_get : (c i : ℕ) → ¬ LostByClients plan false c i

@@ -5,7 +5,7 @@ use Rattle.weights.specs.Vector.{Vector, class_weights}
 use Rattle.size_search.specs.Small.{JobsAreSmall}
 use Rattle.size_search.specs.Steady.{steady_vector, steady_levels}
 
--- the classes of lower levels, and those of this level with a smaller number, have their steady rows
+-- the classes of lower levels have their steady rows, and so do the classes of this level with a number below `number`
 pub record IsComputedUpTo (plan : Plan) (v : Vector) (level number : ℕ) : Type 0 where
   pub as_many : length v.classes ≡ length plan.classes
   pub no_workers : v.workers ≡ []

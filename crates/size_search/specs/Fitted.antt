@@ -19,12 +19,13 @@ use Rattle.soundness.specs.Accepted.{accepted}
 abbrev pub core_needed : Plan → Vector → ℕ
 core_needed plan v = total plan v + 1
 
--- the number of threads that start with a job, which needs no place in the queue: those that are not prestarted; none if core threads may
--- time out, because Java then starts threads without a job
+-- the number of the pool's `max` threads that are not prestarted. Each of them starts with a job, which needs no place in the
+-- queue. The number is 0 if core threads may time out, because Java then also starts threads without a job.
 abbrev pub threads_with_job : Pool → ℕ
 threads_with_job pool = if pool.core_timeout then 0 else pool.max - first_workers pool
 
--- the queue that rule S2 or L3 requires: the total or, for a lifetime bound, the total minus the number of threads that start with a job
+-- the queue that rule S2 or L3 requires: the total or, for a lifetime bound, the total minus the number of threads that start
+-- with a job
 abbrev pub queue_of_bound : Plan → Bound → Pool → ℕ
 queue_of_bound plan (Standing v) pool = total plan v
 queue_of_bound plan (Lifetime v) pool = total plan v - threads_with_job pool
@@ -36,11 +37,12 @@ queue_needed plan (Some bound) pool = if pool.unbounded then 0 else queue_of_bou
 
 -- ---- the plan with raised sizes
 
--- a core whose threads may time out stays unchanged
+-- the pool with its core raised to what the blocked vector needs; a core whose threads may time out stays unchanged
 abbrev pub with_core : Plan → Vector → Pool → Pool
 with_core plan v pool = record pool { core = if pool.core_timeout then pool.core else max pool.core (core_needed plan v) }
 
--- the queue of a pool that needs no bound, because it may reject jobs or its queue is unbounded, stays unchanged
+-- the pool with its queue raised to what the bound needs; the queue of a pool that needs no bound, because it may reject jobs or
+-- its queue is unbounded, stays unchanged
 abbrev pub with_queue : Plan → Option Bound → Pool → Pool
 with_queue plan bound pool = record pool { queue = if needs_no_bound pool then pool.queue else max pool.queue (queue_needed plan bound pool) }
 
@@ -48,17 +50,17 @@ with_queue plan bound pool = record pool { queue = if needs_no_bound pool then p
 abbrev pub raised_pool : Plan → PoolCert → Pool → Pool
 raised_pool plan cert pool = with_queue plan cert.bound (with_core plan cert.blocked pool)
 
--- the plan with each core and each queue raised to what the certificate needs, unless it is already that large; the queue of a pool that
--- needs no bound stays unchanged, and so does a core whose threads may time out
+-- the plan with each core and each queue raised to what the certificate needs, if it is smaller. The queue of a pool that needs
+-- no bound stays unchanged, and so does a core whose threads may time out.
 abbrev pub raised : Plan → Cert → Plan
 raised plan cert = record plan { pools = map (λ entry. raised_pool plan (pool_cert_at cert entry.0) entry.1) (enumerate_from 0 plan.pools) }
 
--- the place of a condition on a total, which is compared with a pool's sizes
+-- whether a condition at this place compares a total with a pool's sizes
 abbrev pub is_total : Place → Bool
 is_total Total = true
 is_total _ = false
 
--- the certificate fits the plan, and each condition that fails is S2, L3 or B2
+-- the certificate fits the plan, and only conditions that limit a total fail: the rules S2, L3 and B2
 abbrev pub fails_only_at_totals : Plan → Cert → Bool
 fails_only_at_totals plan cert = cert_fits plan cert && list_all (λ note. is_total note.place) (failing plan cert)
 
@@ -66,7 +68,8 @@ fails_only_at_totals plan cert = cert_fits plan cert && list_all (λ note. is_to
 abbrev pub has_queue : Plan → Option Bound → Pool → Bool
 has_queue plan bound pool = not (nat_lt pool.queue (queue_needed plan bound pool))
 
--- each queue of the raised plan is as large as its bound requires; only the unchanged queue of a pool that may reject jobs can be smaller
+-- each queue of the raised plan is as large as its bound requires. Only the queue of a pool that may reject jobs can be smaller,
+-- because it is not raised.
 abbrev pub have_queues : Plan → Cert → Bool
 have_queues plan cert = list_all (λ entry. has_queue plan (pool_cert_at cert entry.0).bound entry.1) (enumerate_from 0 (raised plan cert).pools)
 
@@ -74,14 +77,17 @@ have_queues plan cert = list_all (λ entry. has_queue plan (pool_cert_at cert en
 abbrev pub has_threads : Plan → Vector → Pool → Bool
 has_threads plan v pool = not (nat_lt (least_threads pool) (core_needed plan v))
 
--- each pool of the raised plan has as many threads as its blocked vector requires; only a pool whose core threads may time out can have
--- fewer
+-- each pool of the raised plan has as many threads as its blocked vector requires. Only a pool whose core threads may time out
+-- can have fewer.
 abbrev pub have_threads : Plan → Cert → Bool
 have_threads plan cert = list_all (λ entry. has_threads plan (pool_cert_at cert entry.0).blocked entry.1) (enumerate_from 0 (raised plan cert).pools)
 
--- the raised plan, or None if a condition fails that does not depend on cores and queues, if a raised core is above its pool's maximum, if
--- a raised queue is above the limit, if the unchanged queue of a pool that may reject jobs is smaller than its bound requires, or if a job
--- of a pool whose core threads may time out can be blocked
+-- the raised plan, or None in one of these cases:
+--
+-- - a condition fails that does not depend on cores and queues,
+-- - a raised core is above the maximum of its pool, or a raised queue is above the limit,
+-- - a pool may reject jobs, and its unchanged queue is smaller than its bound requires, or
+-- - a job of a pool whose core threads may time out can be blocked
 abbrev pub fitted : Plan → Cert → Option Plan
 fitted plan cert =
     if fails_only_at_totals plan cert && list_all has_valid_sizes (raised plan cert).pools && have_queues plan cert && have_threads plan cert
@@ -114,7 +120,8 @@ pub record IsResized (plan other : Plan) : Type 0 where
   pub keeps_queues : KeepsQueues plan other
   pub keeps_cores : KeepsCores plan other
 
--- the certificate accepts the other plan, which differs from this one only in larger cores and larger queues of pools that need a bound
+-- the other plan differs from this one only in larger cores, and in larger queues of pools that need a bound. The certificate
+-- accepts the other plan.
 pub record IsFit (plan : Plan) (cert : Cert) (other : Plan) : Type 0 where
   pub resized : IsResized plan other
   pub no_smaller : IsNoSmaller other plan
@@ -125,8 +132,8 @@ pub record IsLeastFit (plan : Plan) (cert : Cert) (fit : Plan) : Type 0 where
   pub fits : IsFit plan cert fit
   pub least : (other : Plan) → IsFit plan cert other → IsNoSmaller other fit
 
--- no plan fits (`IsFit`): the certificate accepts no plan that differs from this one only in larger cores and larger queues of pools that
--- need a bound
+-- no plan fits (`IsFit`): the certificate accepts no plan that differs from this one only in larger cores, and in larger queues
+-- of pools that need a bound
 abbrev pub NoneFits : Plan → Cert → Type 0
 NoneFits plan cert = (other : Plan) → ¬ IsFit plan cert other
 
@@ -140,25 +147,26 @@ pub record FittedSizesAreLeast : Type 0 where
 abbrev pub AcceptedPlansFit : Type 0
 AcceptedPlansFit = (plan : Plan) (cert : Cert) → IsWellFormed plan → IsTrue (accepted plan cert) → fitted plan cert ≡ Some plan
 
--- the limit of the total of the bound of pool p; 0 if there is no bound. If the queue of p is unbounded, the limit has no effect
+-- the limit of the total of pool p's bound, or 0 if there is no bound. If the queue of p is unbounded, the limit has no effect.
 abbrev pub limit_of : Plan → ℕ → Option Bound → ℕ
 limit_of plan p None = 0
 limit_of plan p (Some bound) = bound_limit plan p bound
 
--- a certificate that accepts a plan also accepts it with other cores and queues, if no core and no limit of a bound is smaller; the limit
--- of the bound of an unbounded queue does not matter
+-- a certificate that accepts a plan also accepts it with other cores and queues, if no core is smaller and no limit of a bound is
+-- smaller. The limit does not matter if the queue is unbounded.
 abbrev pub LargerSizesAreAccepted : Type 0
 LargerSizesAreAccepted = (plan other : Plan) (cert : Cert) → shape other ≡ shape plan → IsTrue (accepted plan cert) → ((p : ℕ) → (pool_at plan p).core ≤ (pool_at other p).core)
     → ((p : ℕ) → IsFalse (pool_at plan p).unbounded → limit_of plan p (pool_cert_at cert p).bound ≤ limit_of other p (pool_cert_at cert p).bound) → IsTrue (accepted other cert)
 
 -- ---- the least sizes, whatever sizes the plan declares
 
--- the pool with a core of 1 unless core threads may time out, and a queue of 1 unless it needs no bound
+-- the pool with a core and a queue of 1. The core stays unchanged if core threads may time out, and the queue if the pool needs
+-- no bound.
 abbrev pub smallest_pool : Pool → Pool
 smallest_pool pool = record pool { core = if pool.core_timeout then pool.core else 1; queue = if needs_no_bound pool then pool.queue else 1 }
 
--- the plan with cores and queues of 1; the queue of a pool that needs no bound stays unchanged, and so does a core whose threads may time
--- out
+-- the plan with cores and queues of 1. The queue of a pool that needs no bound stays unchanged, and so does a core whose threads
+-- may time out.
 abbrev pub smallest : Plan → Plan
 smallest plan = record plan { pools = map smallest_pool plan.pools }
 

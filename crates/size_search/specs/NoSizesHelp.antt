@@ -23,7 +23,8 @@ pub record NoSizesHelp : Type 0 where
   pub circle : (plan : Plan) (k : ℕ) → IsCause plan (Circle k) → IsBeyondSizes plan
   -- clients of a kind that repeats never get a job that they submit to a pool that needs a bound
   pub client_never_gets : (plan : Plan) (c i : ℕ) → IsCause plan (ClientNeverGets c i) → IsBeyondSizes plan
-  -- jobs that repeating clients cause never get a job that they submit to a pool that needs a bound
+  -- jobs that repeating clients submit, directly or through other jobs, never get a job that they submit to a pool that needs a
+  -- bound
   pub class_never_gets : (plan : Plan) (k i : ℕ) → IsCause plan (ClassNeverGets k i) → IsBeyondSizes plan
   -- the last thread of a pool whose core threads may time out can wait until a job of the pool ends
   pub pool_waits_for_itself : (plan : Plan) (p : ℕ) → IsCause plan (PoolWaitsForItself p) → IsBeyondSizes plan
@@ -38,8 +39,11 @@ pub record HasSizes (plan : Plan) : Type 0 where
   pub same_outline : outline other ≡ outline plan
   pub accepts : IsTrue (accepted other cert)
 
--- sizes with which some certificate accepts the plan exist exactly when the plan has no cause. Four premises: the steady weights are
--- within their limit, the steady total is below the limit of sizes, no repeating client causes a submit that is never got, to a pool that
--- needs no bound (`LosesWithoutBound`), and clients submit each class that has a get and whose pool's core threads may time out.
+-- sizes with which some certificate accepts the plan exist exactly when the plan has no cause. The premises are:
+--
+-- - the steady weights are within their limit,
+-- - the steady total is below the limit of sizes,
+-- - each job that repeating clients submit to a pool that needs no bound, directly or through other jobs, is got, and
+-- - clients submit each class that has a get and whose pool's core threads may time out
 abbrev pub SizesExist : Type 0
 SizesExist = (plan : Plan) → IsWellFormed plan → IsTrue (has_small_numbers (steady_vector plan)) → steady_total plan < MAX_SIZE → ¬ LosesWithoutBound plan → GetsAreUsed plan → HasSizes plan ↔ IsWithoutCause plan

@@ -15,11 +15,16 @@ use Rattle.size_search.specs.declared.found.NoSizes.TheVariants.{Cause, TooLarge
 use Rattle.size_search.specs.declared.found.SizesFound.{SizesFound}
 use Rattle.size_search.specs.declared.found.SizesFound.TheVariants.{Found, NotFound}
 
--- Call a plan *larger* if it differs from the given one only in sizes, and none is smaller. The fit is larger, and the certificate accepts
--- it. No larger plan that the certificate accepts has a smaller maximum or a smaller core, and none that has the fit's maximums has a
--- smaller queue. With larger maximums a smaller queue can be enough: in a lifetime bound, each thread that is not prestarted starts with a
--- job, which needs no place in the queue. A maximum of the fit that is larger than the plan's equals the core of its pool. The queue of a
--- pool that may reject jobs or has an unbounded queue stays unchanged.
+-- Call a plan *larger* if it differs from the given one only in sizes, and none is smaller.
+--
+-- - `fit` is larger, and the certificate accepts it.
+-- - No larger plan that the certificate accepts has a smaller maximum or a smaller core than `fit`.
+-- - No larger plan that the certificate accepts and that has the maximums of `fit` has a smaller queue.
+-- - The queue of a pool that may reject jobs or has an unbounded queue stays unchanged.
+-- - If a maximum of `fit` is larger than the plan's, it equals the core of its pool.
+--
+-- With larger maximums a smaller queue can be enough: in a lifetime bound, each thread that is not prestarted starts with a job,
+-- which needs no place in the queue.
 pub record IsSized (plan : Plan) (cert : Cert) (fit : Plan) : Type 0 where
   pub fits : IsWideFit plan cert fit
   pub no_smaller : IsNoSmaller fit plan
@@ -33,13 +38,14 @@ pub record IsSized (plan : Plan) (cert : Cert) (fit : Plan) : Type 0 where
 abbrev pub IsSteadyTooLarge : Plan → Type 0
 IsSteadyTooLarge plan = (has_small_numbers (steady_vector plan) ≡ false) ⊎ (MAX_SIZE ≤ steady_total plan)
 
--- the steady certificate is too large, or no size need be enough for it: a submit to a pool that needs no bound is made forever and never
--- got, or no client submits a class that has a get and whose pool's core threads may time out
+-- the steady certificate is too large, or possibly no sizes are enough for it. The latter is so if a submit to a pool that needs
+-- no bound is made forever and never got, or if no client submits a class that has a get and whose pool's core threads may time
+-- out.
 abbrev pub IsTooLarge : Plan → Type 0
 IsTooLarge plan = IsSteadyTooLarge plan ⊎ (LosesWithoutBound plan ⊎ HasUnusedGet plan)
 
--- the result is true of the plan: the sizes that were found are `IsSized`, the cause that was found holds, or `IsTooLarge` holds and the
--- pool that is named exists
+-- the result is true of the plan. If sizes were found, they are `IsSized`. If a cause was found, the plan has it. Otherwise
+-- `IsTooLarge` holds, and the pool that the result names exists.
 abbrev pub IsFound : Plan → SizesFound → Type 0
 IsFound plan (Found fit cert) = IsSized plan cert fit
 IsFound plan (NotFound (Cause cause)) = IsCause plan cause

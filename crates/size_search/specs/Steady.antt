@@ -1,8 +1,12 @@
--- The steady certificate of a plan: one vector, which is the standing and the blocked vector of every pool. A pool that may reject jobs or
--- has an unbounded queue has no standing vector, since it needs none. If the core threads of a pool may time out, its blocked vector is 0,
--- and the ranks are such that none of its gets is counted. (If a weight is above the limit, all have the one vector, so that the certificate
--- accepts no plan with a pool.) In the vector an actor ends with enough weight for all jobs that it has open at
--- once, and a get returns the weight of the done job.
+-- The steady certificate of a plan. One vector is the standing and the blocked vector of every pool, with these exceptions:
+--
+-- - A pool that may reject jobs or has an unbounded queue needs no standing vector, and has none.
+-- - If the core threads of a pool may time out, its blocked vector is 0, and the ranks are such that none of its gets is counted.
+--   But if a weight is above the limit, its blocked vector is the one vector, so that the certificate accepts no plan with a
+--   pool.
+--
+-- In the vector, an actor ends with enough weight for all jobs that it has open at once, and a get returns the weight of the done
+-- job.
 use Rattle.std.specs.Prelude.{ℕ, zero, suc, ◌+◌, ◌-◌, max, ◌&&◌, Bool, true, false, if◌then◌else◌, List, [], ◌∷◌, ◌++◌, length, map, take, drop, replicate, Option, Some, None, slice_get}
 use Rattle.std.specs.List.{list_any}
 use Rattle.job_bodies.specs.declared.action.Action.{Action}
@@ -35,11 +39,11 @@ submitted_weight v (Some (Work u)) = 0
 submitted_weight v (Some (Get t)) = 0
 submitted_weight v None = 0
 
--- the queued weight of the job that is submitted at position s, if an action at position i or later gets it; otherwise 0
+-- the queued weight of the job that is submitted at position s, or 0 if no action at position i or later gets this job
 abbrev pub awaited_weight : Vector → List Action → ℕ → ℕ → ℕ
 awaited_weight v body i s = if has_get_of (drop i body) s then submitted_weight v (slice_get body s) else 0
 
--- the weight of all jobs that are open at position i: submitted before it, and got at it or later
+-- the weight of all jobs that are open at position i. A job is open if it is submitted before i, and got at i or later.
 abbrev pub open_weight : Vector → List Action → ℕ → ℕ
 open_weight v body i = sum_below (awaited_weight v body i) i
 
@@ -49,8 +53,8 @@ most v body = greatest_upto (open_weight v body) (length body)
 
 -- ---- the weights of an actor, computed from the end of its body
 
--- the weight before an action, from the weight after it: a submit adds the weight of the queued job; a get subtracts what it returns, but
--- the result is at least `least`
+-- the weight before an action, from the weight after it. A submit adds the weight of the queued job. A get subtracts the weight
+-- of the done job, but the result is at least `least`.
 abbrev pub weight_before : Plan → Vector → ℕ → List Action → Action → ℕ → ℕ
 weight_before plan v least body (Work u) behind = behind
 weight_before plan v least body (Submit k) behind = behind + queued_weight v k
@@ -68,8 +72,8 @@ weights_from plan v least body last (x ∷ rest) = weight_at plan v least body l
 
 -- ---- the rows of the vector
 
--- the weight of a job at its end: 1 more than the largest weight that its open jobs have together, so that the job weighs at least 1 in
--- every state
+-- the weight of a job at its end: 1 more than the largest weight of all its open jobs at a position. So the job weighs at least 1
+-- in every state.
 abbrev pub job_end : Vector → List Action → ℕ
 job_end v body = most v body + 1
 
@@ -84,12 +88,12 @@ client_end v client = if client.repeat then most v client.body else 0
 abbrev pub client_row : Plan → Vector → Client → List ℕ
 client_row plan v client = weights_from plan v 0 client.body (client_end v client) client.body
 
--- the weights of jobs, computed by following submits n steps
+-- the weights of jobs, if submits are followed for at most n steps
 abbrev pub jobs_within : Plan → ℕ → Vector
 jobs_within plan zero = record { workers = []; classes = []; clients = [] }
 jobs_within plan (suc n) = record { workers = []; classes = map (λ (class : Class). class_row plan (jobs_within plan n) class.body) plan.classes; clients = [] }
 
--- the weights of jobs: as many steps as there are classes are enough if no class submits itself
+-- the weights of jobs. If no class submits itself, it is enough to follow submits for as many steps as there are classes.
 abbrev pub jobs : Plan → Vector
 jobs plan = jobs_within plan (length plan.classes)
 
@@ -116,8 +120,8 @@ has_core_timeouts plan = list_any (λ (pool : Pool). pool.core_timeout) plan.poo
 abbrev pub levels_of_waits : Plan → List ℕ
 levels_of_waits plan = levels_of (wait_graph plan (all_marks plan))
 
--- the reach of each class, and then the rank of each pool: their levels in the graph of waits, or all 0 if no pool's core threads may time
--- out
+-- the reach of each class, and then the rank of each pool. They are the levels in the graph of waits, or all 0 if there is no
+-- pool whose core threads may time out.
 abbrev pub wait_levels : Plan → List ℕ
 wait_levels plan = if has_core_timeouts plan then levels_of_waits plan else replicate (length plan.classes + length plan.pools) 0
 
@@ -138,21 +142,23 @@ zeros numbers = replicate (length numbers) 0
 abbrev pub zero_vector : Vector → Vector
 zero_vector v = record { workers = zeros v.workers; classes = map zeros v.classes; clients = map zeros v.clients }
 
--- the blocked vector of a pool: all 0 if none of its gets is counted
+-- the blocked vector of a pool: all 0 if the flag is true, which says that none of its gets is counted, and otherwise the vector
 abbrev pub blocked_of : Vector → Bool → Vector
 blocked_of v true = zero_vector v
 blocked_of v false = v
 
--- the vector as the bound of a pool that needs a bound; none for another pool
+-- the vector as the bound of a pool; none if the flag is true, which says that the pool needs no bound
 abbrev pub bound_of : Vector → Bool → Option Bound
 bound_of v true = None
 bound_of v false = Some (Standing v)
 
--- the part of a pool that needs no bound or needs one, and whose gets are counted or not
+-- the part of the certificate for a pool. If the first flag is true, the pool needs no bound. If the second is true, none of its
+-- gets is counted.
 abbrev pub part_of : Vector → Bool → Bool → PoolCert
 part_of v boundless uncounted = record { bound = bound_of v boundless; blocked = blocked_of v uncounted }
 
--- the part of a pool, in which the vector is the bound and, unless core threads may time out, the blocked vector
+-- the part of the certificate for a pool. The vector is the bound of the pool if it needs one, and its blocked vector unless its
+-- core threads may time out.
 abbrev pub pool_of : Vector → Pool → PoolCert
 pool_of v pool = part_of v (needs_no_bound pool) (pool.core_timeout && has_small_numbers v)
 

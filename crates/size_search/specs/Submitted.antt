@@ -10,7 +10,7 @@ pub data IsSubmitted (plan : Plan) (bodies : List (List Action)) : ℕ → Type 
   begins : {k : ℕ} {body : List Action} → In body bodies → In (Submit k) body → IsSubmitted plan bodies k
   follows : {j k : ℕ} → IsSubmitted plan bodies j → In (Submit k) (class_at plan j).body → IsSubmitted plan bodies k
 
--- every class that the body submits is submitted
+-- each class that `body` submits is one that `bodies` submit, directly or through other classes
 pub record SubmitsOnly (plan : Plan) (bodies : List (List Action)) (body : List Action) : Type 0 where
   pub submitted : (k : ℕ) → In (Submit k) body → IsSubmitted plan bodies k
 
@@ -35,7 +35,7 @@ pub record NeverGotByJobs (plan : Plan) (k i : ℕ) : Type 0 where
 abbrev pub NoCircle : Plan → Type 0
 NoCircle plan = (k : ℕ) → ¬ IsSubmitted plan ((class_at plan k).body ∷ []) k
 
--- no class submits itself, and no repeating client causes a submit that is never got
+-- no class submits itself, and no repeating client submits, directly or through other jobs, a job that is never got
 pub record IsAllGot (plan : Plan) : Type 0 where
   pub no_circle : NoCircle plan
   pub clients_get : (c i : ℕ) → ¬ NeverGotByClients plan c i
@@ -43,24 +43,24 @@ pub record IsAllGot (plan : Plan) : Type 0 where
 
 -- ---- the pools of the jobs that are never got
 
--- whether the pool to which the submit at position i of the body goes needs no bound in a certificate, because it may reject jobs or its
--- queue is unbounded
+-- whether the submit at position i of the body goes to a pool that needs no bound in a certificate, because the pool may reject
+-- jobs or its queue is unbounded
 abbrev pub goes_without_bound : Plan → List Action → ℕ → Bool
 goes_without_bound plan body i = needs_no_bound (pool_at plan (class_at plan (submitted_class body i)).pool)
 
--- clients of a kind that repeats never get the job that they submit at position i. If `without_bound` is true, the pool of that job needs
--- no bound; if it is false, the pool needs one
+-- repeating clients of kind c never get the job that they submit at position i. The pool of that job needs no bound if
+-- `without_bound` is true, and needs one if it is false.
 pub record LostByClients (plan : Plan) (without_bound : Bool) (c i : ℕ) : Type 0 where
   pub never_got : NeverGotByClients plan c i
   pub of_pool : goes_without_bound plan (client_at plan c).body i ≡ without_bound
 
--- jobs that repeating clients cause never get the job that they submit at position i. If `without_bound` is true, the pool of that job
--- needs no bound; if it is false, the pool needs one
+-- jobs of class k, which repeating clients submit directly or through other jobs, never get the job that they submit at position
+-- i. The pool of that job needs no bound if `without_bound` is true, and needs one if it is false.
 pub record LostByJobs (plan : Plan) (without_bound : Bool) (k i : ℕ) : Type 0 where
   pub never_got : NeverGotByJobs plan k i
   pub of_pool : goes_without_bound plan (class_at plan k).body i ≡ without_bound
 
--- a repeating client causes a submit that is never got, to a pool that needs no bound
+-- a repeating client submits a job to a pool that needs no bound, directly or through other jobs, and the job is never got
 pub data LosesWithoutBound (plan : Plan) : Type 0 where
   by_client : {c i : ℕ} → LostByClients plan true c i → LosesWithoutBound plan
   by_job : {k i : ℕ} → LostByJobs plan true k i → LosesWithoutBound plan

@@ -17,9 +17,11 @@ use Rattle.size_search.specs.Widened.{widened, IsWideFit}
 abbrev pub failing_elsewhere : Plan → Cert → Option Note
 failing_elsewhere plan cert = find (λ note. not (is_total note.place)) (failing plan cert)
 
--- the reason why the raised sizes of a pool are invalid, or None if they are valid: `Core` if the core is above the maximum, or if the
--- maximum, which was raised for a core, is above the limit; `Queue` if the queue is above the limit. The maximum of a pool whose core
--- threads may time out is not raised.
+-- the reason why the raised sizes of a pool are invalid, or None if they are valid:
+--
+-- - `Core` if the core is above the maximum. Also `Core` if the maximum is above the limit, because it was raised for the core.
+--   (The maximum of a pool whose core threads may time out is not raised.)
+-- - `Queue` if the queue is above the limit
 abbrev pub unfit_pool : ℕ → Pool → Option Unfit
 unfit_pool p pool = if nat_lt pool.max pool.core || nat_lt MAX_SIZE pool.max && not pool.core_timeout then Some (Core p) else (if nat_lt MAX_SIZE pool.queue then Some (Queue p) else None)
 
@@ -38,14 +40,15 @@ abbrev pub first_short : Plan → Cert → List (ℕ × Pool) → Option Unfit
 first_short plan cert [] = None
 first_short plan cert (entry ∷ entries) = if has_threads plan (pool_cert_at cert entry.0).blocked entry.1 then first_short plan cert entries else Some (CoreTimeout entry.0)
 
--- the reason why the sizes of the raised plan are not enough, or None; an invalid size takes precedence over a queue that is too small, and
--- this over too few threads
+-- the reason why the sizes of the raised plan are not enough, or None. An invalid size takes precedence over a queue that is too
+-- small, and such a queue takes precedence over too few threads.
 abbrev pub unfit_sizes : Plan → Cert → Option Unfit
 unfit_sizes plan cert =
     option_or (first_unfit (enumerate_from 0 (raised plan cert).pools))
     (option_or (first_tight plan cert (enumerate_from 0 (raised plan cert).pools)) (first_short plan cert (enumerate_from 0 (raised plan cert).pools)))
 
--- the reason why the plan has no fitted plan, or None; a failing condition that no size changes takes precedence over the sizes
+-- the reason why the plan has no fitted plan, or None. A failing condition that does not depend on cores and queues takes
+-- precedence over the sizes.
 abbrev pub why_unfit : Plan → Cert → Option Unfit
 why_unfit plan cert = if cert_fits plan cert then option_or (option_map Condition (failing_elsewhere plan cert)) (unfit_sizes plan cert) else Some Shape
 
@@ -53,6 +56,6 @@ why_unfit plan cert = if cert_fits plan cert then option_or (option_map Conditio
 abbrev pub why_not_widened : Plan → Cert → Option Unfit
 why_not_widened plan cert = if cert_fits plan cert then first_unfit (enumerate_from 0 (widened plan cert).pools) else Some Shape
 
--- if the core of a pool is the reason why the plan is not fitted, this pool has a larger maximum in each plan that satisfies `IsWideFit`
+-- if the plan is not fitted because of the core of a pool, this pool has a larger maximum in each plan that satisfies `IsWideFit`
 abbrev pub ReportedCoresNeedLargerMaxes : Type 0
 ReportedCoresNeedLargerMaxes = (plan other : Plan) (cert : Cert) (p : ℕ) → IsWellFormed plan → why_unfit plan cert ≡ Some (Core p) → IsWideFit plan cert other → (pool_at plan p).max < (pool_at other p).max

@@ -1,4 +1,5 @@
--- Pools whose core threads may time out, so that only one thread can be left, and the jobs for which this last thread can wait at a get.
+-- The jobs for which the last thread of a pool can wait at a get. The core threads of this pool may time out, so only one thread
+-- can be left.
 use Rattle.std.specs.Prelude.{◌≡◌, ℕ, List, IsTrue}
 use Rattle.support.specs.In.{In}
 use Rattle.job_bodies.specs.declared.action.Action.{Action}
@@ -17,8 +18,8 @@ pub record GetsClass (body : List Action) (k : ℕ) : Type 0 where
 abbrev pub MayLoseThreads : Plan → ℕ → Type 0
 MayLoseThreads plan k = IsTrue (pool_at plan (class_at plan k).pool).core_timeout
 
--- the last thread of class k's pool can wait for a job of class j: clients submit class k, directly or through other jobs, and its body has
--- a get of a job of class j
+-- the last thread of class k's pool can wait for a job of class j. The conditions are that core threads of this pool may time
+-- out, that clients submit class k, directly or through other jobs, and that its body has a get of a job of class j.
 pub record HoldsLastThread (plan : Plan) (k j : ℕ) : Type 0 where
   pub submitted : IsSubmitted plan (client_bodies plan) k
   pub may_lose : MayLoseThreads plan k
@@ -26,11 +27,12 @@ pub record HoldsLastThread (plan : Plan) (k j : ℕ) : Type 0 where
 
 -- the last thread of pool p can wait until a job of class j ends
 pub data WaitsFor (plan : Plan) (p : ℕ) : ℕ → Type 0 where
-  -- it executes a job that gets that job
+  -- the last thread executes a job of class k, which gets a job of class j
   at_get : {k j : ℕ} → (class_at plan k).pool ≡ p → HoldsLastThread plan k j → WaitsFor plan p j
-  -- the job for which it waits gets that job
+  -- the last thread waits for a job of class i, which gets a job of class j
   by_job : {i j : ℕ} → WaitsFor plan p i → GetsClass (class_at plan i).body j → WaitsFor plan p j
-  -- the job for which it waits is queued, and the last thread of its pool executes a job that gets that job
+  -- the last thread waits for a queued job of class i. The last thread of that job's pool executes a job of class k, which gets a
+  -- job of class j.
   by_thread : {i k j : ℕ} → WaitsFor plan p i → (class_at plan k).pool ≡ (class_at plan i).pool → HoldsLastThread plan k j → WaitsFor plan p j
 
 -- the last thread of pool p can wait until a job of p ends
@@ -44,11 +46,12 @@ NoneWaitsForItself plan = (p : ℕ) → ¬ WaitsForItself plan p
 
 -- ---- classes that no client submits
 
--- clients submit each class that has a get and whose pool's core threads may time out, directly or through other jobs
+-- clients submit, directly or through other jobs, each class that has a get and whose pool's core threads may time out
 abbrev pub GetsAreUsed : Plan → Type 0
 GetsAreUsed plan = (k j : ℕ) → MayLoseThreads plan k → GetsClass (class_at plan k).body j → IsSubmitted plan (client_bodies plan) k
 
--- a class has a get, and its pool's core threads may time out, but no client submits it, directly or through other jobs
+-- the core threads of a class's pool may time out, and the class has a get, but no client submits it, directly or through other
+-- jobs
 pub record HasUnusedGet (plan : Plan) : Type 0 where
   pub class : ℕ
   pub got : ℕ

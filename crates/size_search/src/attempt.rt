@@ -1,5 +1,5 @@
-//! One attempt to find sizes: rounds in which the pools get ranks, and the least sizes for the
-//! resulting certificate.
+//! One attempt to find sizes. In rounds, the pools get ranks, and some cores are raised. Then the
+//! attempt computes the least sizes for the resulting certificate.
 
 use crate::certified::cert_of;
 use crate::found::AttemptError;
@@ -17,18 +17,18 @@ pub(crate) struct Attempt {
     pub(crate) cert: Cert,
     /// The core and maximum that each pool needs.
     pub(crate) threads: Vec<PoolThreads>,
-    /// The sum of the amounts by which the cores, maximums and queues exceed the declared ones. The
-    /// maximum of a pool with an unbounded queue does not count.
+    /// The sum of the amounts by which the needed cores, maximums and queues exceed the declared
+    /// ones. The maximum of a pool with an unbounded queue does not count.
     pub(crate) cost: u64,
     /// The largest number of pools from which a round chose the pool to raise. It is 0 if no round
-    /// raised a core. If the rounds were repeated, this is the number of their first execution.
+    /// raised a core. If the rounds were repeated, only their first execution counts.
     pub(crate) choices: usize,
 }
 
 /// Searches for a certificate and for the least sizes with which it accepts the plan. The search
-/// starts with the cores and maximums in `threads`. A round that finds no pool with a large enough
-/// core raises the core of the pool that needs the smallest increase. The first such round skips
-/// the first `passed_over` pools in this order.
+/// starts with the cores and maximums in `threads`. If no pool has a large enough core in a round,
+/// the round raises the core of the pool that needs the smallest increase. But the first such round
+/// skips the `passed_over` pools that need the smallest increases.
 ///
 /// # Errors
 ///

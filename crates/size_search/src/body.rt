@@ -91,7 +91,7 @@ fn most(plan: &Plan, vector: &Vector, body: &[Action]) -> u64
     most
 }
 
-/// Returns the weight of the actor before the action, given its weight `behind` after the action:
+/// Returns the weight of the actor before the action. `behind` is its weight after the action:
 ///
 /// - Before `work`, the weight is the same.
 /// - Before a submit, it is larger by the weight of the queued job.

@@ -11,11 +11,11 @@ use weights::Bound;
 
 /// Returns the vector that bounds the pool's queue:
 ///
-/// - For an unbounded queue, a standing vector, or `None` if the search finds none.
-/// - For a bounded queue of a pool that may reject jobs, a vector for which the queue is large
-///   enough, or `None` if the search finds none.
-/// - For any other queue, the vector that requires the smallest increase of the queue. If the
-///   search finds none, returns the pool as the obstacle.
+/// - For an unbounded queue, returns a standing vector, or `None` if the search finds none.
+/// - For a bounded queue of a pool that may reject jobs, returns a vector for which the queue is
+///   already large enough, or `None` if the search finds none.
+/// - For any other queue, returns the vector that requires the smallest increase of the queue. If
+///   the search finds none, returns the pool as the obstacle.
 pub(crate) fn bound_of(
     alloc: Global,
     cache: &mut VectorCache,
@@ -73,8 +73,8 @@ struct LeastBound {
     missing: u64,
 }
 
-/// Returns the standing vector or the lifetime vector of the pool, whichever requires the smaller
-/// increase of the queue. If both require the same increase, returns the standing vector. Returns
+/// Returns the standing vector or the lifetime vector of the pool: the one that requires the
+/// smaller increase of the queue, or the standing vector if both increases are equal. Returns
 /// `None` if the search finds no vector.
 fn least_bound(
     alloc: Global,
@@ -125,8 +125,8 @@ fn least_bound(
 }
 
 /// Returns the queue capacity that the pool needs to accept this number of jobs in its lifetime.
-/// Each thread that is not prestarted starts with a job, which needs no place in the queue, unless
-/// core threads may time out.
+/// Threads that are not prestarted make it smaller: each of them starts with a job, which needs no
+/// place in the queue. If core threads may time out, it equals the number of jobs.
 fn lifetime_queue(pool: &Pool, pool_threads: PoolThreads, jobs: u64) -> u64 {
     if pool.core_timeout {
         return jobs;

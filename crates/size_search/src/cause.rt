@@ -13,8 +13,11 @@ pub enum Cause {
     /// get the submitted job, which goes to a pool that must not reject jobs and has a bounded
     /// queue. Repeating clients submit jobs of this class, directly or through other jobs.
     ClassNeverGets(usize, usize),
-    /// The core threads of the pool with this number may time out. If one thread is left, a job that
-    /// it executes can wait at a get until another job of the pool ends. It can wait through jobs of
-    /// other pools, of which those whose core threads may time out have one thread left too.
+    /// The number of a pool whose last thread can wait for another job of this pool. The core
+    /// threads of the pool may time out, so one thread can be left.
+    ///
+    /// The job on this thread waits at a get until the other job ends. There can be further jobs in
+    /// between: each one gets the next job, or it is queued in a pool whose last thread executes a
+    /// job that gets the next job.
     PoolWaitsForItself(usize),
 }

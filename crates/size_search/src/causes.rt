@@ -39,11 +39,15 @@ pub fn cause_of(alloc: Global, plan: &Plan) -> Result<Option<Cause>, AllocError>
     pool_circle(alloc, plan)
 }
 
-/// Returns whether the plan loses jobs without a bound, or has a get that is not used. Neither is a
-/// cause, but then no sizes need to be enough for the plan's steady certificate: a repeating client
-/// causes a submit that is never got, to a pool that needs no bound, or no client submits a class
-/// that has a get and whose pool's core threads may time out. [`cause_of`] must have found no
-/// cause.
+/// Returns whether it is possible that no sizes are enough for the plan's steady certificate
+/// although the plan has no cause. This is so in two cases:
+///
+/// - A repeating client submits a job to a pool that needs no bound, directly or through other
+///   jobs, and the job is never got.
+/// - A class has a get, the core threads of its pool may time out, and no client submits this
+///   class, directly or through other jobs.
+///
+/// [`cause_of`] must have found no cause.
 pub(crate) fn is_unsteady(alloc: Global, plan: &Plan) -> Result<bool, AllocError>
     requires { IsWithoutCause plan.now }
     ensures unsteady { IfOk result
@@ -57,8 +61,8 @@ pub(crate) fn is_unsteady(alloc: Global, plan: &Plan) -> Result<bool, AllocError
     Ok(has_unused_get(plan, &submitted))
 }
 
-/// Returns whether a repeating client causes a submit that is never got, to a pool that needs no
-/// bound. [`cause_of`] must have found no cause.
+/// Returns whether a repeating client submits a job to a pool that needs no bound, directly or
+/// through other jobs, and the job is never got. [`cause_of`] must have found no cause.
 fn loses_without_bound(alloc: Global, plan: &Plan) -> Result<bool, AllocError>
     requires { IsWithoutCause plan.now }
     ensures loses { IfOk result (λ loses. loses ≡ true → LosesWithoutBound plan.now) }
@@ -89,8 +93,8 @@ fn circle(alloc: Global, plan: &Plan) -> Result<Option<Cause>, AllocError>
     }
 }
 
-/// Returns, as a cause, the first pool whose last thread can wait until a job of the pool ends.
-/// Returns `None` if there is none.
+/// Returns, as a cause, the first pool whose last thread can wait until a job of this pool ends.
+/// Returns `None` if there is no such pool.
 fn pool_circle(alloc: Global, plan: &Plan) -> Result<Option<Cause>, AllocError>
     ensures cause { IfOk result (λ found. IfSome found (IsCause plan.now)) }
     ensures none { IfOk result (λ found. IfNone found (NoneWaitsForItself plan.now)) }
@@ -105,8 +109,9 @@ fn pool_circle(alloc: Global, plan: &Plan) -> Result<Option<Cause>, AllocError>
     }
 }
 
-/// Returns whether some class has a get and is not marked, and the core threads of its pool may time
-/// out. The marks must be those of the classes that clients submit, directly or through other jobs.
+/// Returns whether some class has a get and is not marked in `submitted`, and the core threads of
+/// its pool may time out. The marked classes must be those that clients submit, directly or through
+/// other jobs.
 fn has_unused_get(plan: &Plan, submitted: &[bool]) -> bool
     requires { MarksSubmitted plan.now submitted.now }
     ensures unused { result ≡ true → HasUnusedGet plan.now }
@@ -154,9 +159,10 @@ fn may_lose_threads(plan: &Plan, pool: usize) -> bool
     }
 }
 
-/// Returns the first submit without a get in the bodies of the repeating client kinds: the number
-/// of the client kind and the position of the submit. Considers only submits to pools that need no
-/// bound if `without_bound` is `true`, and only the other submits if it is `false`.
+/// Returns the first submit without a get in the bodies of the repeating client kinds, as the
+/// number of the client kind and the position of the submit. Returns `None` if there is no such
+/// submit. If `without_bound` is `true`, considers only submits to pools that need no bound, and
+/// otherwise only submits to the other pools.
 fn lost_by_clients(plan: &Plan, without_bound: bool) -> Option<(usize, usize)>
     ensures lost { IfSome result (λ found. LostByClients plan.now without_bound found.0 found.1) }
     ensures none { IfNone result ((c i : ℕ) → ¬ LostByClients plan.now without_bound c i) }
@@ -172,11 +178,10 @@ fn lost_by_clients(plan: &Plan, without_bound: bool) -> Option<(usize, usize)>
     None
 }
 
-/// Returns the first submit without a get in the body of a marked class, as the number of the class
-/// and the position of the submit. The marks must be those of the classes that repeating clients
-/// submit, directly or through other jobs. If `without_bound` is true, considers only submits to
-/// pools that need no bound, and otherwise only submits to the other pools. Returns `None` if there
-/// is none.
+/// Returns the first submit without a get in the bodies of the marked classes, as the number of the
+/// class and the position of the submit. Returns `None` if there is no such submit. The marked
+/// classes must be those that repeating clients submit, directly or through other jobs.
+/// `without_bound` is as in [`lost_by_clients`].
 fn lost_by_jobs(plan: &Plan, repeated: &[bool], without_bound: bool) -> Option<(usize, usize)>
     requires { MarksRepeated plan.now repeated.now }
     ensures lost { IfSome result (λ found. LostByJobs plan.now without_bound found.0 found.1) }

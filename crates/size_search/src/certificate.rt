@@ -1,7 +1,11 @@
-//! The steady certificate of a plan: a certificate in which one vector is the blocked vector of
-//! every pool whose core threads never time out, and also the standing vector of every pool that
-//! needs a bound. A pool needs none if it may reject jobs or its queue is unbounded. The other
-//! blocked vectors are 0, and the ranks are such that no get of their pools is counted.
+//! The steady certificate of a plan. One vector has two uses in it:
+//!
+//! - It is the blocked vector of every pool whose core threads never time out.
+//! - It is the standing vector of every pool that needs a bound. A pool needs none if it may reject
+//!   jobs or its queue is unbounded.
+//!
+//! If the core threads of a pool may time out, its blocked vector is 0, and the ranks are such that
+//! no get of its jobs is counted.
 
 ghost use Rattle.std.specs.Prelude.{◌≡◌, ◌≤◌, take, drop, length, IfOk, IfSome, IfNone, true, false, map};
 ghost use Rattle.weights.specs.Vector.{has_small_numbers};
@@ -66,7 +70,7 @@ fn steady_vector(alloc: Global, plan: &Plan, levels: &[u64]) -> Result<Option<Ve
     }))
 }
 
-/// Returns the vector as the bound of a pool's queue, or `None` if the pool needs no bound.
+/// Returns `vector` as the bound of a pool's queue, or `None` if the pool needs no bound.
 fn bound_of(
     alloc: Global,
     vector: &Vector,
@@ -113,7 +117,8 @@ fn zero_vector(alloc: Global, vector: &Vector) -> Result<Vector, AllocError>
     })
 }
 
-/// Returns the blocked vector of a pool: the vector, or zeros if none of the pool's gets is counted.
+/// Returns the blocked vector of a pool: `vector`, or zeros if no get of the pool's jobs is
+/// counted.
 fn blocked_of(alloc: Global, vector: &Vector, uncounted: bool) -> Result<Vector, AllocError>
     ensures { IfOk result (λ blocked. blocked ≡ spec.blocked_of vector.now uncounted) }
 {
@@ -125,8 +130,8 @@ fn blocked_of(alloc: Global, vector: &Vector, uncounted: bool) -> Result<Vector,
     Ok(vector)
 }
 
-/// Returns the part of the steady certificate for one pool: the vector is its bound and, unless its
-/// core threads may time out, its blocked vector.
+/// Returns the part of the steady certificate for one pool. `vector` is the bound of the pool if
+/// the pool needs one, and its blocked vector unless its core threads may time out.
 fn pool_of(alloc: Global, vector: &Vector, pool: &Pool) -> Result<PoolCert, AllocError>
     requires { has_small_numbers vector.now ≡ true }
     ensures { IfOk result (λ part. part ≡ spec.pool_of vector.now pool.now) }
@@ -148,7 +153,7 @@ fn pools_of(alloc: Global, plan: &Plan, vector: &Vector) -> Result<Vec<PoolCert>
     Ok(pools)
 }
 
-/// Returns the ranks of the steady certificate. `levels` has its levels.
+/// Returns the ranks of the steady certificate. `levels` has the level of each class.
 fn ranks_of(alloc: Global, plan: &Plan, levels: Vec<u64>) -> Result<Ranks, AllocError>
     requires { levels.items ≡ spec.steady_levels plan.now }
     ensures { IfOk result (λ ranks. ranks ≡ spec.steady_ranks plan.now) }
@@ -162,7 +167,7 @@ fn ranks_of(alloc: Global, plan: &Plan, levels: Vec<u64>) -> Result<Ranks, Alloc
     })
 }
 
-/// Returns the first `count` numbers, and the others.
+/// Returns the first `count` numbers, and the remaining ones.
 fn halves_of(
     alloc: Global,
     numbers: &[u64],
@@ -180,10 +185,13 @@ fn halves_of(
 /// [`MAX_WEIGHT`](job_bodies::MAX_WEIGHT). No class of the plan may submit itself, directly or
 /// through other classes.
 ///
-/// With large enough sizes, this certificate accepts the plan if no repeating client causes a
-/// submit that is never got, no pool whose core threads may time out waits for itself, and clients
-/// submit each class of such a pool that has a get. The queues of pools that may reject jobs need
-/// not be large.
+/// With large enough sizes, this certificate accepts the plan if these conditions hold:
+///
+/// - No repeating client submits, directly or through other jobs, a job that is never got.
+/// - No pool whose core threads may time out waits for itself.
+/// - Clients submit, directly or through other jobs, each class of such a pool that has a get.
+///
+/// The queues of pools that may reject jobs need not be large.
 ///
 /// # Errors
 ///

@@ -69,9 +69,11 @@ fn pool_certs(
     Ok(pools)
 }
 
-/// Returns the blocked vector that was found for a pool in the round that gave the pool this rank,
-/// or the pool as the obstacle if there is none. Later rounds give at least this rank to all pools
-/// without a rank in that round, so the vector remains valid.
+/// Returns the blocked vector that was found for a pool in the round that gave the pool this rank.
+/// If there is none, returns the pool as the obstacle.
+///
+/// Other pools that had no rank in that round get this rank or a higher one in later rounds. So the
+/// vector remains valid.
 fn blocked_of(
     alloc: Global,
     cache: &VectorCache,

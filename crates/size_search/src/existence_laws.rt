@@ -7,21 +7,27 @@
 ghost use Rattle.size_search.specs.NoSizesHelp.{NoSizesHelp};
 ghost use Rattle.size_search.specs.NoSizesHelp.{SizesExist};
 
-/// States that no certificate accepts a plan with a cause, whatever its sizes. A cause is a class
-/// that submits itself, directly or through other classes, a submit that is made forever and never
-/// got, to a pool that needs a bound, or a pool whose core threads may time out and whose last thread
-/// can wait until a job of the pool ends.
+/// States that no certificate accepts a plan with a cause, whatever its sizes. A cause is one of
+/// these:
+///
+/// - A class submits itself, directly or through other classes.
+/// - A repeating client submits a job to a pool that needs a bound, directly or through other jobs,
+///   and the job is never got.
+/// - The core threads of a pool may time out, and its last thread can wait until a job of the pool
+///   ends.
 pub fn no_sizes_help()
     ensures { NoSizesHelp }
 {}
 
-/// States when a plan has sizes with which some certificate accepts it. Assume that each weight of
-/// its steady certificate is at most `MAX_WEIGHT`, and that the total of its vector is below
-/// `MAX_SIZE`. Assume also that no repeating client causes a submit that is never got, to a pool
-/// that needs no bound, and that clients submit each class that has a get and whose pool's core
-/// threads may time out. Then such sizes exist exactly when no class submits itself, directly or
-/// through other classes, no repeating client causes a submit that is never got, and no pool whose
-/// core threads may time out waits for itself.
+/// States that a plan has sizes with which some certificate accepts it exactly when the plan has no
+/// cause, as in [`no_sizes_help`]. The premises are these:
+///
+/// - Each weight of the plan's steady certificate is at most `MAX_WEIGHT`.
+/// - The total of this certificate's vector is below `MAX_SIZE`.
+/// - Each job that a repeating client submits to a pool that needs no bound, directly or through
+///   other jobs, is got.
+/// - Clients submit, directly or through other jobs, each class that has a get and whose pool's
+///   core threads may time out.
 pub fn sizes_exist()
     ensures { SizesExist }
 {}

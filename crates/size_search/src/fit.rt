@@ -30,8 +30,9 @@ pub(crate) fn core_needed(plan: &Plan, blocked: &Vector) -> u64
     blocked.total(plan) + 1
 }
 
-/// Returns the number of threads that start with a job, which needs no place in the queue: those
-/// that are not prestarted, or none if core threads may time out.
+/// Returns the number of the pool's `max` threads that are not prestarted. Each of them starts with
+/// a job, which needs no place in the queue. Returns 0 if core threads may time out, because Java
+/// then also starts threads without a job.
 fn threads_with_job(pool: &Pool) -> u64
     ensures { result ≡ spec.threads_with_job pool.now }
 {
@@ -123,7 +124,7 @@ fn raised_pools(alloc: Global, plan: &Plan, cert: &Cert) -> Result<Vec<Pool>, Al
     Ok(pools)
 }
 
-/// Returns whether a condition at this place limits the total of a vector. Such a limit depends on
+/// Returns whether conditions at this place limit the total of a vector. Such a limit depends on
 /// the pool's sizes.
 fn is_total(place: Place) -> bool
     ensures { result ≡ spec.is_total place }
@@ -187,7 +188,8 @@ fn tight_queue(plan: &Plan, cert: &Cert, raised: &[Pool]) -> Option<Unfit>
 }
 
 /// Returns whether the raised pool with this number has fewer threads than the certificate needs.
-/// This is possible only if its core threads may time out, so that its core stays unchanged.
+/// This is possible only if the core threads of the pool may time out, because its core is then not
+/// raised.
 fn is_short(plan: &Plan, cert: &Cert, raised: &[Pool], number: usize) -> bool
     requires well_formed { IsWellFormed plan.now }
     requires fits { IsTrue (cert_fits plan.now cert.now) }
@@ -201,8 +203,8 @@ fn is_short(plan: &Plan, cert: &Cert, raised: &[Pool], number: usize) -> bool
     pool.least_threads() < core_needed(plan, &needs.blocked)
 }
 
-/// Returns, as the reason, the first raised pool that has fewer threads than the certificate needs,
-/// or `None` if there is none.
+/// Returns [`Unfit::CoreTimeout`] with the number of the first raised pool that has fewer threads
+/// than the certificate needs. Returns `None` if there is no such pool.
 fn short_pool(plan: &Plan, cert: &Cert, raised: &[Pool]) -> Option<Unfit>
     requires well_formed { IsWellFormed plan.now }
     requires fits { IsTrue (cert_fits plan.now cert.now) }
@@ -218,7 +220,7 @@ fn short_pool(plan: &Plan, cert: &Cert, raised: &[Pool]) -> Option<Unfit>
 }
 
 /// Returns the reason why the sizes that the certificate needs are not possible, or `None` if they
-/// are. `raised` has the plan's pools with these sizes.
+/// are possible. `raised` has the plan's pools with these sizes.
 fn unfit_sizes(plan: &Plan, cert: &Cert, raised: &[Pool]) -> Option<Unfit>
     requires well_formed { IsWellFormed plan.now }
     requires fits { IsTrue (cert_fits plan.now cert.now) }
@@ -256,12 +258,14 @@ fn unfit(
 
 /// Returns the plan with the smallest cores and queues with which the certificate accepts it. A
 /// core or a queue is only raised, never made smaller. Larger maximums would not allow smaller
-/// cores.
+/// cores. If there is no such plan, the inner error has the given plan and the reason.
 ///
-/// The queue of a pool that may reject jobs or has an unbounded queue stays unchanged. If the
-/// certificate bounds the queue of a pool that may reject jobs, this queue must already be as large
-/// as the bound requires, unless the queue is unbounded. A core whose threads may time out stays
-/// unchanged too, and the total of the pool's blocked vector must be 0.
+/// These sizes stay unchanged:
+///
+/// - The queue of a pool that may reject jobs. If the certificate has a bound of this queue, the
+///   queue must already be large enough.
+/// - An unbounded queue, which is large enough for every bound.
+/// - A core whose threads may time out. The total of the pool's blocked vector must be 0.
 ///
 /// # Errors
 ///
@@ -325,10 +329,11 @@ fn smallest_pools(alloc: Global, plan: &Plan) -> Result<Vec<Pool>, AllocError>
     Ok(small)
 }
 
-/// Returns the plan with each core and each queue set to 1, except the cores whose threads may time
-/// out, the queues of pools that may reject jobs and the unbounded queues, which stay unchanged. [`fitted`] raises the sizes of that
-/// plan to the least cores and queues with which the certificate accepts the plan. These sizes can
-/// be smaller than the declared sizes.
+/// Returns the plan with each core and each queue set to 1. These sizes stay unchanged: the cores
+/// whose threads may time out, the queues of pools that may reject jobs, and the unbounded queues.
+///
+/// [`fitted`] raises the sizes of the returned plan to the least cores and queues with which the
+/// certificate accepts the plan. These sizes can be smaller than the declared sizes.
 ///
 /// # Errors
 ///

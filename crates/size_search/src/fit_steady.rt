@@ -1,7 +1,7 @@
 //! The least sizes for the steady certificate, which are used if the rounds find no sizes. In that
-//! certificate, one vector is the blocked vector of every pool whose core threads never time out, and
-//! also the bound of every pool that needs one. A pool needs none if it may reject jobs or has an
-//! unbounded queue. The other blocked vectors are 0.
+//! certificate, one vector is the blocked vector of every pool whose core threads never time out.
+//! The same vector is the bound of every pool that needs one. A pool needs none if it may reject
+//! jobs or has an unbounded queue. The other blocked vectors are 0.
 
 ghost use Rattle.std.specs.Prelude.{◌≡◌, ◌≤◌, IfOk, IfSome, IfNone, IsTrue};
 ghost use Rattle.job_bodies.specs.WellFormed.{IsWellFormed};
@@ -22,8 +22,9 @@ use job_bodies::Plan;
 use std::alloc::{AllocError, Global};
 
 /// Returns the plan with the least sizes that its steady certificate needs. Returns
-/// [`NoSizes::TooLarge`] with the pool of `obstacle` if this certificate is too large or no sizes
-/// are enough for it. `obstacle` is where the attempt to find sizes by rounds failed.
+/// [`NoSizes::TooLarge`] with the pool of `obstacle` if this certificate is too large or if no
+/// sizes are enough for it. `obstacle` is the point at which the attempts to find sizes by rounds
+/// failed.
 pub(crate) fn fit_steady(
     alloc: Global,
     plan: &Plan,

@@ -37,10 +37,10 @@ pub fn larger_sizes_are_accepted()
 /// States that fitting the smallest plan gives the least cores and queues with which the
 /// certificate accepts a plan.
 ///
-/// In the smallest plan, each core and each queue is 1. But a pool that may reject jobs or has an
-/// unbounded queue keeps its queue, in the smallest plan and in the fitted plan. If there is no
-/// fitted plan, no choice of cores, and of queues of the other pools, makes the certificate accept
-/// the plan.
+/// In the smallest plan, each core and each queue is 1. These sizes are unchanged in the smallest
+/// plan and in the fitted plan: the queues of pools that may reject jobs, the unbounded queues, and
+/// the cores whose threads may time out. If there is no fitted plan, no choice of the other cores
+/// and queues makes the certificate accept the plan.
 pub fn smallest_fit_is_least()
     ensures { SmallestFitIsLeast }
 {}
@@ -56,8 +56,8 @@ pub fn widened_maxes_are_least()
     ensures { WidenedMaxesAreLeast }
 {}
 
-/// States that a pool needs a larger maximum if its core is the reason why the plan cannot be
-/// fitted.
+/// States that the maximum of a pool is too small if the core of this pool is the reason why the
+/// plan cannot be fitted.
 ///
 /// Let the certificate accept the plan with other sizes, and let no maximum be smaller than in the
 /// plan. Then the maximum of this pool is larger than in the plan.

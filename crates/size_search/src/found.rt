@@ -23,12 +23,18 @@ pub enum NoSizes {
     /// A cause: a reason why no certificate accepts the plan with any sizes. The plan can still be
     /// safe.
     Cause(Cause),
-    /// The plan's steady certificate is too large: it needs sizes above 1,000,000, or it has a
-    /// weight above [`MAX_WEIGHT`](job_bodies::MAX_WEIGHT). The reason can also be that no size need
-    /// be enough for it, because a submit that is made forever and never got goes to a pool that may
-    /// reject jobs or has an unbounded queue, or because no client submits a class that has a get
-    /// and whose pool's core threads may time out. The first attempt failed at the pool with this
-    /// number. The number is 0 if that attempt failed at no particular pool. Other sizes can exist.
+    /// The plan's steady certificate is too large, for one of these reasons:
+    ///
+    /// - It needs sizes above 1,000,000.
+    /// - It has a weight above [`MAX_WEIGHT`](job_bodies::MAX_WEIGHT).
+    /// - Possibly no sizes are enough for it, because a repeating client submits a job that is
+    ///   never got, directly or through other jobs. The job goes to a pool that may reject jobs or
+    ///   has an unbounded queue.
+    /// - Possibly no sizes are enough for it, because a class has a get, the core threads of its
+    ///   pool may time out, and no client submits this class, directly or through other jobs.
+    ///
+    /// Other sizes can exist. The field is the number of the pool at which the first attempt
+    /// failed, or 0 if that attempt failed at no particular pool.
     TooLarge(usize),
 }
 
@@ -37,7 +43,7 @@ pub enum NoSizes {
 pub(crate) enum Obstacle {
     /// The pool with this number, for which no vector or no size was found.
     Pool(usize),
-    /// A point for which no pool is named.
+    /// A point that belongs to no particular pool.
     Unknown,
 }
 

@@ -1,6 +1,6 @@
-//! The graphs of a plan's classes and pools. In the graph of submits, the successors of a class are
-//! the classes that it submits. In the graph of waits, which also has a node for each pool, they
-//! are those for whose jobs a job of the class can wait.
+//! Two graphs of a plan. In the graph of submits, the nodes are the classes, and the successors of
+//! a class are the classes that it submits. In the graph of waits, the nodes are the classes and
+//! then the pools, and a job of a node can wait for jobs of the node's successors.
 
 ghost use Rattle.std.specs.Prelude.{◌≡◌, ◌<◌, ◌++◌, [], OnOk, IfOk, length};
 ghost use Rattle.std.specs.List.{enumerate_from, flat_map};
@@ -38,8 +38,8 @@ fn push_gets(nodes: &mut Vec<usize>, body: &[Action]) -> Result<(), AllocError>
     Ok(())
 }
 
-/// Returns the classes that all clients submit directly or, if `repeating` is true, those that
-/// repeating clients submit directly.
+/// Returns the classes that clients submit directly. If `repeating` is `true`, only repeating
+/// clients count.
 pub(crate) fn client_submits(
     alloc: Global,
     plan: &Plan,
@@ -112,8 +112,8 @@ fn marked_gets(
     Ok(nodes)
 }
 
-/// Returns the successors of a pool in the graph of waits: the classes whose jobs its marked
-/// classes get, or none if its core threads never time out.
+/// Returns the successors of a pool in the graph of waits. If core threads of the pool may time
+/// out, they are the classes whose jobs the pool's marked classes get. Otherwise there are none.
 fn pool_waits(
     alloc: Global,
     plan: &Plan,
@@ -160,9 +160,11 @@ fn push_pools(
     Ok(())
 }
 
-/// Returns the graph of waits. Its nodes are the classes and then the pools. The successors of a
-/// class are its pool and the classes whose jobs it gets. The successors of a pool whose core
-/// threads may time out are the classes whose jobs its marked classes get; another pool has none.
+/// Returns the graph of waits. Its nodes are the classes and then the pools:
+///
+/// - The successors of a class are its pool and the classes whose jobs it gets.
+/// - The successors of a pool whose core threads may time out are the classes whose jobs the pool's
+///   marked classes get. Any other pool has no successors.
 pub(crate) fn wait_graph(alloc: Global, plan: &Plan, marks: &[bool]) -> Result<Graph, AllocError>
     requires { length marks.now ≡ length plan.now.classes }
     ensures graph { IfOk result (λ graph. graph ≡ spec.wait_graph plan.now marks.now) }

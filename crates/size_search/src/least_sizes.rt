@@ -30,9 +30,9 @@ pub(crate) fn least_sizes(
 }
 
 /// Returns the plan with its maximums raised until no maximum is below the core that its pool
-/// needs. Since one raise can make another necessary, repeats the raises at most once for each
-/// pool. Returns the reason as the inner error if no sizes are enough or the certificate does not
-/// fit.
+/// needs. One raise can make another necessary, so the raises are repeated, at most once for each
+/// pool. The inner error is the reason if no sizes are enough or the certificate does not have the
+/// shape of the plan.
 fn widest(alloc: Global, plan: &Plan, cert: &Cert) -> Result<Result<Plan, Unfit>, AllocError>
     ensures { IfOk result (λ answer. IfOk answer (IsLeastWide plan.now cert.now)) }
 {

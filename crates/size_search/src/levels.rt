@@ -32,8 +32,9 @@ pub(crate) fn steady_levels(alloc: Global, plan: &Plan) -> Result<Vec<u64>, Allo
     Ok(levels)
 }
 
-/// Returns the reach of each class, and then the rank of each pool, in the steady certificate. They
-/// are the levels of the graph of waits, or all 0 if no pool's core threads may time out.
+/// Returns the reach of each class, and then the rank of each pool, in the steady certificate.
+/// These numbers are the levels of the graph of waits, or all 0 if there is no pool whose core
+/// threads may time out.
 pub(crate) fn wait_levels(alloc: Global, plan: &Plan) -> Result<Vec<u64>, AllocError>
     ensures levels { IfOk result (λ levels. levels.items ≡ spec.wait_levels plan.now) }
     ensures well_formed { IsWellFormed plan.now }

@@ -91,9 +91,9 @@ impl RankAssignment {
         any
     }
 
-    /// Gives the rank to one pool, and raises its core, and if necessary its maximum, to what its
-    /// blocked vector needs. The pool is number `choice`, counted from 0, in ascending order of the
-    /// necessary increases.
+    /// Gives the rank to one pool. Raises the core of this pool, and if necessary its maximum, to
+    /// what its blocked vector needs. The pool is number `choice`, counted from 0, in ascending
+    /// order of the necessary increases.
     ///
     /// # Errors
     ///
@@ -116,8 +116,8 @@ impl RankAssignment {
         Ok(())
     }
 
-    /// Returns the cache hits of the pools for which a core of at most `MAX_SIZE` is enough. If core
-    /// threads may time out, no larger core is.
+    /// Returns the hits of the pools for which a core of at most `MAX_SIZE` is enough. A pool whose
+    /// core threads may time out is included only if it needs no larger core.
     fn within_limit(&self, alloc: Global, hits: &[CacheHit]) -> Result<Vec<CacheHit>, AllocError> {
         hits.iter()
             .filter(|hit| core_for(hit) <= MAX_SIZE && self.shortfall(hit) < u64::MAX)
@@ -125,8 +125,8 @@ impl RankAssignment {
             .collect(alloc)
     }
 
-    /// Returns the obstacle of a round in which no core of at most `MAX_SIZE` is enough for a pool
-    /// without a rank. The obstacle names the pool among them with the smallest shortfall.
+    /// Returns the obstacle of a round in which a core of at most `MAX_SIZE` is enough for none of
+    /// the pools without a rank. The obstacle names the pool with the smallest shortfall.
     fn obstacle_of(&self, hits: &[CacheHit]) -> Obstacle {
         match self.choice_of(hits, 0) {
             Some(hit) => Obstacle::Pool(hit.pool),
@@ -175,15 +175,24 @@ fn core_for(hit: &CacheHit) -> u64 {
     hit.total.saturating_add(1)
 }
 
-/// Gives each pool a rank and a blocked vector, starting with these cores and maximums. If
-/// `lending` is `false`, no workers have weight in the vectors. In each round, all pools whose core
-/// is large enough get the number of the round as their rank. If there are none, raises the core of
-/// the pool with the smallest shortfall (the increase of its core plus the increase of its
-/// maximum), and gives the rank to this pool. The first time that this happens, skips the
-/// `passed_over` pools with the smallest shortfalls, and raises the core of the next pool. The core
-/// of a pool whose core threads may time out is never raised. Returns an obstacle as the error if no
-/// core of at most `MAX_SIZE` is enough for a pool without a rank, or if there are at most
-/// `passed_over` pools to choose from.
+/// Gives each pool a rank and a blocked vector, in rounds that start with the cores and maximums in
+/// `threads`.
+///
+/// - In each round, all pools whose cores are large enough get the number of the round as their
+///   rank.
+/// - If there is no such pool, the round raises the core of one pool and gives the rank to it. This
+///   is the pool with the smallest shortfall: the increase of its core plus the increase of its
+///   maximum.
+/// - But the first round that raises a core skips the `passed_over` pools with the smallest
+///   shortfalls, and raises the core of the next pool.
+///
+/// The core of a pool whose core threads may time out is never raised. If `lending` is `false`, no
+/// workers have weight in the vectors.
+///
+/// # Errors
+///
+/// Returns an obstacle if a round must raise a core but finds no pool for which a core of at most
+/// `MAX_SIZE` is enough. In the first such round, the pools that it skips do not count.
 pub(crate) fn assign_ranks(
     alloc: Global,
     cache: &mut VectorCache,
@@ -215,10 +224,11 @@ pub(crate) fn assign_ranks(
 }
 
 /// Repeats all rounds until no maximum grows, because a larger maximum can increase totals. Returns
-/// the last assignment. The number of repetitions is limited, and in the last of them workers have
-/// no weight, so that totals do not depend on maximums.
+/// the last assignment. The number of repetitions is limited. In the last possible repetition,
+/// workers have no weight, so that totals do not depend on maximums.
 ///
-/// `passed_over` and the field `choices` of the result are about the first execution of the rounds.
+/// `passed_over` and the field `choices` of the result concern only the first execution of the
+/// rounds.
 pub(crate) fn assign_ranks_to_fixpoint(
     alloc: Global,
     cache: &mut VectorCache,

@@ -51,8 +51,8 @@ fn set_class_row(
     Ok(true)
 }
 
-/// Computes and stores the row of the class if the class has this level, and otherwise does
-/// nothing. Returns `false`, without storing the row, if a weight in the row is above `MAX_WEIGHT`.
+/// Computes and stores the row of the class if the class has this level. Does nothing if it has
+/// another level. If a weight in the row is above `MAX_WEIGHT`, stores nothing and returns `false`.
 fn set_row_of_level(
     alloc: Global,
     plan: &Plan,

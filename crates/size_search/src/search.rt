@@ -24,13 +24,13 @@ use std::alloc::{AllocError, Global};
 
 /// The maximum number of attempts, after the first attempt, that start with the declared sizes.
 /// These attempts differ in the pool whose core they raise first. In a plan with more than
-/// [`FEW_POOLS`] pools, this is also the maximum number of attempts that start with one pool at its
+/// [`FEW_POOLS`] pools, it is also the maximum number of attempts in which one pool is reset to its
 /// declared sizes.
 const FURTHER_ATTEMPTS: usize = 3;
 
-/// The number of pools of a plan up to which each raised pool gets an attempt of its own. In this
-/// attempt, the pool starts with its declared core and maximum. In a plan with more pools, only the
-/// most raised pools get such an attempt.
+/// The largest number of pools of a plan for which each raised pool gets an attempt of its own. In
+/// this attempt, the pool starts with its declared core and maximum. In a plan with more pools,
+/// only the most raised pools get such an attempt.
 const FEW_POOLS: usize = 8;
 
 /// Searches for sizes with which a certificate accepts the plan, with few and small increases. If
@@ -48,22 +48,24 @@ const FEW_POOLS: usize = 8;
 /// large enough. An unbounded queue is large enough for each standing vector. The core and the
 /// maximum of a pool whose core threads may time out stay unchanged too.
 ///
-/// The *steady certificate* of a plan has one vector, which is the blocked vector of every pool
-/// whose core threads never time out, and also the bound of every pool that needs one. A pool needs
-/// no bound if it may reject jobs or has an unbounded queue. The other blocked vectors are 0. The
-/// steady certificate is too large if it needs sizes above 1,000,000 or has a weight above
-/// [`MAX_WEIGHT`](job_bodies::MAX_WEIGHT). It also counts as too large if a submit to a pool that
-/// needs no bound is made forever and never got, or if no client submits a class that has a get and
-/// whose pool's core threads may time out, because no size need be enough then. If no attempt
-/// succeeds, the result is the steady certificate with the least sizes for it, unless it is too
-/// large.
+/// If no attempt succeeds, the result is the *steady certificate* of the plan with the least sizes
+/// for it. In this certificate, one vector is the blocked vector of every pool whose core threads
+/// never time out. The same vector is the bound of every pool that needs one. A pool needs no bound
+/// if it may reject jobs or has an unbounded queue. The other blocked vectors are 0.
+///
+/// The steady certificate is not used if it is too large. This is so in the following cases. In the
+/// last two, possibly no sizes are enough for it.
+///
+/// - It needs sizes above 1,000,000.
+/// - It has a weight above [`MAX_WEIGHT`](job_bodies::MAX_WEIGHT).
+/// - A repeating client submits a job to a pool that needs no bound, directly or through other
+///   jobs, and the job is never got.
+/// - A class has a get, the core threads of its pool may time out, and no client submits this
+///   class, directly or through other jobs.
 ///
 /// If no sizes are found, one of these is the reason:
 ///
-/// - The plan has a cause, so no sizes are enough: a class submits itself, directly or through
-///   other classes, a repeating client causes a submit that is never got, to a pool that needs a
-///   bound, or the last thread of a pool whose core threads may time out can wait until a job of the
-///   pool ends.
+/// - The plan has a [`Cause`](crate::Cause), so no sizes are enough.
 /// - The steady certificate is too large. Other sizes can exist.
 ///
 /// If none of these reasons holds, sizes are found. Unless the certificate is `first`, a new search
@@ -191,8 +193,8 @@ fn best_from_declared(
 }
 
 /// Makes further attempts, and returns the cheapest of these attempts and `best`. Each further
-/// attempt starts with the cores and maximums of the cheapest attempt so far. But one of the most
-/// raised pools starts with its declared core and maximum.
+/// attempt starts with the cores and maximums of the cheapest attempt so far, except that one of
+/// the most raised pools starts with its declared core and maximum.
 fn improved_attempt(
     alloc: Global,
     cache: &mut VectorCache,
@@ -257,8 +259,8 @@ fn outcome(
 }
 
 /// Returns the pools whose core plus maximum is larger in `best` than declared, in descending order
-/// of the increase. A plan with more than [`FEW_POOLS`] pools gets only the first
-/// [`FURTHER_ATTEMPTS`] of them. The maximum of a pool with an unbounded queue is ignored.
+/// of the increase. The maximum of a pool with an unbounded queue is ignored. If the plan has more
+/// than [`FEW_POOLS`] pools, returns at most [`FURTHER_ATTEMPTS`] pools.
 fn most_raised_pools(
     alloc: Global,
     best: &Attempt,

@@ -21,8 +21,8 @@ const MAX_TURNS: usize = 4;
 /// The result of a new search for a certificate, made for the plan with the sizes that were found.
 #[derive(Drop)]
 enum Recheck {
-    /// The search found a certificate that accepts the plan with these sizes. Or it was skipped
-    /// because no size has grown.
+    /// The search found a certificate that accepts the plan with these sizes, or the search was
+    /// skipped because no size has grown.
     Same,
     /// The search found a certificate that needs larger sizes.
     More(Cert),

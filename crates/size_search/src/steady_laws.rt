@@ -5,13 +5,17 @@
 
 ghost use Rattle.size_search.specs.SteadyLaws.{SteadyCertificatesAccept};
 
-/// States when the steady certificate accepts its plan. Assume that no class submits itself,
-/// directly or through other classes, that no repeating client causes a submit that is never got,
-/// that no pool whose core threads may time out waits for itself, that clients submit each class of
-/// such a pool that has a get, and that the weights are within their limit. Then only conditions on
-/// the certificate's total can fail, so the certificate accepts the plan exactly when the queue of
-/// every pool that needs a bound is at least the total, and every core whose threads never time out
-/// is larger than the total.
+/// States when the steady certificate accepts its plan. The premises are these:
+///
+/// - No class submits itself, directly or through other classes.
+/// - No repeating client submits, directly or through other jobs, a job that is never got.
+/// - No pool whose core threads may time out waits for itself.
+/// - Clients submit, directly or through other jobs, each class of such a pool that has a get.
+/// - The weights of the certificate are within their limit.
+///
+/// Then only conditions on the certificate's total can fail. So the certificate accepts the plan
+/// exactly when two conditions hold: the queue of every pool that needs a bound is at least the
+/// total, and every core whose threads never time out is larger than the total.
 pub fn steady_certificates_accept()
     ensures { SteadyCertificatesAccept }
 {}

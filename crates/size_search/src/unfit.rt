@@ -16,21 +16,22 @@ pub enum Unfit {
     Shape,
     /// The first failing condition that does not depend on cores and queues.
     Condition(Note),
-    /// The pool with this number would need a core above its maximum. If maximums can be raised,
-    /// the core would have to be above 1,000,000.
+    /// The core of the pool with this number would have to be too large: for
+    /// [`fitted`](crate::fitted), larger than the pool's maximum, and for
+    /// [`widened`](crate::widened), larger than 1,000,000.
     Core(usize),
-    /// The queue of the pool with this number would have to be above 1,000,000. Or the queue is too
-    /// small, and is not raised because the pool may reject jobs. An unbounded queue is never the
-    /// reason.
+    /// The queue of the pool with this number would have to be larger than 1,000,000. Or the pool
+    /// may reject jobs, so its queue is not raised, and the queue is too small. An unbounded queue
+    /// is never the reason.
     Queue(usize),
-    /// Jobs of the pool with this number can wait at counted gets, but one thread of the pool may be
-    /// left, since its core threads may time out.
+    /// Jobs of the pool with this number can wait at counted gets, but its core threads may time
+    /// out, so only one thread may be left.
     CoreTimeout(usize),
 }
 
-/// Returns the reason why a pool with raised sizes is invalid, or `None` if it is valid. If the
-/// maximum is above 1,000,000, it was raised for the core, so the core is the reason. The maximum of
-/// a pool whose core threads may time out is not raised.
+/// Returns the reason why the raised sizes of a pool are invalid, or `None` if they are valid. If
+/// the maximum is above 1,000,000, it was raised for the core, so the core is the reason. The
+/// maximum of a pool whose core threads may time out is not raised, and is never the reason.
 fn unfit_pool(number: usize, pool: &Pool) -> Option<Unfit>
     ensures { result ≡ spec.unfit_pool number pool.now }
 {

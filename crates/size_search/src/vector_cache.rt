@@ -10,16 +10,15 @@ use weights::submitted_class;
 /// search. All known plans need less than a quarter of this number.
 const MAX_VECTORS: usize = 32_768;
 
-/// The kind of a vector. A blocked vector also has its counted gets, and whether the workers of
-/// other pools can have weight. Together with the other fields of [`CacheKey`], these values
-/// determine the lightest vector of a pool.
+/// The kind of a vector. For a blocked vector, it also has the counted gets, and whether the
+/// workers of other pools can have weight. The lightest vector of a pool depends only on these
+/// values and the other fields of [`CacheKey`].
 #[derive(PartialEq, Drop)]
 enum VectorKey {
     Standing,
     Lifetime,
     Blocked {
-        /// For each class, whether jobs of this pool get jobs of that class and these gets are
-        /// counted.
+        /// For each class, whether jobs of this pool have counted gets of jobs of that class.
         counted: Vec<bool>,
         /// Whether the workers of other pools can have weight.
         lending: bool,
@@ -32,8 +31,8 @@ struct CacheKey {
     vector: VectorKey,
     /// The maximum of each pool.
     maxes: Vec<u64>,
-    /// The total that is small enough: the search for the vector stops when the total is at most
-    /// this number.
+    /// A total that is small enough: the search for the vector stops when it reaches this total or
+    /// a smaller one.
     enough: u64,
 }
 
@@ -52,11 +51,12 @@ impl CacheEntry {
             && self.is_valid_for(&key.maxes)
     }
 
-    /// Returns whether a new search with these maximums would give the vector of this entry. This
-    /// requires that no pool has a smaller maximum than in the entry, and that each pool whose
-    /// workers got weight has the same maximum.
+    /// Returns whether a new search with these maximums would give the vector of this entry. For
+    /// each pool, the maximum must be the same as in the entry, or it must be larger and the pool's
+    /// workers must have no weight.
     ///
-    /// With a larger maximum, weight of the pool's workers would only add more to the total.
+    /// The larger maximum then changes nothing: weight of the workers would only add more to the
+    /// total.
     fn is_valid_for(&self, maxes: &[u64]) -> bool {
         self.key.maxes.iter().zip(maxes).enumerate().all(|(pool, (before, now))| before == now
             || (before < now && !self.is_lender(pool)))
@@ -102,7 +102,7 @@ impl CacheHit {
     }
 }
 
-/// A cache of the vectors that were computed for a plan with different maximums.
+/// A cache of the vectors of a plan. The vectors were computed for the plan with various maximums.
 #[derive(Drop)]
 pub(crate) struct VectorCache<'a> {
     pub(crate) plan: &'a Plan,
@@ -141,8 +141,8 @@ impl<'a> VectorCache<'a> {
     ///
     /// # Errors
     ///
-    /// Returns [`Obstacle::Unknown`] if a vector must be computed after [`MAX_VECTORS`] vectors
-    /// have been computed.
+    /// Returns [`Obstacle::Unknown`] if a vector must be computed, but [`MAX_VECTORS`] vectors have
+    /// already been computed.
     pub(crate) fn lightest(
         &mut self,
         alloc: Global,
@@ -221,8 +221,8 @@ impl PoolCache {
         })
     }
 
-    /// Returns, for each class, whether jobs of this pool get jobs of that class and these gets are
-    /// counted. `rank` is the rank of this pool, and `reach` has the reach of each class.
+    /// Returns, for each class, whether jobs of this pool have counted gets of jobs of that class.
+    /// `rank` is the rank of this pool, and `reach` has the reach of each class.
     fn counted(&self, alloc: Global, reach: &[u64], rank: u64) -> Result<Vec<bool>, AllocError> {
         self.gets
             .iter()

@@ -27,7 +27,7 @@ fn raised_max(pool: &Pool, core: u64) -> u64
 }
 
 /// Returns the pool with this number, with its maximum raised to the core that the certificate
-/// needs, if the core is larger and its threads never time out.
+/// needs if this core is larger. The maximum stays unchanged if core threads may time out.
 fn widened_pool(alloc: Global, plan: &Plan, cert: &Cert, number: usize) -> Result<Pool, AllocError>
     requires fits { IsTrue (cert_fits plan.now cert.now) }
     requires number { number < length plan.now.pools }
@@ -54,12 +54,14 @@ fn widened_pools(alloc: Global, plan: &Plan, cert: &Cert) -> Result<Vec<Pool>, A
 }
 
 /// Returns the plan with each maximum raised to the core that the certificate needs. The maximum of
-/// a pool whose core threads may time out stays unchanged. Each raise is necessary: all sizes with which the certificate accepts the plan, and whose maximums are no
-/// smaller than the plan's, have at least these maximums. If the raises increase totals, the
+/// a pool whose core threads may time out stays unchanged. If the raises increase totals, the
 /// certificate can need still larger cores.
 ///
+/// Each raise is necessary: if the certificate accepts the plan with other sizes whose maximums are
+/// no smaller than the plan's, these maximums are no smaller than those of the result.
+///
 /// If the certificate does not fit the plan, or needs a core above 1,000,000, there are no such
-/// sizes. The inner result is then the reason.
+/// sizes. The inner error is then the reason.
 ///
 /// # Errors
 ///

@@ -21,8 +21,8 @@
 //! - `$(standing_cert)`: a sample certificate. `$(standing_cert OLD NEW)` is the same certificate
 //!   with `NEW` in place of its first `OLD`.
 //! - `^<64 TEXT^>`: the text 64 times. In it, `^#` is the number of the repetition, from 0, and
-//!   `^+` is that number plus 1. `^<to 64 X^>` is the byte X as often as needed for an output of 64
-//!   bytes.
+//!   `^+` is that number plus 1.
+//! - `^<to 64 X^>`: the byte X, repeated until the input or answer has 64 bytes.
 //! - `^n`, `^r`, `^t` and `^s`: a newline, a carriage return, a tab and a space. `^xff` is the byte
 //!   `ff`.
 mod certs;

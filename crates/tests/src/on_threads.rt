@@ -39,9 +39,9 @@ use std::thread::Threads;
 /// - `check`: the verdict or the fault of the check. The input is a bundle. The test repeats the
 ///   check on threads, with several numbers of workers.
 /// - `fit` and `fit bundle`: the output of `fit` as sizes and as a bundle. If the text is short,
-///   the test repeats the command with single bytes, and with a source and a sink that fail. It
-///   also does so for `refute`, for `refute bundle`, and for each kind of `ask` except `ask head`
-///   and `ask html`.
+///   the test repeats the command with single bytes, and with a source and a sink that fail. The
+///   same applies to `refute`, `refute bundle`, and each kind of `ask` except `ask head` and
+///   `ask html`.
 /// - `fit and check`: if `fit` writes a bundle, the first line of the output of `check` for this
 ///   bundle, and then the output of `fit` for the plan in the bundle. Otherwise the answer is the
 ///   output of `fit`.
@@ -49,11 +49,11 @@ use std::thread::Threads;
 ///   If there are few rounds, the test repeats the command with single bytes, and with a source and
 ///   a sink that fail.
 /// - `refute`: the output of `refute` as a description.
-/// - `refute head`: the first line of this output.
+/// - `refute head`: the first line of the output of `refute`.
 /// - `refute briefly`: the first line of the output of `refute` with a limit of one state.
 /// - `refute bundle`: the output of `refute` as a bundle.
-/// - `refute and replay`: the output of `replay` for the bundle that `refute` writes. If it writes
-///   no bundle, the answer is the output of `refute`.
+/// - `refute and replay`: the output of `replay` for the bundle that `refute` writes. If `refute`
+///   writes no bundle, the answer is the output of `refute`.
 /// - `ask` and `ask strict`: the output of `ask`.
 /// - `ask head`: the first line of the output of `ask`.
 /// - `ask with` and `ask with strict`: the output of `ask` for an input that is a bundle of a plan
@@ -62,7 +62,7 @@ use std::thread::Threads;
 ///   `ask sarif` and `ask sarif with`: the output of `ask` in the format that the second word
 ///   names.
 /// - `ask html`: the JSON object in the HTML page that `ask` writes.
-/// - `sizes`: the sizes that the search for sizes finds, as lines, without a search for a
+/// - `sizes`: the sizes that the search for sizes finds, as lines. The test does not search for a
 ///   certificate first. The answer has no exit status.
 pub fn answered<R: Threads + Wait + Sync>(
     rt: &R,

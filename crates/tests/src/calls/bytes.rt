@@ -10,7 +10,7 @@ use std::io::{ErrorKind, Read, Write};
 use std::test::Fail;
 
 /// Cases: a limit, the bytes of `one two three` that are read with this limit, and the bytes that
-/// remain.
+/// are left unread.
 const LIMITED: &[(usize, &[u8], &[u8])] = &[
     (100, b"one two three", b""),
     (7, b"one two", b" three"),

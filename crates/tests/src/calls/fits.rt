@@ -32,8 +32,8 @@ type Sizes = [u64; 4];
 // A line of a pool whose core threads may time out.
 const TIMEOUT: &str = "core_timeout = true\n";
 
-// Returns the text of a plan in which each client submits a job and gets it. The pool has these
-// further lines.
+// Returns the text of a plan in which each client submits a job and gets it. `lines` has further
+// lines for the pool.
 fn one_pool(alloc: Global, sizes: Sizes, lines: &str) -> Result<String, AllocError> {
     let [core, max, queue, count] = sizes;
     let mut text = String::new(alloc);
@@ -50,7 +50,8 @@ fn one_pool(alloc: Global, sizes: Sizes, lines: &str) -> Result<String, AllocErr
     Ok(text)
 }
 
-// Returns the text of a plan in which each such job waits for a job of its own pool.
+// Returns the text of a plan like that of `one_pool` in which each job of a client waits for another
+// job of its pool.
 fn nested(alloc: Global, sizes: Sizes, lines: &str) -> Result<String, AllocError> {
     let [core, max, queue, count] = sizes;
     let mut text = String::new(alloc);

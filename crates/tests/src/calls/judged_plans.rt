@@ -24,8 +24,8 @@ fn read(alloc: Global, plan: &str, cert: &str) -> Result<(Plan, Cert), Fail> {
     Ok((plan, cert))
 }
 
-/// The results for a plan and a certificate: the total of the vector in the bound of the first
-/// pool, and, for each part of the certificate, the first condition that fails.
+/// The results for a plan and a certificate: the first failing condition of each part of the
+/// certificate, and the total of the vector in the bound of the first pool.
 #[derive(Clone, Copy, Debug, PartialEq, Eq)]
 struct Findings {
     total: u64,
@@ -186,7 +186,7 @@ fn is_counted(plan: &Plan, ranks: &Ranks, class: usize, position: usize) -> Opti
 }
 
 /// Tests which gets are counted in a plan where jobs of class `a` wait for jobs of class `b`, and
-/// these wait for jobs of class `d`. The ranks determine which of these gets are counted.
+/// these wait for jobs of class `d`. Which of these gets are counted depends on the ranks.
 #[test]
 fn gets_that_are_counted(rt: HostRuntime) -> Result<(), Fail> {
     let (plan, cert) = read(rt.alloc(), THERE_AND_BACK, THERE_AND_BACK_CERT)?;
@@ -211,8 +211,8 @@ fn higher(alloc: Global) -> Result<Ranks, AllocError> {
     })
 }
 
-/// A case: a plan, a certificate, whether `accepts_standing` accepts the two, and whether `accepts`
-/// accepts them.
+/// A case: a plan, a certificate, and whether two calls accept them: `accepts_standing`, and then
+/// `accepts`.
 type Judged = (&'static str, &'static str, bool, bool);
 
 const JUDGED: &[Judged] = &[

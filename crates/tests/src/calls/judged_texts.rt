@@ -27,7 +27,7 @@ pub(crate) const THAT_REJECTS_NOTHING: &str = "
     client = [{ name = 'c', count = 2, repeat = true, body = ['submit a as x', 'get x'] }]
 ";
 
-// A pool with an unbounded queue, over which its maximum has no effect.
+// A pool with an unbounded queue, so its maximum has no effect.
 pub(crate) const UNBOUNDED: &str = "
     pool = [{ name = 'p', core = 1, max = 8, queue = 'unbounded' }]
     class = [{ name = 'a', pool = 'p', body = ['work 1'] }]

@@ -5,7 +5,7 @@ ghost use Rattle.std.specs.Prelude.{None, if◌then◌else◌};
 use sizing_cli::{IoFault, MemorySink, ReviewCommand, ServeFault, Source, Status, serve_alone};
 use std::test::Fail;
 
-/// A source of `left` bytes, of which each call returns one. The call after the last byte fails,
+/// A source of `left` bytes that returns one byte in each call. The call after the last byte fails,
 /// and any later call returns no byte.
 #[derive(Drop)]
 struct Failing {
@@ -33,8 +33,8 @@ impl Source for Failing {
 }
 
 /// Tests a source that fails after a number of bytes. If it fails after 2,097,155 bytes, the
-/// program reports the failure. If it has 2,097,156 bytes, the program reports that the input is
-/// too long, without the call that would fail.
+/// program reports the failure. If it would fail after 2,097,156 bytes, the program reports that
+/// the input is too long, and does not make the call that would fail.
 #[test]
 fn a_source_that_fails_at_the_limit(rt: HostRuntime) -> Result<(), Fail> {
     for (left, ended, written) in [

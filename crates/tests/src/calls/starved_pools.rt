@@ -21,8 +21,8 @@ fn nested(alloc: Global, sizes: &str, count: u64) -> Result<String, AllocError> 
     )
 }
 
-// The events of a whole round of the client, in which each of two core threads runs a job, and of
-// its next submit, whose job waits for a queued job while the other thread ends.
+// The events of a whole round of the client and of its next submit. In the round, each of two core
+// threads runs a job. After the next submit, one thread waits for a queued job, and the other ends.
 const STARVED: [Event; 12] = [
     Event::Client(0),
     Event::Job(0),
@@ -126,8 +126,8 @@ fn standing(alloc: Global) -> Result<Vec<Vector>, AllocError> {
     Ok(vectors)
 }
 
-/// Tests when jobs that wait only for each other wait permanently: only if each pool that has one of
-/// them in its queue has at least core threads, and starts no thread above core.
+/// Tests when jobs that wait only for each other wait permanently. This is so only if each pool
+/// that has one of them in its queue has at least core threads, and starts no thread above core.
 #[test]
 fn jobs_wait_for_ever_only_at_core(rt: HostRuntime) -> Result<(), Fail> {
     let alloc = rt.alloc();

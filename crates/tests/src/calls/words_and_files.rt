@@ -247,7 +247,7 @@ const NO_ANSWERS: &[(&[&str], &str, u8)] = &[
     ),
     (&["sizing", "certify", "none.toml"], "unread none.toml", 3),
     (&["sizing", "check", "-", "-"], "input twice", 2),
-    // Of two texts, neither is a bundle itself, except a recording.
+    // If two texts are given, neither may be a bundle. The exception is a recording.
     (&["sizing", "ask", "plan.toml", "both"], "bundle both", 2),
     (&["sizing", "check", "both", "cert.json"], "bundle both", 2),
     (&["sizing", "conform", "both", "-"], "bundle both", 2),
@@ -349,8 +349,8 @@ fn words_without_an_answer(rt: HostRuntime) -> Result<(), Fail> {
 }
 
 /// Tests a certificate that cannot be written, because its folder is missing or its file cannot be
-/// replaced. The call then writes the whole answer and returns the error. If the file has a
-/// certificate, even of another plan, the certificate may be overwritten.
+/// replaced. The call then still writes the whole answer, and returns the error. A file that has a
+/// certificate, even one of another plan, may be overwritten.
 #[test]
 fn an_unwritten_certificate(rt: HostRuntime) -> Result<(), Fail> {
     for name in ["none/kept.json", "cert.json", "older.json"] {

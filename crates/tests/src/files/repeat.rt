@@ -6,8 +6,8 @@ use std::alloc::{AllocError, Global};
 /// Returns the text with its repetitions written out. A repetition has one of two forms:
 ///
 /// - `^<N TEXT^>` is replaced by N copies of TEXT.
-/// - `^<to N TEXT^>` is replaced by as many copies of TEXT as N minus the number of bytes before
-///   it.
+/// - `^<to N TEXT^>` is also replaced by copies of TEXT. Their number is N minus the number of
+///   bytes before the repetition.
 ///
 /// In TEXT, `^#` is the number of the copy, counted from 0, and `^+` is the number of the copy,
 /// counted from 1.

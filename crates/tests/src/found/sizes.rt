@@ -6,9 +6,9 @@ use report::{push_no_sizes, push_sizes};
 use size_search::{SizesFound, search_sizes};
 use std::alloc::{AllocError, Global};
 
-/// Returns the result of the search for sizes, as lines, for the plan with this text. The lines
-/// have the sizes that the search finds, or the reason why it finds none. If the text is not a
-/// plan, returns the fault of the text.
+/// Searches for sizes for the plan with this text. Returns the sizes that the search finds, as
+/// lines, or the reason why it finds none. If the text is not a plan, returns the fault of the
+/// text.
 pub fn answer(alloc: Global, text: &str) -> Result<String, AllocError> {
     let mut lines = String::new(alloc);
     match read_plan(alloc, text.as_bytes()) {

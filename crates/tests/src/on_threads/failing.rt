@@ -15,10 +15,10 @@ const WRITE_FAILED: ServeFault = ServeFault { number: 61 };
 // The maximum number of bytes that a call of a failing source or sink reads or writes.
 const PIECE: usize = 250;
 
-/// Returns the output of the command, followed by a note for each unexpected result of a
-/// repetition. The command is repeated with these sources and sinks:
+/// Returns the output of the command. Then repeats the command, and adds a note for each unexpected
+/// result. The repetitions have these sources and sinks:
 ///
-/// - a source and a sink that transfer one byte in each call;
+/// - a source and a sink that transfer one byte in each call, and
 /// - a source or a sink of which one call fails.
 pub fn run_with_failures<R: Threads + Wait + Sync>(
     rt: &R,
@@ -34,11 +34,11 @@ pub fn run_with_failures<R: Threads + Wait + Sync>(
     Ok(answer)
 }
 
-/// Repeats the command, and appends a note to the answer for each unexpected result. The command is
-/// repeated with these sources and sinks:
+/// Repeats the command, and appends a note to the answer for each unexpected result. The
+/// repetitions have these sources and sinks:
 ///
-/// - a source and a sink that transfer one byte in each call. The result must be `ended`;
-/// - a source or a sink of which one call fails.
+/// - A source and a sink that transfer one byte in each call. The result must be `ended`.
+/// - A source or a sink of which one call fails.
 pub fn push_differences<R: Threads + Wait + Sync>(
     rt: &R,
     alloc: Global,
@@ -70,9 +70,11 @@ fn in_bytes<R: Threads + Wait + Sync>(
     Ended::of_source(rt, alloc, command, &mut source, sink)
 }
 
-// Appends a note for each call of the source whose failure does not result in fault 60 and no
-// output. The program makes one call more than those that return bytes, to find the end of the
-// input. It makes no later call, so a source that would fail at one has no effect.
+// Runs the command once for each call of the source, so that this call fails. Appends a note unless
+// the result is fault 60 without output.
+//
+// The program makes one call more than those that return bytes, to find the end of the input. It
+// makes no later call, so a source that would fail at a later call has no effect.
 fn push_failing_reads<R: Threads + Wait + Sync>(
     rt: &R,
     alloc: Global,
@@ -99,8 +101,9 @@ fn push_failing_reads<R: Threads + Wait + Sync>(
     Ok(())
 }
 
-// Appends a note for each call of the sink whose failure does not result in fault 61 and a prefix
-// of the output. The program makes no call after those that write the output.
+// Runs the command once for each call of the sink, so that this call fails. Appends a note unless
+// the result is fault 61 and a prefix of the output. The program makes no call after those that
+// write the output.
 fn push_failing_writes<R: Threads + Wait + Sync>(
     rt: &R,
     alloc: Global,

@@ -31,10 +31,13 @@ pub fn written(alloc: Global, lines: &[u8]) -> Result<String, AllocError> {
     Ok(text)
 }
 
-// Parses the plan of the lists. Each entry has a line: `pool NAME CORE MAX QUEUE`, which may end
-// with some of `prestarted`, `core_timeout`, `may_reject` and `unbounded`; `class NAME POOL BODY`;
-// `client NAME COUNT BODY` for clients that repeat; and another first word with `NAME COUNT BODY`
-// for clients that do not.
+// Parses the plan of the lists. Each entry is one of these lines:
+//
+// - `pool NAME CORE MAX QUEUE`, which may end with some of the words `prestarted`, `core_timeout`,
+//   `may_reject` and `unbounded`;
+// - `class NAME POOL BODY`;
+// - `client NAME COUNT BODY` for clients that repeat, and any other first word with `NAME COUNT BODY`
+//   for clients that do not.
 fn plan_of(alloc: Global, lines: &[u8]) -> Result<Result<Plan, PlanFault>, AllocError> {
     let lines = String::from_utf8_lossy(alloc, lines)?;
     let mut pools = Vec::new(alloc);

@@ -23,9 +23,9 @@ pub struct Case<'a> {
 }
 
 impl Case<'_> {
-    /// Runs the command again for each call of the source and of the sink. In each of these runs,
-    /// this call fails, or the sink accepts no byte in this call and all later calls. Appends a
-    /// note to the answer for each unexpected result.
+    /// Runs the command again for each call of the source and of the sink, so that this call fails.
+    /// Also runs it with sinks that accept no byte from some call on. Appends a note to the answer
+    /// for each unexpected result.
     pub fn push_differences(
         &self,
         alloc: Global,
@@ -37,9 +37,11 @@ impl Case<'_> {
         self.push_stalling_writes(alloc, query, answer)
     }
 
-    // Appends a note for each call of the source whose failure does not result in fault 60 and no
-    // output. The program makes one call more than those that return bytes, to find the end of the
-    // input. It makes no later call, so a source that would fail at one has no effect.
+    // Runs the command once for each call of the source, so that this call fails. Appends a note
+    // unless the result is fault 60 without output.
+    //
+    // The program makes one call more than those that return bytes, to find the end of the input.
+    // It makes no later call, so a source that would fail at a later call has no effect.
     fn push_failing_reads(
         &self,
         alloc: Global,
@@ -70,8 +72,9 @@ impl Case<'_> {
         Ok(())
     }
 
-    // Appends a note for each call of the sink whose failure does not result in fault 61 and a
-    // prefix of the output. The program makes no call after those that write the output.
+    // Runs the command once for each call of the sink, so that this call fails. Appends a note
+    // unless the result is fault 61 and a prefix of the output. The program makes no call after
+    // those that write the output.
     fn push_failing_writes(
         &self,
         alloc: Global,
@@ -97,9 +100,9 @@ impl Case<'_> {
         Ok(())
     }
 
-    // Appends a note for each call of a writer that accepts no byte if the result is not fault 61.
-    // The sinks of these tests cannot accept no byte, since their contract requires a byte or a
-    // fault.
+    // Runs the command with writers that accept no byte from some call on. Appends a note unless
+    // the result is fault 61 and a prefix of the output. The sinks of the other tests must accept a
+    // byte or fail, because their contract requires it.
     fn push_stalling_writes(
         &self,
         alloc: Global,

@@ -42,8 +42,8 @@ const TWO_POOLS_CERT: &str = r#"{"version": 1, "pools": [
         "clients": [[0, 0, 0], [1, 0, 1]]}}],
     "ranks": {"pools": [1, 0], "reach": [1, 0, 1, 1], "levels": [1, 0, 1, 0]}}"#;
 
-/// A gate that holds the first call until another call is made. The gate is called before each
-/// pool. If no other call is made within 10,000 waits of a millisecond, the gate refuses the pool
+/// A gate that holds its first call until another call is made. A check calls the gate before each
+/// pool. If no other call is made within 10,000 waits of one millisecond, the gate refuses the pool
 /// of the first call.
 #[derive(Drop)]
 struct Rendezvous<'a, C> {

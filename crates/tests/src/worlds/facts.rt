@@ -12,8 +12,7 @@ use std::alloc::{AllocError, Global};
 const CLIENTS_SHOWN: usize = 4;
 
 /// Returns the results of all look-ups of the world: the counts, the pools, the first four clients
-/// and the jobs. Also has the results for the two numbers after the last job, which are numbers of
-/// no job.
+/// and the jobs. Also looks up the two numbers after the last job, which belong to no job.
 pub fn facts(alloc: Global, plan: &Plan, world: &World) -> Result<Vec<String>, AllocError>
     requires { IsReachableView plan.now world.now.view }
 {
