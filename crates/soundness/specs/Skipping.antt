@@ -25,9 +25,10 @@ use Rattle.soundness.specs.Execute.{JavaState, JavaEvent, Submission, is_calling
 use Rattle.soundness.specs.JavaSafe.{IsJavaSafe, JavaCanProgress, IsJavaQuiescent}
 use Rattle.soundness.specs.Exchange.{after_exchange, can_exchange}
 
--- a choice: `Acts` performs an event. `Skips` makes the actor of the event skip the submit at which it is. `Misses` makes the offer of the
--- event's actor fail although a thread may be idle, which can happen at a queue of capacity 0. `Exchanges` exchanges the jobs that an actor
--- submitted at two positions. In `Leaves` and `Spares` Java looks at a pool
+-- a choice. `Acts` performs an event. `Skips` makes the actor of the event skip its current submit. `Misses` makes the offer of
+-- the event's actor fail at a queue of capacity 0, although a thread may be idle. `Exchanges` exchanges the jobs that an actor
+-- submitted at two positions. In `Leaves` and `Spares`, Java looks at the pool: it starts no thread in `Leaves`, and one in
+-- `Spares`.
 pub data Choice : Type 0 where
   Acts : Event → Choice
   Skips : Event → Choice
@@ -54,8 +55,8 @@ skip_submit plan s (Some x) = if has_begun plan s x then None else Some (record 
 abbrev pub has_no_queue : Pool → Bool
 has_no_queue pool = not pool.unbounded && pool.queue == 0
 
--- the state after the offer of the submit finds no thread at a queue of capacity 0, although a thread may be idle: it is not back at the
--- queue yet. None if there is no submit, its next step is no offer, or the queue has a greater capacity or is unbounded
+-- the state after the offer of the submit fails at a queue of capacity 0. A thread may be idle, but it has not returned to the
+-- queue yet. None if there is no submit, if its next step is no offer, or if the queue has a greater capacity or is unbounded.
 abbrev pub miss_thread : Plan → JavaState → Option Submission → Option JavaState
 miss_thread plan s None = None
 miss_thread plan s (Some x) =
@@ -105,15 +106,16 @@ is_of_jobs (Exchanges a t u) = false
 is_of_jobs (Leaves p) = false
 is_of_jobs (Spares p) = false
 
--- the choice is neither an event of a client nor a skip or a missed offer by a client; an exchange of a client's jobs does not count as an
--- action of the client
+-- the choice is not an event, a skip or a missed offer of a client. An exchange of a client's jobs does not count as an action
+-- of the client.
 abbrev pub no_client_acts : Choice → Bool
 no_client_acts (Acts e) = is_of_no_client e
 no_client_acts (Skips e) = is_of_no_client e
 no_client_acts (Misses e) = is_of_no_client e
 no_client_acts _ = true
 
--- the choices lead from the state s, which the choices `before` reach, to the state s', and no client acts in them
+-- The choices `before` reach the state s, and the given choices lead from s to the state s'. No client acts in the given
+-- choices.
 pub record ChoicesLeadTo (plan : Plan) (s : JavaState) (choices : List Choice) (s' : JavaState) : Type 0 where
   pub before : List Choice
   pub reached : ChoicesReach plan before s
@@ -138,8 +140,8 @@ abbrev pub event_of_actor : Parent → Event
 event_of_actor (parent.Client c) = event.Client c
 event_of_actor (parent.Job j) = event.Job j
 
--- an actor at a get of its submit at position t can get its job of position u instead, if that job is done and the actor's jobs
--- of the two positions are alike: the actor exchanges the two jobs and then performs the get
+-- An actor at a get of its submit at position t can get its job of position u instead. The actor exchanges the two jobs and
+-- then performs the get. The job of position u must be done, and the actor's jobs of the two positions must be alike.
 abbrev pub AlikeJobsAreGotInAnyOrder : Type 0
 AlikeJobsAreGotInAnyOrder = (plan : Plan) (s : JavaState) (a : Parent) (body : List Action) (i t u j : ℕ) → point plan s.machine a ≡ Some (record { body = body; position = i }) → slice_get body i ≡ Some (Get t)
     → IsTrue (can_exchange s.machine a t u) → child s.machine a u ≡ Some j → (job_at s.machine j).stage ≡ Stage.Done

@@ -19,9 +19,9 @@ use Rattle.weights.specs.Lifetime.{lifetime_rows}
 use Rattle.weights.specs.Bound.{bound_vector, bound_rows}
 use Rattle.soundness.specs.WeightedSum.{sum_of}
 
--- rejected jobs are light: in each class of a pool that may reject jobs, a done job weighs at most as much as a queued job, so a rejected
--- job does not increase the weight of a state. This holds if no pool may reject jobs, and also if the rows of the vector and of some ranks
--- hold.
+-- rejected jobs are light: in each class of a pool that may reject jobs, a done job weighs at most as much as a queued job. So
+-- a rejected job does not increase the weight of a state. The condition holds if no pool may reject jobs. It also holds if the
+-- rows of the vector and of some ranks hold.
 abbrev pub RejectedAreLight : Plan → Vector → Type 0
 RejectedAreLight plan v = (k : ℕ) → k < length plan.classes → IsTrue (pool_at plan (pool_of plan k)).may_reject → done_weight plan v k ≤ queued_weight v k
 

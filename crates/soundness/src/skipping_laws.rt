@@ -6,9 +6,9 @@ ghost use Rattle.soundness.specs.Exchange.{ExchangesSwapTwoGets};
 ghost use Rattle.soundness.specs.Skipping.{DoneWithinQueued};
 ghost use Rattle.soundness.specs.Skipping.{AlikeJobsAreGotInAnyOrder};
 
-/// States that a skipped submit does not increase the weight of a state, because it creates a done
-/// job in place of a queued job. Let the rows (the conditions) of a vector and of the ranks hold.
-/// Then a done job of a class weighs at most as much as a queued job of this class.
+/// States that a done job of a class weighs at most as much as a queued job of this class. The rows
+/// (the conditions) of the vector and of the ranks must hold. So a skipped submit does not increase
+/// the weight of a state: it creates a done job in place of a queued job.
 pub fn done_within_queued()
     ensures { DoneWithinQueued }
 {}
