@@ -128,8 +128,9 @@ impl LiveJobs {
         self.kept.reserve()
     }
 
-    /// Adds a new job. Removes the job `latest` if it is done and comes from the same submit of the
-    /// same actor. No other job of this submit may be done. [`LiveJobs::reserve_for`] must have
+    /// Adds the new job `job`. If the job `latest` is done and was created by the same submit of
+    /// the same actor, removes it, because a get returns only the latest job of its submit. Every
+    /// other live job of this submit must be unfinished. [`LiveJobs::reserve_for`] must have
     /// reserved memory.
     pub fn create(&mut self, latest: Option<usize>, job: JobView)
         requires room { 0 < room_for self.old.room job.parent }

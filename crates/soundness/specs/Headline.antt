@@ -79,7 +79,7 @@ HasBound plan p None = IsTrue (needs_no_bound (pool_at plan p))
 HasBound plan p (Some bound) = IsTrue (vector_fits plan (bound_vector bound)) × AllHold (bound_rows plan p bound) × RejectedAreLight plan (bound_vector bound)
 
 -- in the state, no submit was refused, no pool has more threads than its maximum, and no bounded queue has more jobs than its
--- capacity. If the capacity is 0, the queue has no more jobs than its pool has idle workers.
+-- capacity. If the capacity is 0, the queue has at most as many jobs as its pool has idle workers.
 pub record KeepsSizes (plan : Plan) (s : State) : Type 0 where
   pub none_refused : s.refusals ≡ 0
   pub within_max : (p : ℕ) → p < length plan.pools → threads plan s p ≤ (pool_at plan p).max

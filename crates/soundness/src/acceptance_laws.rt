@@ -34,8 +34,8 @@ ghost use Rattle.soundness.specs.Headline.{AcceptedBoundsNeverReject, AcceptedBo
 /// - No set of unfinished jobs waits only for its own members. Gets that a member reaches only later
 ///   count too.
 /// - No pool has more threads than its maximum.
-/// - No bounded queue has more jobs than its capacity. If the capacity is 0, the queue has no more
-///   jobs than its pool has idle workers.
+/// - No bounded queue has more jobs than its capacity. If the capacity is 0, the queue has at most as
+///   many jobs as its pool has idle workers.
 pub fn accepted_plans_are_safe()
     ensures { AcceptedPlansAreSafe }
 {}
@@ -72,8 +72,8 @@ pub fn accepted_plans_drain()
 ///
 /// - No submit was refused.
 /// - No pool has more threads than its maximum.
-/// - No bounded queue has more jobs than its capacity. If the capacity is 0, the queue has no more
-///   jobs than its pool has idle workers.
+/// - No bounded queue has more jobs than its capacity. If the capacity is 0, the queue has at most as
+///   many jobs as its pool has idle workers.
 pub fn bounded_plans_refuse_nothing()
     ensures { BoundedPlansRefuseNothing }
 {}
