@@ -75,7 +75,7 @@ impl From<AllocError> for SearchFault {
 ///
 /// # Errors
 ///
-/// Returns [`SearchFault::Memory`] if memory runs out or a thread cannot be started,
+/// Returns [`SearchFault::Memory`] if memory runs out or a thread cannot be started. Returns
 /// [`SearchFault::Gate`] if the gate returns `false` for a pool, and [`SearchFault::Mixed`] if the
 /// results of the workers are inconsistent.
 pub fn search<R: Threads + Wait + Sync, G: PoolGate>(

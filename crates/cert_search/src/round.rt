@@ -2,9 +2,9 @@
 //! rank:
 //!
 //! - The bound of the pool's queue.
-//! - The blocked vector, which bounds the number of the pool's jobs that wait at *counted* gets. In
-//!   a round, a get of such a pool is counted if the job that it waits for has a class whose reach
-//!   is at least the rank of the round (see the field `reach` of [`Round`]).
+//! - The blocked vector, which bounds the number of the pool's jobs that wait at *counted* gets. A
+//!   get of such a job is counted in a round if it waits for a job of a class whose reach is at
+//!   least the round's rank. The field `reach` of [`Round`] defines the reach.
 
 ghost use Rattle.std.specs.Prelude.{◌≡◌, ◌≢◌, ◌<◌, ◌≤◌, IfErr, IfOk, length};
 ghost use Rattle.cert_search.specs.declared.finding.SearchFault.TheVariants.{Memory, Mixed};
@@ -48,7 +48,7 @@ pub(crate) struct PoolVectors {
 impl Round<'_> {
     /// Searches for the pool's blocked vector and, in the first round, for the pool's bound. Skips
     /// the search for the blocked vector if the pool's jobs have the same counted gets as in the
-    /// previous round, because that round found no vector for these gets.
+    /// previous round. That round found no vector for these gets.
     ///
     /// # Errors
     ///

@@ -1,4 +1,5 @@
--- The abstract view of the clients of a world, and its representation by the clients that moved and the numbers of clients of each kind.
+-- The abstract view of the clients of a world, and its representation by the clients that moved and the numbers of clients of
+-- each kind.
 use Rattle.std.specs.Prelude.{◌≡◌, ℕ, ◌+◌, ◌-◌, ◌<◌, ◌≤◌, List, [], ◌∷◌, ◌++◌, length, replicate, slice_index_or, Option, Some, None}
 use Rattle.job_bodies.specs.Plan.{Client}
 use Rattle.written_machine.specs.declared.client_state.ClientState.{ClientState}

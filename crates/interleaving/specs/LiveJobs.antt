@@ -62,8 +62,8 @@ pub record IsLatest (jobs : List (Option JobView)) (a : Parent) (t k : ℕ) : Ty
   pub passes : is_live_child a t (live_job jobs k) ≡ true
   pub none_later : (i : ℕ) → k < i → is_live_child a t (live_job jobs i) ≡ false
 
--- every job in the index is the latest live job of its submit, and the index has the latest live job of each submit whose actor may still
--- get its jobs
+-- Every job in the index is the latest live job of its submit. If the actor of a submit may still get jobs, the index has the
+-- latest live job of this submit.
 pub record AreFound (jobs : List (Option JobView)) (latest : LatestJobsView) : Type 0 where
   pub sound : (a : Parent) (t k : ℕ) → found latest a t ≡ Some k → IsLatest jobs a t k
   pub complete : (a : Parent) (t k : ℕ) → may_get_in jobs a ≡ true → IsLatest jobs a t k → found latest a t ≡ Some k

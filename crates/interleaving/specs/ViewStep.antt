@@ -1,5 +1,5 @@
--- The transition function on live views. From the live view of a reachable state, it gives the same outcome as the machine, and the live
--- view of the state after the event: jobs that are not live do not influence later events.
+-- The transition function on live views. From the live view of a reachable state, it gives the same outcome as the machine, and
+-- the live view of the state after the event: jobs that are not live do not influence later events.
 use Rattle.std.specs.Prelude.{ℕ, ◌+◌, ◌&&◌, ◌==◌, not, Bool, true, false, List, [], ◌∷◌, ◌++◌, length, map, Option, Some, None, slice_get, slice_set, slice_index_or, if◌then◌else◌}
 use Rattle.std.specs.Option.{option_map}
 use Rattle.support.specs.Places.{places_where, last_of}

@@ -22,9 +22,9 @@ const SPARE_NUMBERS: usize = 16;
 /// The entries with numbers from `base` up are in a ring buffer, in which a look-up is an index
 /// operation. The live jobs with lower numbers are in a map.
 ///
-/// If the ring is too long for the number of live jobs, its first job moves into the map, and the
-/// ring then begins at the next live job. So a job that stays live for long does not keep the gaps
-/// after it in memory.
+/// If the ring is too long for the number of live jobs, its first job moves into the map. The ring
+/// then begins at the next live job. So a job that stays live for long does not keep the gaps after
+/// it in memory.
 #[derive(Drop)]
 pub(crate) struct JobRing {
     // The number of the first entry of `recent`.

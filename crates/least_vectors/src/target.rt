@@ -79,8 +79,8 @@ impl<'a> Target<'a> {
         }
     }
 
-    /// Creates the target of a blocked vector of pool `number` with a total of at most `limit`, for
-    /// this rank of the pool and these reaches of the classes.
+    /// Creates the target of a blocked vector of pool `number` with a total of at most `limit`.
+    /// `rank` is the rank of the pool, and `reach` has the reach of each class.
     pub(crate) fn blocked(number: usize, limit: u64, reach: &'a [u64], rank: u64) -> Target<'a> {
         Target {
             pool: number,

@@ -1,8 +1,9 @@
 //! The two vectors that a certificate can have for each pool:
 //!
-//! - The *bound* of the queue. It is a *standing vector*, which bounds the number of queued jobs of
-//!   the pool, or a *lifetime vector*, which bounds the number of all jobs that are ever submitted
-//!   to it. A pool that may reject jobs or has an unbounded queue needs no bound, but can have one.
+//! - The *bound* of the queue. It is one of two kinds. A *standing vector* bounds the number of
+//!   queued jobs of the pool. A *lifetime vector* bounds the number of all jobs that are ever
+//!   submitted to the pool. A pool that may reject jobs or has an unbounded queue needs no bound,
+//!   but can have one.
 //! - The *blocked vector*. It bounds the number of the pool's jobs that wait at gets of classes
 //!   whose reach is at least the rank of the pool.
 //!

@@ -1,5 +1,5 @@
--- The number of jobs of a pool that are at a counted get or before one, and the theorem that no set of unfinished jobs waits only
--- for its own members.
+-- The number of jobs of a pool that are at a counted get or before one. From it follows the theorem that no set of unfinished
+-- jobs waits only for its own members.
 use Rattle.std.specs.Prelude.{◌<◌, ◌≤◌, ◌==◌, ◌+◌, ◌-◌, ◌&&◌, ◌||◌, ℕ, zero, suc, Bool, false, List, length, count_by}
 use Rattle.job_bodies.specs.Plan.{Plan, pool_at, class_at, least_threads}
 use Rattle.job_bodies.specs.WellFormed.{IsWellFormed}

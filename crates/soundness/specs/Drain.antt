@@ -31,8 +31,8 @@ full_within plan (suc n) k = length (class_at plan k).body + 2 + sum_by (of_subm
 abbrev pub full : Plan → Ranks → ℕ → ℕ
 full plan ranks k = full_within plan (level ranks k + 1) k
 
--- if the rows of the ranks hold, the work of a new job of class k is one event for each action, one for its take and one for
--- its end, plus the work of the jobs that it submits
+-- Let the rows of the ranks hold. Then the work of a new job of class k is one event for each action, one for its take and one
+-- for its end. The work of the jobs that it submits is added.
 abbrev pub FullIsWhole : Type 0
 FullIsWhole = (plan : Plan) (ranks : Ranks) (k : ℕ) → AllHold (rank_rows plan ranks) → full plan ranks k ≡ length (class_at plan k).body + 2 + sum_by (of_submit (full plan ranks)) (class_at plan k).body
 

@@ -32,8 +32,8 @@ both_alike s _ _ = false
 abbrev pub can_exchange : State → Parent → ℕ → ℕ → Bool
 can_exchange s a t u = both_alike s (child s a t) (child s a u)
 
--- the effect of an exchange of positions t and u of actor a, from state s to state s'. In s', a get of the submit at t finds
--- the job that a get of the submit at u finds in s, and the other way round. Every other get finds the same job in both states.
+-- the effect of an exchange of positions t and u of actor a, from state s to state s'. The gets of the submits at t and u swap
+-- their jobs: each of them finds in s' the job that the other finds in s. Every other get finds the same job in both states.
 -- Each job has the same class, creator and stage in both states.
 pub record AreExchanged (s : State) (a : Parent) (t u : ℕ) (s' : State) : Type 0 where
   pub first : child s' a t ≡ child s a u

@@ -134,8 +134,8 @@ offers_job plan s a i k =
     if nat_lt (length (pool_part s.machine (pool_of plan k)).queue) (room_limit (pool_at plan (pool_of plan k)).unbounded (pool_at plan (pool_of plan k)).queue (pool_part s.machine (pool_of plan k)).idle (length (pool_part s.machine (pool_of plan k)).queue)) then answers plan s a i k Queued
     else offer_fails plan s a k
 
--- the state after the third step: if the pool has fewer than max threads, a new thread runs the job. Otherwise the job is refused or, if
--- the pool may reject jobs, the submit is skipped. This step does not check the queue, which may have room again
+-- the state after the third step: if the pool has fewer than max threads, a new thread runs the job. Otherwise the job is
+-- refused or, if the pool may reject jobs, the submit is skipped. This step does not check the queue, which may have room again
 abbrev pub requests_thread : Plan → JavaState → Parent → ℕ → ℕ → JavaState
 requests_thread plan s a i k = answers plan s a i k (if nat_lt (threads plan s.machine (pool_of plan k)) (pool_at plan (pool_of plan k)).max then Started else Refused)
 

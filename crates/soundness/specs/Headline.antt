@@ -31,8 +31,8 @@ bound_of cert p = (pool_cert_at cert p).bound
 abbrev pub BoundedPoolsNeverReject : Plan → (ℕ → Option Bound) → Type 0
 BoundedPoolsNeverReject plan bounds = (events : List Event) (s s' : State) (event : Event) (p j : ℕ) → Reaches plan events s → step plan s event ≡ Some (s', Rejected p j) → bounds p ≡ None
 
--- in every state that a list of choices (`Choice`) reaches, a pool has no bound if an actor's call requests a thread of it
--- while it has its maximum of threads. In this case the pool refuses or rejects the job.
+-- a pool that declines a job has no bound, in every state that a list of choices (`Choice`) reaches. A pool declines a job if
+-- an actor's call requests a thread of it while it has its maximum of threads. The job is then refused or rejected.
 abbrev pub BoundedPoolsNeverDecline : Plan → (ℕ → Option Bound) → Type 0
 BoundedPoolsNeverDecline plan bounds = (choices : List Choice) (s : JavaState) (event : Event) (x : Submission) → ChoicesReach plan choices s → submission plan s.machine event ≡ Some x
     → IsTrue (is_calling s.requesting x.actor (pool_of plan x.class)) → (pool_at plan (pool_of plan x.class)).max ≤ threads plan s.machine (pool_of plan x.class) → bounds (pool_of plan x.class) ≡ None
@@ -100,13 +100,14 @@ BoundedPlansRefuseNothing = (plan : Plan) (bounds : ℕ → Option Bound) → Is
 abbrev pub AcceptedPlansAreJavaSafe : Type 0
 AcceptedPlansAreJavaSafe = (plan : Plan) (cert : Cert) → IsWellFormed plan → IsTrue (accepted plan cert) → JavaSafe plan
 
--- if a certificate accepts a well-formed plan, an event of a job, a take or a look at a pool is possible in every state with an
--- unfinished job that is reachable in Java's steps
+-- Let a certificate accept a well-formed plan, and let a state with an unfinished job be reachable in Java's steps. Then an
+-- event of a job, a take or a look at a pool is possible in this state.
 abbrev pub AcceptedPlansMakeJavaProgress : Type 0
 AcceptedPlansMakeJavaProgress = (plan : Plan) (cert : Cert) → IsWellFormed plan → IsTrue (accepted plan cert) → JavaMakesProgress plan
 
--- if a certificate accepts a well-formed plan, the plan drains in Java's steps: if no client acts, the number of job events and
--- takes that can follow is bounded, and when neither they nor a look at a pool is possible, no job is unfinished
+-- Let a certificate accept a well-formed plan, and let no client act after a state that is reachable in Java's steps. Then the
+-- number of job events and takes that can follow is bounded. When no job event, no take and no look at a pool is possible, no
+-- job is unfinished.
 abbrev pub AcceptedPlansJavaDrain : Type 0
 AcceptedPlansJavaDrain = (plan : Plan) (cert : Cert) → IsWellFormed plan → IsTrue (accepted plan cert) → JavaDrains plan cert.ranks
 
@@ -131,8 +132,8 @@ StandingPoolsAreNotAsked = (plan : Plan) (bounds : ℕ → Option Bound) (p : �
 abbrev pub AcceptedPlansMaySkip : Type 0
 AcceptedPlansMaySkip = (plan : Plan) (cert : Cert) → IsWellFormed plan → IsTrue (accepted plan cert) → SkippingIsSafe plan
 
--- Let a certificate accept a well-formed plan. Then an event of a job, a take or a look at a pool is possible in every state
--- with an unfinished job that a list of choices (`Choice`) reaches.
+-- Let a certificate accept a well-formed plan, and let a list of choices (`Choice`) reach a state with an unfinished job. Then
+-- an event of a job, a take or a look at a pool is possible in this state.
 abbrev pub AcceptedPlansMakeProgressWithSkips : Type 0
 AcceptedPlansMakeProgressWithSkips = (plan : Plan) (cert : Cert) → IsWellFormed plan → IsTrue (accepted plan cert) → SkippingMakesProgress plan
 

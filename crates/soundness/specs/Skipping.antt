@@ -1,6 +1,6 @@
--- Actors that skip submits of their bodies together with the gets of these submits, as with an `if` around both, and that get
--- jobs of one class in another order than their bodies. An actor decides anew each time which submits to skip and in which order
--- to get its jobs.
+-- Actors that skip submits of their bodies and change the order of their gets. An actor skips a submit together with its get,
+-- as with an `if` around both. It can get its jobs of one class in another order than its body says. An actor decides anew each
+-- time which submits to skip and in which order to get its jobs.
 use Rattle.std.specs.Prelude.{◌≡◌, ◌≤◌, ◌<◌, ◌+◌, ◌*◌, ◌||◌, ◌&&◌, ◌==◌, if◌then◌else◌, ℕ, Bool, true, false, IsTrue, IsFalse, List, [], ◌∷◌, length, Option, Some, None, slice_get, count_by, not}
 use Rattle.std.specs.List.{list_all}
 use Rattle.job_bodies.specs.declared.action.Action.{Action}
@@ -90,8 +90,8 @@ ChoicesReach plan choices s = choices_replay plan (Some (without_calls (start pl
 abbrev pub SkippingIsSafe : Plan → Type 0
 SkippingIsSafe plan = (choices : List Choice) (s : JavaState) → ChoicesReach plan choices s → IsJavaSafe plan s
 
--- in every state with an unfinished job that choices reach, an event of a job, a take or a look at a pool is possible without a skip or an
--- exchange
+-- in every state that choices reach, an event of a job, a take or a look at a pool is possible if a job is unfinished; no skip
+-- and no exchange is needed for it
 abbrev pub SkippingMakesProgress : Plan → Type 0
 SkippingMakesProgress plan = (choices : List Choice) (s : JavaState) → ChoicesReach plan choices s → (j : ℕ) → IsTrue (is_unfinished (job_at s.machine j).stage) → JavaCanProgress plan s
 
@@ -122,16 +122,18 @@ pub record ChoicesLeadTo (plan : Plan) (s : JavaState) (choices : List Choice) (
   pub of_no_client : IsTrue (list_all no_client_acts choices)
   pub replayed : choices_replay plan (Some s) choices ≡ Some s'
 
--- Let no client act after a state that choices reach. Then the number of the job events, takes, skips by jobs and missed offers by jobs
--- that follow is at most three times the remaining work of that state. When no job event, no take and no look at a pool is possible any
--- longer, no job is unfinished. In between, threads may end, as far as the pools allow it, and jobs may be exchanged.
+-- Let no client act after a state that choices reach. Then the number of the job events, takes, skips by jobs and missed offers
+-- by jobs that follow is bounded: it is at most three times the remaining work of that state. When no job event, no take and no
+-- look at a pool is possible any longer, no job is unfinished. In between, threads may end, as far as the pools allow it, and
+-- jobs may be exchanged.
 pub record SkippingDrains (plan : Plan) (ranks : Ranks) : Type 0 where
   pub bounded : (s s' : JavaState) (choices : List Choice) → ChoicesLeadTo plan s choices s' → count_by is_of_jobs choices ≤ 3 * todo plan ranks s.machine
   pub drained : (s s' : JavaState) (choices : List Choice) → ChoicesLeadTo plan s choices s' → IsJavaQuiescent plan s' → (j : ℕ) → IsFalse (is_unfinished (job_at s'.machine j).stage)
 
 -- ---- laws
 
--- if the rows of a vector and of the ranks hold, a done job of a class weighs at most as much as a queued job of that class
+-- Let the rows of a vector and of the ranks hold. Then a done job of a class weighs at most as much as a queued job of that
+-- class.
 abbrev pub DoneWithinQueued : Type 0
 DoneWithinQueued = (get_return : GetReturn) (plan : Plan) (v : Vector) (ranks : Ranks) (k : ℕ) → IsWellFormed plan → AllHold (rank_rows plan ranks) → AllHold (rows get_return plan v) → k < length plan.classes → done_weight plan v k ≤ queued_weight v k
 

@@ -50,8 +50,8 @@ pub fn accepted_plans_make_progress()
 /// after some reachable state. Then these facts hold:
 ///
 /// - The number of job events and takes that follow is at most the remaining work of the jobs in
-///   that state. The remaining work of a job is the number of job events and takes that are left
-///   until the job and all jobs that it will submit are done.
+///   that state. The remaining work of a job is the number of job events and takes that are still
+///   needed to finish the job and all jobs that it will submit.
 /// - When no job event and no take is possible any longer, no job is unfinished.
 ///
 /// Idle threads may end in between, as far as their pools allow it.
@@ -78,9 +78,9 @@ pub fn bounded_plans_refuse_nothing()
     ensures { BoundedPlansRefuseNothing }
 {}
 
-/// Proves that accepted plans are safe in Java's steps. If a certificate accepts a well-formed
-/// plan, every reachable state is safe, even if a submit takes the separate steps of Java's
-/// `execute` with other events between them.
+/// Proves that accepted plans are safe in Java's steps. Let a certificate accept a well-formed
+/// plan, and let a submit take the separate steps of Java's `execute`, with other events between
+/// them. Then every reachable state is safe.
 ///
 /// At some moments, Java still has to look at a pool whose core threads may time out, and may then
 /// start a thread there. Before that look, the jobs in the queue of this pool do not count as

@@ -8,8 +8,9 @@ ghost use Rattle.soundness.specs.CountedGets.{FewerThanCoreMayBlock, NoLooseWait
 ghost use Rattle.soundness.specs.Drain.{FullIsWhole, FullIsOfThePlan};
 
 /// Proves a limit on the jobs of a pool that can be blocked. A job can be blocked if it runs, and
-/// its current action or a later action is a counted get. If the rows of the ranks and of the
-/// pool's blocked vector hold, the number of these jobs has two limits in every reachable state:
+/// its current action or a later action is a counted get, which can block a thread that other jobs
+/// need. Let the rows (the conditions) of the ranks and of the pool's blocked vector hold. Then the
+/// number of these jobs has two limits in every reachable state:
 ///
 /// - It is at most the vector's total.
 /// - It is less than the pool's core size. If core threads may time out, it is 0.
@@ -22,8 +23,7 @@ pub fn fewer_than_core_may_block()
 /// jobs waits only for its own members.
 ///
 /// The law also covers jobs that have not yet reached their get. A running member already counts as
-/// waiting for another member if it created this other member, and its body still has a get of a
-/// job of the other member's class.
+/// waiting for a member that it created, if its body still has a get of a job of the same class.
 pub fn no_loose_waiting_sets()
     ensures { NoLooseWaitingSets }
 {}

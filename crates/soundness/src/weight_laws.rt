@@ -24,9 +24,9 @@ pub fn sum_stays_within_total()
     ensures { SumStaysWithinTotal }
 {}
 
-/// States that a pool refuses and rejects no job in any reachable state, if a standing or a
-/// lifetime vector of the pool satisfies its rows (the conditions). In this vector, a rejected job
-/// must weigh at most as much as a queued job. Nothing is assumed about the other pools.
+/// States that a pool refuses and rejects no job in any reachable state. A standing or a lifetime
+/// vector of the pool must satisfy its rows (the conditions). In this vector, a rejected job must
+/// weigh at most as much as a queued job. Nothing is assumed about the other pools.
 pub fn bounds_refuse_nothing()
     ensures { BoundsRefuseNothing }
 {}

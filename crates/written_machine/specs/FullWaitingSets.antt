@@ -42,8 +42,8 @@ abbrev pub FullWaitingSetsStay : Type 0
 FullWaitingSetsStay = (plan : Plan) (s s' : State) (events : List Event) (members : List ℕ) → IsWellFormed plan → IsReached plan s → IsFullWaitingSet plan s members
     → replay plan (Some s) events ≡ Some s' → StaysFull plan s s' members
 
--- if `IsFixed` holds for each pool with a queued member of a waiting set, the set is full, and each of these pools has its
--- maximum of threads
+-- Let `IsFixed` hold for each pool with a queued member of a waiting set. Then the set is full, and each of these pools has its
+-- maximum of threads.
 abbrev pub FixedPoolsAreFull : Type 0
 FixedPoolsAreFull = (plan : Plan) (s : State) (members : List ℕ) → IsWellFormed plan → IsReached plan s → IsWaitingSet plan s members
     → WhereMembersQueue plan s members (IsFixed plan) → IsFullWaitingSet plan s members × WhereMembersQueue plan s members (HasMaxThreads plan s)

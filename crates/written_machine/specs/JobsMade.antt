@@ -17,7 +17,8 @@ is_of_pool plan p job = pool_of plan job.class == p
 abbrev pub jobs_made : Plan → State → ℕ → ℕ
 jobs_made plan s p = count_by (is_of_pool plan p) s.jobs
 
--- the number of threads and queued jobs of pool p is at most the number of jobs that were created for it, plus its prestarted threads
+-- the number of threads and queued jobs of pool p is at most the number of jobs that were created for it, plus its prestarted
+-- threads
 abbrev pub HasJobs : Plan → State → ℕ → Type 0
 HasJobs plan s p = threads plan s p + length (pool_part s p).queue ≤ jobs_made plan s p + first_workers (pool_at plan p)
 

@@ -24,8 +24,8 @@ pub fn pools_keep_their_sizes()
 
 /// Proves that a pool with a queued job always has threads. In every reachable state of a
 /// well-formed plan, it has at least core threads, or at least one thread if its core threads may
-/// time out. The reason is that a pool queues a job only if it has at least core threads, and that
-/// its last threads do not end while jobs are queued.
+/// time out. The reason is that a pool queues a job only if it has at least core threads. Its last
+/// threads do not end while jobs are queued.
 pub fn queues_have_threads()
     ensures { QueuesHaveThreads }
 {}
