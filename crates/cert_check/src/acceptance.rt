@@ -106,7 +106,7 @@ fn has_valid_standing_vectors(plan: &Plan, cert: &Cert) -> bool
     true
 }
 
-/// Returns whether the pool must not reject jobs, its bound is a standing vector, and all
+/// Returns `true` if the pool must not reject jobs, its bound is a standing vector, and all
 /// conditions of this vector hold.
 fn is_valid_standing_vector(plan: &Plan, pool: usize, bound: &Option<Bound>) -> bool
     requires fits { IsTrue (bound_fits plan.now pool bound.now) }

@@ -1,5 +1,5 @@
--- Certificates in canonical form, the form that is written. Each part is parsed at the start of a text, and the rest of the
--- text remains.
+-- Certificates in canonical form, which is the form that `write_cert` writes. The text of a part is the start of a longer text,
+-- and the other parts follow it.
 use Rattle.std.specs.Prelude.{◌≡◌, ℕ, ◌≤◌, true, List, [], ◌++◌, length, slice_get, Option, Some, None, codes, decimal, IsTrue}
 use Rattle.std.specs.List.{list_all}
 use Rattle.json.specs.Word.{is_space}

@@ -25,7 +25,7 @@ line_seen (code.Stuck members) = Stuck members
 unfoldable pub pool_named : Plan → List ℕ → Option ℕ
 pool_named plan name = position (λ pool. bytes_eq pool.name name) plan.pools
 
--- the event of a line with this verb, given the text after the verb and its space; None if the line is not an event
+-- the event of a line that consists of this verb, a space and this text; None if the line is not an event
 unfoldable pub event_of : Plan → List ℕ → List ℕ → Option Event
 event_of plan verb rest =
     if bytes_eq verb (codes "client") then option_map (λ n. event.Client n) (number_of rest)
@@ -38,7 +38,7 @@ event_of plan verb rest =
 unfoldable pub stuck_of : List ℕ → Option Line
 stuck_of rest = option_map Stuck (members_in rest)
 
--- the content of a line with this verb, given the text after the verb and its space; None if the line is malformed
+-- the content of a line that consists of this verb, a space and this text; None if the line is malformed
 unfoldable pub line_of_verb : Plan → List ℕ → List ℕ → Option Line
 line_of_verb plan verb rest =
     if bytes_eq verb (codes "stuck") then stuck_of rest else option_map Perform (event_of plan verb rest)

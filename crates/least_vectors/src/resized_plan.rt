@@ -70,8 +70,8 @@ impl ResizedPlan<'_> {
     /// finds no such vector, returns the summary of the vector with the smallest total that it
     /// found.
     ///
-    /// Returns `None` if a number of that vector would be above `MAX_WEIGHT`, or if a repeating
-    /// client would need more weight in each repetition.
+    /// Returns `None` if the search finds no vector at all, because a number would be above
+    /// `MAX_WEIGHT` or a repeating client would need more weight in each repetition.
     ///
     /// # Errors
     ///

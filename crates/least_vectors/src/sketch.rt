@@ -24,8 +24,8 @@ pub(crate) struct Sketch {
     /// The weight of a client of each kind at the start of its body.
     pub(crate) starts: Vec<u64>,
     /// For each pool, the largest weight that a job of the pool has at any position of its body.
-    /// The weight is computed as if this job weighed as little as possible when it is done. Classes
-    /// that are never submitted are ignored.
+    /// The job is assumed to weigh as little as possible when it is done. Classes that are never
+    /// submitted are ignored.
     pub(crate) peaks: Vec<u64>,
     /// The total weight of all workers, if each pool has its maximum of workers.
     pub(crate) on_loan: u64,

@@ -31,8 +31,8 @@ abbrev pub may_block : Plan → Ranks → State → ℕ → ℕ
 may_block plan ranks s p = count_by (may_block_in plan ranks p) s.jobs
 
 -- Let the rows of the ranks and of a pool's blocked vector hold. Then in every reachable state, the number of jobs of this pool
--- that are at or before a counted get is at most the vector's total. It is also less than the pool's core size, or than 1 if
--- core threads may time out (`least_threads`).
+-- that are at or before a counted get is at most the vector's total. It is also less than `least_threads`: the pool's core
+-- size, or 1 if core threads may time out.
 abbrev pub FewerThanCoreMayBlock : Type 0
 FewerThanCoreMayBlock = (plan : Plan) (ranks : Ranks) (p : ℕ) (v : Vector) (s : State) → IsWellFormed plan → p < length plan.pools → AllHold (rank_rows plan ranks) → AllHold (blocked_rows plan p (is_counted plan ranks) v) → IsReached plan s
     → (may_block plan ranks s p ≤ total plan v) × (may_block plan ranks s p < least_threads (pool_at plan p))

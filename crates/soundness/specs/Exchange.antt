@@ -44,7 +44,7 @@ pub record AreExchanged (s : State) (a : Parent) (t u : ℕ) (s' : State) : Type
   pub creators : (j : ℕ) → (job_at s' j).parent ≡ (job_at s j).parent
   pub stages : (j : ℕ) → (job_at s' j).stage ≡ (job_at s j).stage
 
--- the law that an exchange swaps the jobs that gets of the two submits find, and changes nothing else on which a get or a pool
--- depends
+-- each exchange has the effect `AreExchanged`: the gets of the two submits swap their jobs, and nothing else changes on which a
+-- get or a pool depends
 abbrev pub ExchangesSwapTwoGets : Type 0
 ExchangesSwapTwoGets = (s : State) (a : Parent) (t u : ℕ) → AreExchanged s a t u (after_exchange a t u s)

@@ -67,8 +67,8 @@ AcceptedPlansAreSafe = (plan : Plan) (cert : Cert) → IsWellFormed plan → IsT
 abbrev pub AcceptedPlansMakeProgress : Type 0
 AcceptedPlansMakeProgress = (plan : Plan) (cert : Cert) → IsWellFormed plan → IsTrue (accepted plan cert) → MakesProgress plan
 
--- if a certificate accepts a well-formed plan, the plan drains: if no client acts, the number of job events and takes that can
--- follow is bounded, and when none of them is possible, no job is unfinished
+-- Let a certificate accept a well-formed plan, and let no client act after a reachable state. Then the number of job events and
+-- takes that can follow is bounded. When none of them is possible, no job is unfinished.
 abbrev pub AcceptedPlansDrain : Type 0
 AcceptedPlansDrain = (plan : Plan) (cert : Cert) → IsWellFormed plan → IsTrue (accepted plan cert) → Drains plan cert.ranks
 

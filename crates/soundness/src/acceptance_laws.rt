@@ -31,11 +31,11 @@ ghost use Rattle.soundness.specs.Headline.{AcceptedBoundsNeverReject, AcceptedBo
 /// state, these facts hold:
 ///
 /// - No submit was refused.
-/// - No set of unfinished jobs waits only for its own members. Gets that a member reaches only later
-///   count too.
+/// - No set of unfinished jobs waits only for its own members, either now or at later gets of its
+///   members.
 /// - No pool has more threads than its maximum.
-/// - No bounded queue has more jobs than its capacity. If the capacity is 0, the queue has at most as
-///   many jobs as its pool has idle workers.
+/// - No bounded queue has more jobs than its capacity. If the capacity is 0, the queue has at most
+///   as many jobs as its pool has idle workers.
 pub fn accepted_plans_are_safe()
     ensures { AcceptedPlansAreSafe }
 {}

@@ -15,7 +15,7 @@ pub fn done_within_queued()
 
 /// States what changes if an actor exchanges its jobs at two of its submits:
 ///
-/// - The get of each of the two submits finds the job that the get of the other submit found
+/// - The gets of the two submits swap their jobs: each get finds the job that the other found
 ///   before.
 /// - Every other get finds the same job as before.
 /// - Each job keeps its class, its creator and its stage.

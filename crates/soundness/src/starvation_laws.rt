@@ -28,8 +28,8 @@ pub fn no_loose_waiting_sets()
     ensures { NoLooseWaitingSets }
 {}
 
-/// States how many events a new job needs together with the jobs that it submits (its *work*), if
-/// the rows (the conditions) of the ranks hold. The work is the sum of these numbers:
+/// States the *work* of a new job, if the rows (the conditions) of the ranks hold. The work is the
+/// number of events of the job and of all jobs that it causes. It is the sum of these numbers:
 ///
 /// - One event for each action of the job's body.
 /// - One event for the take of the job from the queue, and one for its end.
