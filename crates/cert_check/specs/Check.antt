@@ -19,7 +19,7 @@ abbrev pub checked_plan : List ℕ → Result Plan PlanFault → Result Verdict 
 checked_plan cert_text (Err f) = Err (fault.Plan f)
 checked_plan cert_text (Ok plan) = checked_cert plan (cert_of cert_text plan)
 
--- the first fault of the plan; if there is none, the first fault of the certificate; if there is none either, the verdict
+-- the first fault of the plan or, if the plan has none, of the certificate; if neither has a fault, the verdict
 abbrev pub checked : List ℕ → List ℕ → Result Verdict CheckFault
 checked plan_text cert_text = checked_plan cert_text (plan_of plan_text)
 

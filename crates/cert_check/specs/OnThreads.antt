@@ -1,4 +1,4 @@
--- The results of the pools in a check on threads, and the texts whose plan has a pool.
+-- The results of the pools in a check on threads, and the pairs of texts whose plan has at least one pool.
 use Rattle.std.specs.Prelude.{◌≡◌, ◌<◌, ℕ, List, length, slice_index_or, Option, None, IfSome, Ok}
 use Rattle.job_bodies.specs.Plan.{Plan}
 use Rattle.plan_text.specs.PlanOf.{plan_of}

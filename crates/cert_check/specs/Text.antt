@@ -20,7 +20,8 @@ limit_text (Some limit) = decimal limit
 abbrev pub total_text : BoundTotal → List ℕ
 total_text bound = bound_words bound.lifetime ++ decimal bound.total ++ codes " of " ++ limit_text bound.limit
 
--- the text of a pool's bound; if it has none, `unbounded` if its queue is unbounded, and otherwise `may reject`
+-- the text of a pool's bound. For a pool without a bound, the text is `unbounded` if the queue is unbounded, and otherwise `may
+-- reject`. The flag says whether the queue is unbounded.
 abbrev pub bound_text : Bool → Option BoundTotal → List ℕ
 bound_text unbounded None = if unbounded then codes ": unbounded" else codes ": may reject"
 bound_text unbounded (Some bound) = total_text bound

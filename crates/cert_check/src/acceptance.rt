@@ -1,6 +1,6 @@
-//! The tests whether a certificate accepts a plan. A certificate has ranks and, for each pool, a
-//! blocked vector. It must have a *bound* (a standing or a lifetime vector) for each pool that must
-//! not reject jobs and whose queue is bounded, and can have one for any other pool.
+//! Tests of whether a certificate accepts a plan. A certificate has ranks and, for each pool, a
+//! blocked vector. It can also have a *bound* for a pool, which is a standing or a lifetime vector.
+//! A pool needs a bound if it must not reject jobs and its queue is bounded.
 
 ghost use Rattle.std.specs.Prelude.{◌≡◌, ◌<◌, ◌&&◌, not, IsTrue, length};
 ghost use Rattle.std.specs.List.{list_all, enumerate_from};
@@ -106,7 +106,7 @@ fn has_valid_standing_vectors(plan: &Plan, cert: &Cert) -> bool
     true
 }
 
-/// Returns whether the pool must not reject jobs, its bound is a standing vector, and all
+/// Returns `true` if the pool must not reject jobs, its bound is a standing vector, and all
 /// conditions of this vector hold.
 fn is_valid_standing_vector(plan: &Plan, pool: usize, bound: &Option<Bound>) -> bool
     requires fits { IsTrue (bound_fits plan.now pool bound.now) }

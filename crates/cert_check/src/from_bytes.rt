@@ -40,12 +40,11 @@ impl From<AllocError> for CheckFault {
 /// - No submit was refused. A pool that may reject jobs can have rejected jobs, but a rejection is
 ///   not a refusal.
 /// - No pool has more threads than its maximum.
-/// - A bounded queue has at most as many jobs as its capacity or, if the capacity is 0, as many as
-///   its pool has idle workers.
+/// - No bounded queue has more jobs than its capacity. If the capacity is 0, the queue has at most
+///   as many jobs as its pool has idle workers.
 /// - No unfinished jobs wait only for each other.
 /// - If a job is unfinished, a job can perform a step, or a worker can take a job from a queue.
-/// - If the clients stop, all jobs finish after a bounded number of these steps of jobs and takes
-///   from queues.
+/// - If the clients stop, all jobs finish after a bounded number of these steps and takes.
 ///
 /// # Errors
 ///

@@ -10,13 +10,14 @@ use job_bodies::Plan;
 use std::alloc::AllocError;
 
 /// Appends the text of a verdict on the plan: `yes` or `no`, and then a line for each pool, such as
-/// `pool pages: standing 2 of 2, blocked 0 of 0`. In two cases, the line has another text in place
-/// of `standing 2 of 2`:
+/// `pool pages: standing 2 of 2, blocked 0 of 0`. The part about the bound of the pool, here
+/// `standing 2 of 2`, has one of these forms:
 ///
-/// - If the certificate has no bound for the pool, the text is `unbounded` for an unbounded queue,
-///   and `may reject` for any other queue.
-/// - If the certificate has a bound for a pool with an unbounded queue, the text is, for example,
-///   `standing 2 of unbounded`.
+/// - `standing 2 of 2` or `lifetime 2 of 2`: the kind of the vector, its total, and the limit of
+///   the total.
+/// - `standing 2 of unbounded`: the queue is unbounded, so the total has no limit.
+/// - `unbounded`: the certificate has no bound for the pool, and its queue is unbounded.
+/// - `may reject`: the certificate has no bound for the pool, and its queue is bounded.
 ///
 /// # Errors
 ///

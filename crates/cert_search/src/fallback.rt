@@ -1,7 +1,9 @@
-//! The steady certificate, which the search tries if the rounds find no certificate. It has one
-//! vector, which is the blocked vector of every pool whose core threads never time out and the bound
-//! of each pool that needs one. The other blocked vectors are 0. A pool that may reject jobs or has
-//! an unbounded queue has no bound in it.
+//! The steady certificate, which the search tries if the rounds find no certificate. All its
+//! vectors come from one vector:
+//!
+//! - The blocked vector of a pool is this vector, or 0 if core threads of the pool may time out.
+//! - The bound of a pool that needs one is also this vector. A pool that may reject jobs or has an
+//!   unbounded queue has no bound.
 
 ghost use Rattle.std.specs.Prelude.{◌≡◌, false, IfOk, IfSome, IfNone, IsTrue};
 ghost use Rattle.job_bodies.specs.WellFormed.{IsWellFormed};
@@ -15,11 +17,11 @@ use job_bodies::Plan;
 use size_search::{cause_of, steady};
 use std::alloc::{AllocError, Global};
 
-/// Returns the plan's steady certificate if it accepts the plan with its declared sizes. Returns
-/// `None` if it does not, and in these cases:
+/// Returns the plan's steady certificate if it accepts the plan with its declared sizes, and `None`
+/// otherwise. Also returns `None` in these cases:
 ///
 /// - The steady certificate has a weight above `MAX_WEIGHT`.
-/// - There is a reason why no certificate accepts the plan with any sizes (a *cause*).
+/// - There is a *cause*: a reason why no certificate accepts the plan, whatever its sizes are.
 pub(crate) fn steady_if_accepted(alloc: Global, plan: &Plan) -> Result<Option<Cert>, AllocError>
     ensures accepted { IfOk result
         (λ found. IfSome found (λ cert. IsTrue (accepted plan.now cert))) }

@@ -51,28 +51,31 @@ impl From<AllocError> for SearchFault {
 /// plan can still be safe.
 ///
 /// The search works in rounds, each with at most `workers` workers, a number from 1 to 64. In each
-/// round, the workers search for the vectors of the pools without a rank. A pool whose blocked
-/// vector is found gets the round's number as its rank. After the round, a get is not counted if
-/// its job only depends on pools with a rank. A job depends on its own pool, and on the pools of
-/// all jobs for which it waits, directly or through other jobs.
+/// round, the workers search for the vectors of the pools that have no rank yet. A pool whose
+/// blocked vector is found gets the round's number as its rank.
 ///
-/// If the jobs of a pool have the same counted gets as in the previous round, the search for the
-/// pool's blocked vector is skipped, because the previous round found no vector for these gets.
+/// A blocked vector bounds the number of jobs that wait at *counted* gets. In the first round, all
+/// gets are counted. After each round, a get is no longer counted if the job that it waits for
+/// depends only on pools with a rank. A job depends on its own pool, and on the pools of all jobs
+/// for which it waits, directly or through other jobs.
+///
+/// If a pool has the same counted gets as in the previous round, the search for its blocked vector
+/// is skipped. The previous round found no vector for these gets.
 ///
 /// If the rounds find no certificate that accepts the plan, the search tries the plan's steady
 /// certificate, whose numbers do not depend on the sizes. If the steady certificate accepts the
 /// plan with its declared sizes, the result is never `None`.
 ///
 /// A pool needs no bound if it may reject jobs or its queue is unbounded. If the rounds find a
-/// bound of such a pool, their certificate contains it. A pool that may reject jobs never rejects a
-/// job if the certificate contains a bound of the pool. For a pool with an unbounded queue, the
-/// rounds search for a standing vector of any total.
+/// bound of such a pool, their certificate contains it. With a bound, a pool never rejects a job,
+/// even if it may reject jobs. For a pool with an unbounded queue, the rounds search for a standing
+/// vector of any total.
 ///
 /// Tests check that the result does not depend on the number of workers. This is not proved.
 ///
 /// # Errors
 ///
-/// Returns [`SearchFault::Memory`] if memory runs out or a thread cannot be started,
+/// Returns [`SearchFault::Memory`] if memory runs out or a thread cannot be started. Returns
 /// [`SearchFault::Gate`] if the gate returns `false` for a pool, and [`SearchFault::Mixed`] if the
 /// results of the workers are inconsistent.
 pub fn search<R: Threads + Wait + Sync, G: PoolGate>(

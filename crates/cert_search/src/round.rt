@@ -1,7 +1,10 @@
-//! One round of the search, in which the workers search for the vectors of the pools: the bound of
-//! a pool's queue, and the blocked vector, which bounds the number of the pool's jobs that wait for
-//! other jobs. Consider a get by a job whose pool has no rank. In a round, this get is *counted* if
-//! it waits for a job of a class whose reach is at least the rank of the round.
+//! One round of the search, in which the workers search for the vectors of the pools without a
+//! rank:
+//!
+//! - The bound of the pool's queue.
+//! - The blocked vector, which bounds the number of the pool's jobs that wait at *counted* gets. A
+//!   get of such a job is counted in a round if it waits for a job of a class whose reach is at
+//!   least the round's rank. The field `reach` of [`Round`] defines the reach.
 
 ghost use Rattle.std.specs.Prelude.{◌≡◌, ◌≢◌, ◌<◌, ◌≤◌, IfErr, IfOk, length};
 ghost use Rattle.cert_search.specs.declared.finding.SearchFault.TheVariants.{Memory, Mixed};
@@ -22,9 +25,9 @@ use weights::{Bound, Vector, submitted_class};
 pub(crate) struct Round<'a> {
     pub(crate) plan: &'a Plan,
     pub(crate) levels: &'a Levels,
-    /// The reach of each class, computed as if each pool without a rank had the rank of this round.
-    /// The reach of a class is the greatest of these numbers: the rank of the class's pool, and the
-    /// reach of the class of each job that it gets.
+    /// The reach of each class: the greatest rank of the pools on which a job of the class depends.
+    /// These are its own pool, and the pools of all jobs that it gets, directly or through other
+    /// jobs. A pool without a rank counts as if it had the rank of this round.
     pub(crate) reach: &'a [u64],
     /// The value of `reach` in the previous round. It is empty in the first round.
     pub(crate) reach_before: &'a [u64],
@@ -45,7 +48,7 @@ pub(crate) struct PoolVectors {
 impl Round<'_> {
     /// Searches for the pool's blocked vector and, in the first round, for the pool's bound. Skips
     /// the search for the blocked vector if the pool's jobs have the same counted gets as in the
-    /// previous round, which found no vector for them.
+    /// previous round. That round found no vector for these gets.
     ///
     /// # Errors
     ///

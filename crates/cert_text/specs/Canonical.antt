@@ -1,4 +1,5 @@
--- Certificates in canonical form, the form that is written. Each part is parsed at the start of a text, and the rest of the text remains.
+-- Certificates in canonical form, which is the form that `write_cert` writes. The text of a part is the start of a longer text,
+-- and the other parts follow it.
 use Rattle.std.specs.Prelude.{◌≡◌, ℕ, ◌≤◌, true, List, [], ◌++◌, length, slice_get, Option, Some, None, codes, decimal, IsTrue}
 use Rattle.std.specs.List.{list_all}
 use Rattle.json.specs.Word.{is_space}
@@ -11,7 +12,7 @@ use Rattle.cert_text.specs.Cert.{Cert, cert_fits}
 use Rattle.job_bodies.specs.declared.limits.TheConstants.{MAX_CERT_BYTES}
 use Rattle.cert_text.specs.CertText.{vector_data, version_number, cert_text}
 
--- the text begins with the canonical form of the value, and `rest` is the text after it
+-- the text is the canonical form of the value, followed by `rest`
 abbrev pub BeginsAs : List ℕ → Data → List ℕ → Type 0
 BeginsAs text value rest = text ≡ compact_text value ++ rest
 

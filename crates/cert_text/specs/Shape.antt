@@ -26,8 +26,9 @@ lifetime_of plan value = vector_of plan value >>= λ vector. Ok (Some (Lifetime 
 unfoldable pub no_bound_of : Plan → ℕ → Result (Option Bound) CertFault
 no_bound_of plan p = ensure (needs_no_bound (pool_at plan p)) wrong_shape >>= λ _. Ok None
 
--- the bound of pool p from the value at the key `lifetime` or, if there is none, the value at the key `standing`; no bound if there is
--- neither
+-- the bound of pool p, given the values at the keys `lifetime` and `standing`. If there is a value at `lifetime`, the bound is
+-- a lifetime vector. Otherwise, if there is a value at `standing`, it is a standing vector. If there is neither, pool p has no
+-- bound.
 abbrev pub either_of : Plan → ℕ → Option Data → Option Data → Result (Option Bound) CertFault
 either_of plan p (Some value) standing = lifetime_of plan value
 either_of plan p None (Some value) = standing_of plan value

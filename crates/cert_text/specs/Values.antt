@@ -1,5 +1,5 @@
--- The JSON values in certificates: unsigned integers, lists of a known length, and objects with known keys. Any other value has the same
--- fault.
+-- The JSON values in certificates: unsigned integers, lists of a known length, and objects with known keys. The fault of any
+-- other value is `wrong_shape`.
 use Rattle.std.specs.Prelude.{ℕ, suc, ◌==◌, List, [], ◌∷◌, length, option_map, option_and_then, Option, Result, Ok}
 use Rattle.serde_json.specs.Data.{Data, Items, no_items, item, Members, no_members, member}
 use Rattle.serde_json.specs.Find.{get, as_number, as_u64, as_array, as_object}
@@ -18,7 +18,7 @@ wrong_shape = fault WRONG_SHAPE
 abbrev pub number_of : Data → Result ℕ CertFault
 number_of value = ok_or (option_and_then as_u64 (as_number value)) wrong_shape
 
--- the elements of the items of a list
+-- the elements of a JSON list, in order
 abbrev pub elements : Items → List Data
 elements no_items = []
 elements (item value rest) = value ∷ elements rest

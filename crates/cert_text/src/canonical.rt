@@ -1,7 +1,7 @@
 //! A fast parser of certificates in *canonical form*: exactly the form that
 //! [`write_cert`](crate::write_cert) writes. It builds no JSON tree. The part of a certificate for
-//! a pool has the blocked vector, which bounds the pool's jobs that wait for other jobs, and then
-//! the bound of the pool's queue. The bound can be absent if the pool may reject jobs or its queue
+//! a pool begins with the blocked vector, which bounds the pool's jobs that wait for other jobs.
+//! The bound of the pool's queue follows. It can be absent if the pool may reject jobs or its queue
 //! is unbounded.
 //!
 //! Any text that is not in this form is an error here, and the caller then parses it as JSON.

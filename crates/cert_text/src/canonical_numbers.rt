@@ -46,9 +46,9 @@ pub fn strip_byte(text: &[u8], byte: u8) -> Result<&[u8], CanonicalError>
     }
 }
 
-/// Returns the rest of the text after the comma that precedes the list element at index `place`. If
-/// `place` is 0, returns the whole text, because no comma precedes the first element. Otherwise
-/// returns an error if there is no comma.
+/// Strips the comma before the list element at index `place`, and returns the rest of the text.
+/// Returns the whole text if `place` is 0, because no comma precedes the first element. Otherwise
+/// returns an error if the text does not begin with a comma.
 #[inline(always)]
 pub fn strip_comma(text: &[u8], place: usize) -> Result<&[u8], CanonicalError>
     ensures { IfOk result (λ rest. text.now ≡ comma_if (nat_lt 0 place) ++ rest.now) }

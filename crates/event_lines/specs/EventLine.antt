@@ -16,7 +16,7 @@ pub data Line : Type 0 where
   Perform : Event → Line
   Stuck : List ℕ → Line
 
--- a parsed line of the code as the specifications see it
+-- the `Line` that a parsed line of the code represents
 abbrev pub line_seen : EventLine → Line
 line_seen (code.Perform e) = Perform e
 line_seen (code.Stuck members) = Stuck members
@@ -25,7 +25,7 @@ line_seen (code.Stuck members) = Stuck members
 unfoldable pub pool_named : Plan → List ℕ → Option ℕ
 pool_named plan name = position (λ pool. bytes_eq pool.name name) plan.pools
 
--- the event of a line with this verb, given the text after the verb and its space; None if the line is not an event
+-- the event of a line that consists of this verb, a space and this text; None if the line is not an event
 unfoldable pub event_of : Plan → List ℕ → List ℕ → Option Event
 event_of plan verb rest =
     if bytes_eq verb (codes "client") then option_map (λ n. event.Client n) (number_of rest)
@@ -38,7 +38,7 @@ event_of plan verb rest =
 unfoldable pub stuck_of : List ℕ → Option Line
 stuck_of rest = option_map Stuck (members_in rest)
 
--- the content of a line with this verb, given the text after the verb and its space; None if the line is malformed
+-- the content of a line that consists of this verb, a space and this text; None if the line is malformed
 unfoldable pub line_of_verb : Plan → List ℕ → List ℕ → Option Line
 line_of_verb plan verb rest =
     if bytes_eq verb (codes "stuck") then stuck_of rest else option_map Perform (event_of plan verb rest)
@@ -51,7 +51,7 @@ line_of plan text = option_and_then (λ words. line_of_verb plan words.0 words.1
 abbrev pub split_event_line : Plan → List ℕ → Option (Line × List ℕ)
 split_event_line plan text = option_map (λ line. (line, after_line text)) (line_of plan (first_line text))
 
--- the content of the line at this index; if it is malformed, the line's number, counted from 1
+-- the content of the line at this index; if the line is malformed, an error with its number, which is the index plus 1
 abbrev pub line_at : Plan → ℕ → List ℕ → Result Line ℕ
 line_at plan place text = ok_or (line_of plan text) (place + 1)
 
@@ -61,7 +61,7 @@ event_lines plan text = read_each (line_at plan) 0 (lines_of text)
 
 -- ---- the lines one at a time
 
--- what the parser returned for a line: its content, or None for an error
+-- the content of a line that the parser returned, or None if it returned an error
 abbrev pub line_read : Result EventLine BadEventLine → Option Line
 line_read (Ok line) = Some (line_seen line)
 line_read (Err bad) = None
@@ -70,6 +70,6 @@ line_read (Err bad) = None
 abbrev pub lines_read : Plan → List ℕ → List (Option Line)
 lines_read plan text = map (line_of plan) (lines_of text)
 
--- the contents of all lines, of which the first has index i, or the number of the first malformed line, counted from 1
+-- the contents of all lines, or the number of the first malformed line. The first line has the index i and the number i + 1.
 abbrev pub all_from : ℕ → List (Option Line) → Result (List Line) ℕ
 all_from i lines = read_each (λ place line. ok_or line (place + 1)) i lines

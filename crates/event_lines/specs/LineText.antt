@@ -23,7 +23,7 @@ line_text plan (Stuck members) = codes "stuck" ++ flat_map (λ n. 32 ∷ decimal
 abbrev pub lines_text : Plan → List Line → List ℕ
 lines_text plan lines = flat_map (λ line. line_text plan line ++ 10 ∷ []) lines
 
--- whether the number in the event is within the limit, or its pool exists
+-- whether the event is valid: the number of its job or client is within the limit, or its pool exists
 abbrev pub is_valid_event : Plan → Event → Bool
 is_valid_event plan (Client c) = is_valid_number c
 is_valid_event plan (Job j) = is_valid_number j

@@ -36,8 +36,8 @@ abbrev pub rejected_text : Option ℕ → List ℕ
 rejected_text None = []
 rejected_text (Some rejected) = codes ", rejected " ++ decimal rejected
 
--- the last line of a replay: the number of refused submits, the number of rejected submits unless that is None, and the number of
--- unfinished jobs
+-- the last line of a replay: the numbers of refused submits, of rejected submits, and of unfinished jobs. If the number of
+-- rejected submits is None, the line does not have it.
 abbrev pub summary : ℕ → Option ℕ → ℕ → List ℕ
 summary refusals rejected unfinished =
     codes "refusals " ++ decimal refusals ++ rejected_text rejected ++ codes ", unfinished " ++ decimal unfinished ++ 10 ∷ []

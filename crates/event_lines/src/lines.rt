@@ -35,7 +35,7 @@ impl<'a> EventLines<'a> {
     /// be missing.
     ///
     /// - `N` is a number of at most [`MAX_LINE_NUMBER`](job_bodies::MAX_LINE_NUMBER) without
-    ///   leading zeros. `stuck` needs at least one.
+    ///   leading zeros. A `stuck` line has at least one number.
     /// - `POOL` is the name of a pool of the plan.
     pub fn new(plan: &'a Plan, text: &'a [u8]) -> EventLines<'a>
         ensures lines { result ≡ lines_read plan.now text.now }
@@ -48,8 +48,8 @@ impl<'a> EventLines<'a> {
     ///
     /// # Errors
     ///
-    /// Returns [`BadEventLine`] if the line is malformed. The call after that parses the line that
-    /// follows the malformed one.
+    /// Returns [`BadEventLine`] if the line is malformed. The next call then parses the line after
+    /// the malformed one.
     #[inline(always)]
     pub fn next(&mut self) -> Option<Result<EventLine<'a>, BadEventLine>>
         ensures { MatchOption result ((self.old ≡ []) × (self.new ≡ []))

@@ -1,4 +1,5 @@
--- The abstract view of the clients of a world, and its representation by the clients that moved and the numbers of clients of each kind.
+-- The abstract view of the clients of a world, and its representation by the clients that moved and the numbers of clients of
+-- each kind.
 use Rattle.std.specs.Prelude.{◌≡◌, ℕ, ◌+◌, ◌-◌, ◌<◌, ◌≤◌, List, [], ◌∷◌, ◌++◌, length, replicate, slice_index_or, Option, Some, None}
 use Rattle.job_bodies.specs.Plan.{Client}
 use Rattle.written_machine.specs.declared.client_state.ClientState.{ClientState}
@@ -31,7 +32,8 @@ IsFirst (parent.Job j) i = ⊥
 
 -- ---- the representation
 
--- for each client kind, the number of clients up to and including that kind; n clients belong to kinds before those of the list
+-- for each client kind in the list, the number of clients of this kind and of all kinds before it. The kinds before the list
+-- have n clients.
 abbrev pub ends_from : ℕ → List Client → List ℕ
 ends_from n [] = []
 ends_from n (kind ∷ kinds) = (n + kind.count) ∷ ends_from (n + kind.count) kinds
@@ -41,8 +43,8 @@ abbrev pub IsRising : ℕ → List ℕ → Type 0
 IsRising n [] = Unit {0}
 IsRising n (end ∷ ends) = (n ≤ end) × IsRising end ends
 
--- the clients of the kinds with these ends (`ends_from`), each at the start of its body; the first kind has number `kind`, and n clients
--- belong to kinds before it
+-- the clients of the kinds with these ends (see `ends_from`), each at the start of its body. The first of these kinds has the
+-- number `kind`, and all kinds before it have n clients together.
 abbrev pub starting : ℕ → ℕ → List ℕ → List ClientState
 starting kind n [] = []
 starting kind n (end ∷ ends) = replicate (end - n) (record { kind = kind; position = 0 }) ++ starting (kind + 1) end ends
@@ -52,8 +54,8 @@ abbrev pub moved_or : Option ClientState → ClientState → ClientState
 moved_or None client = client
 moved_or (Some moved) client = moved
 
--- the states of the clients, whose numbers start at n: for each client its state in `at` if it has moved, and otherwise its state in the
--- list
+-- the current states of the clients in the list, of which the first has number n. A client that has moved has its state in
+-- `at`, and any other client has its state in the list.
 abbrev pub standing : (ℕ → Option ClientState) → ℕ → List ClientState → List ClientState
 standing at n [] = []
 standing at n (client ∷ clients) = moved_or (at n) client ∷ standing at (n + 1) clients

@@ -3,14 +3,14 @@ use Rattle.std.specs.Prelude.{◌≡◌, ℕ, zero, suc, ◌+◌, ◌*◌, ◌<�
 use Rattle.std.specs.HashMap.{HashMap, get}
 use Rattle.interleaving.specs.declared.job_table.JobEntry.{JobEntry}
 
--- for each job number the stored data, or None if the job is not live; the number of entries in the ring, gaps included; and the number of
--- further jobs for which memory is reserved
+-- the sequence of job data. For each job number, `items` has the stored data, or None if the job is not live. `span` is the
+-- number of entries in the ring, gaps included. `room` is the number of further jobs for which memory is reserved.
 pub record Row : Type 0 where
   pub items : List (Option JobEntry)
   pub span : ℕ
   pub room : ℕ
 
--- the limit of the number of entries in the ring, gaps included, if there are this many live jobs
+-- the maximum length of the ring, gaps included, for this number of live jobs
 abbrev pub longest : ℕ → ℕ
 longest live = 2 * live + 34
 

@@ -3,8 +3,8 @@ use Rattle.std.specs.Prelude.{◌≡◌, ℕ, ◌+◌, ◌≤◌, List, Option, 
 use Rattle.interleaving.specs.declared.job_table.JobEntry.{JobEntry}
 use Rattle.interleaving.specs.JobRing.{Row, longest}
 
--- for each job number the stored data, or None if the job is not live; the number of places, free ones included; and the number of further
--- jobs for which memory is reserved
+-- the table of live jobs. For each job number, `items` has the stored data, or None if the job is not live. `places` is the
+-- number of places, free ones included. `room` is the number of further jobs for which memory is reserved.
 pub record JobTableView : Type 0 where
   pub items : List (Option JobEntry)
   pub places : ℕ
@@ -14,7 +14,8 @@ pub record JobTableView : Type 0 where
 abbrev pub places_after : JobTableView → ℕ
 places_after list = if count_by is_some list.items == list.places then list.places + 1 else list.places
 
--- `live` is the number of live jobs and at most the number of places, and the ring is not longer than its limit for this number of places
+-- `live` is the number of live jobs. It is at most `count`, the number of places. The ring is not longer than its maximum
+-- length for `count` live jobs (`longest`).
 pub record AreCounted (row : Row) (live count : ℕ) : Type 0 where
   pub each : live ≡ count_by is_some row.items
   pub within : live ≤ count

@@ -15,7 +15,8 @@ abbrev pub found : LatestJobsView → Parent → ℕ → Option ℕ
 found list (parent.Client c) t = number_at list.of_clients (c, t)
 found list (parent.Job j) t = number_at list.of_jobs (j, t)
 
--- the number of further submit calls of this actor for which memory is reserved, in the map for clients or in the map for jobs
+-- the number of further submit calls for which memory is reserved in the map of this actor: the map for clients or the map for
+-- jobs
 abbrev pub latest_room : LatestJobsView → Parent → ℕ
 latest_room list (parent.Client c) = list.of_clients.room
 latest_room list (parent.Job j) = list.of_jobs.room

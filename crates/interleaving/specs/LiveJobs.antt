@@ -15,8 +15,8 @@ pub record Room : Type 0 where
   pub of_clients : ℕ
   pub of_jobs : ℕ
 
--- for each job number the live job, or None if that job is not live; the number of places, free ones included; and the numbers of further
--- jobs for which memory is reserved
+-- the live jobs of a world. For each job number, `jobs` has the live job, or None if that job is not live. `places` is the
+-- number of places, free ones included. `room` has the numbers of further jobs for which memory is reserved.
 pub record JobList : Type 0 where
   pub jobs : List (Option JobView)
   pub places : ℕ
@@ -27,8 +27,8 @@ abbrev pub room_for : Room → Parent → ℕ
 room_for room (parent.Client c) = room.of_clients
 room_for room (parent.Job j) = room.of_jobs
 
--- the number of places after a new job was added to `jobs`, which has no stale job: one more than before if each place holds a job of
--- `jobs`
+-- the number of places after a new job was added. `jobs` has the live jobs before that, from which stale jobs (`drop_if_stale`)
+-- are removed. The number grows by 1 if each place holds a job of `jobs`.
 abbrev pub places_made : JobList → List (Option JobView) → ℕ
 places_made list jobs = if count_by is_some jobs == list.places then list.places + 1 else list.places
 
@@ -62,13 +62,13 @@ pub record IsLatest (jobs : List (Option JobView)) (a : Parent) (t k : ℕ) : Ty
   pub passes : is_live_child a t (live_job jobs k) ≡ true
   pub none_later : (i : ℕ) → k < i → is_live_child a t (live_job jobs i) ≡ false
 
--- every job in the index is the latest live job of its submit, and the index has the latest live job of each submit whose actor may still
--- get its jobs
+-- Every job in the index is the latest live job of its submit. If the actor of a submit may still get jobs, the index has the
+-- latest live job of this submit.
 pub record AreFound (jobs : List (Option JobView)) (latest : LatestJobsView) : Type 0 where
   pub sound : (a : Parent) (t k : ℕ) → found latest a t ≡ Some k → IsLatest jobs a t k
   pub complete : (a : Parent) (t k : ℕ) → may_get_in jobs a ≡ true → IsLatest jobs a t k → found latest a t ≡ Some k
 
--- if job j created a live job at position t, then job j exists and t is below its submit bound
+-- if job j created a live job at position t, then job j exists, and t is below the submit bound of job j
 abbrev pub AreSubmitBounds : List (Option JobEntry) → Type 0
 AreSubmitBounds items = (j t k : ℕ) → is_live_child (parent.Job j) t (live_job (jobs_in items) k) ≡ true → (j < length items) × ((place : JobEntry) → place_at items j ≡ Some place → t < place.submit_bound)
 
@@ -102,7 +102,7 @@ pub record AreOrphaned (j n : ℕ) (jobs after : List (Option JobView)) (latest 
   pub others : (a : Parent) (t : ℕ) → a ≢ parent.Job j → found later a t ≡ found latest a t
   pub behind : (t : ℕ) → n ≤ t → found later (parent.Job j) t ≡ found latest (parent.Job j) t
 
--- if `finished` is None, the index entry of this submit does not have the job `number` afterwards; all other entries are unchanged
+-- if `finished` is None, the job `number` is removed from the index entry of this submit; all other entries are unchanged
 pub record IsGone (finished : Option JobView) (latest later : LatestJobsView) (a : Parent) (t number : ℕ) : Type 0 where
   pub sub : (b : Parent) (u k : ℕ) → found later b u ≡ Some k → (found latest b u ≡ Some k) × (finished ≡ None → is_call a t b u ≡ true → k ≢ number)
   pub stay : (b : Parent) (u k : ℕ) → found latest b u ≡ Some k → (finished ≡ None → k ≢ number) → found later b u ≡ Some k
@@ -112,13 +112,15 @@ abbrev pub is_done_job : Option JobView → Bool
 is_done_job None = false
 is_done_job (Some job) = is_done job.phase
 
--- if the flag is set, the entry of job k and the index entry of job j for position t are cleared; otherwise nothing changes
+-- if the flag is set, job k is removed from the table, and the entry of the submit of job j at position t from the index;
+-- otherwise nothing changes
 abbrev pub RemovesNumber : ℕ → ℕ → ℕ → Bool → JobTableView → JobTableView → LatestJobsView → LatestJobsView → Type 0
 RemovesNumber j t k false kept kept' latest latest' = (kept' ≡ kept) × (latest' ≡ latest)
 RemovesNumber j t k true kept kept' latest latest' = (kept'.items ≡ slice_set kept.items k None) × (kept'.places ≡ kept.places)
     × ((b : Parent) (u : ℕ) → found latest' b u ≡ (if is_call (parent.Job j) t b u then None else found latest b u))
 
--- given the index entry of job j for position t: if it has a job and this job is done, the job is removed; otherwise nothing changes
+-- given the index entry of the submit of job j at position t: if the entry has a done job, this job is removed; otherwise
+-- nothing changes
 abbrev pub RemovesFound : ℕ → ℕ → Option ℕ → JobTableView → JobTableView → LatestJobsView → LatestJobsView → Type 0
 RemovesFound j t None kept kept' latest latest' = (kept' ≡ kept) × (latest' ≡ latest)
 RemovesFound j t (Some k) kept kept' latest latest' = RemovesNumber j t k (is_done_job (live_job (jobs_in kept.items) k)) kept kept' latest latest'

@@ -3,8 +3,8 @@ use Rattle.std.specs.Prelude.{ℕ, List, Option, Some, None, slice_get, nat_eq}
 use Rattle.std.specs.Map.{lookup}
 use Rattle.written_machine.specs.declared.client_state.ClientState.{ClientState}
 
--- the clients that moved: those with the lowest numbers in a list, others in a map; and the number of further clients for which memory is
--- reserved
+-- the clients that moved. `front` has the states of the clients with the lowest numbers, and `others` those of all other
+-- clients that moved. `room` is the number of further clients for which memory is reserved.
 pub record Moved : Type 0 where
   pub front : List ClientState
   pub others : List (ℕ × ClientState)

@@ -18,7 +18,8 @@ abbrev pub IsAmong : ℕ → ℕ → Parent → Type 0
 IsAmong clients jobs (parent.Client c) = c < clients
 IsAmong clients jobs (parent.Job j) = j < jobs
 
--- the next action at position i of the body: the position, the action there, and whether that is a submit for whose job the body has a get
+-- the next action at position i of the body: the position, the action there, and `has_get`. `has_get` is true if the action is
+-- a submit and the body has a get of this submit.
 abbrev pub next_action_in : List Action → ℕ → NextAction
 next_action_in body i = record { position = i; action = slice_get body i; has_get = submits (slice_get body i) && has_get_of body i }
 

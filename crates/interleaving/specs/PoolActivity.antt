@@ -32,6 +32,7 @@ activity_with activity (phase.At i) true = record activity { at_work = activity.
 activity_with activity (phase.At i) false = activity
 activity_with activity phase.Done new = activity
 
--- no member waits in the pool's queue, or the pool has no idle worker and runs only members: it has as many threads as running members
+-- no member waits in the pool's queue, or the pool has no idle worker and all its threads run members: the number of its
+-- threads is the number of running members
 abbrev pub pool_queue_waits : PoolView → PoolActivity → Bool
 pool_queue_waits pool activity = not activity.queued || (pool.idle == 0 && pool.threads == activity.at_work)

@@ -3,8 +3,9 @@ use Rattle.std.specs.Prelude.{ℕ, ◌==◌, ◌&&◌, ◌%◌, Bool, true, List
 use Rattle.std.specs.Map.{lookup}
 use Rattle.interleaving.specs.declared.submit_map.TheConstants.{TABLE_LEN}
 
--- the entries of the table, the calls in `others` (whose table entries other calls occupied), and the number of further calls for which
--- memory is reserved in `others`
+-- the map from submit calls to job numbers. `table` has the entries of the table, or None for a free entry. `others` has the
+-- calls whose place in the table another call occupies. `room` is the number of further calls for which memory is reserved in
+-- `others`.
 pub record SubmitMapView : Type 0 where
   pub table : List (Option ((ℕ × ℕ) × ℕ))
   pub others : List ((ℕ × ℕ) × ℕ)

@@ -1,5 +1,5 @@
--- The transition function on live views. From the live view of a reachable state, it gives the same outcome as the machine, and the live
--- view of the state after the event: jobs that are not live do not influence later events.
+-- The transition function on live views. From the live view of a reachable state, it gives the same outcome as the machine, and
+-- the live view of the state after the event: jobs that are not live do not influence later events.
 use Rattle.std.specs.Prelude.{ℕ, ◌+◌, ◌&&◌, ◌==◌, not, Bool, true, false, List, [], ◌∷◌, ◌++◌, length, map, Option, Some, None, slice_get, slice_set, slice_index_or, if◌then◌else◌}
 use Rattle.std.specs.Option.{option_map}
 use Rattle.support.specs.Places.{places_where, last_of}
@@ -59,18 +59,20 @@ in_phase phase (Some job) = Some (record job { phase = phase })
 abbrev pub with_phase : ℕ → Phase → List (Option JobView) → List (Option JobView)
 with_phase j phase jobs = slice_set jobs j (in_phase phase (live_job jobs j))
 
--- the job as it is once the actor has created another job by the submit at position t: None if the same submit created this job and this
--- job is done
+-- the job, or None if it is stale: it is done, and the actor created it by the submit at position t. A stale job stops being
+-- live when the same submit creates another job.
 abbrev pub drop_if_stale : Parent → ℕ → Option JobView → Option JobView
 drop_if_stale a t None = None
 drop_if_stale a t (Some job) = if is_live_child a t (Some job) && is_done job.phase then None else Some job
 
--- the job as it is once job j has finished: None if job j created this job and this job is done, because no actor can get it then
+-- the job, or None if it is an orphan: it is done, and job j created it. An orphan stops being live when job j finishes,
+-- because no actor can get it then.
 abbrev pub drop_if_orphan : ℕ → Option JobView → Option JobView
 drop_if_orphan j None = None
 drop_if_orphan j (Some job) = if same_parent (parent.Job j) job.parent && is_done job.phase then None else Some job
 
--- the job as it is once it has finished: done if it is the latest of its submit and its parent may still get it, and otherwise None
+-- the job after it finished: it is done, or None if no get can return it. A get can return it if it is the latest job of its
+-- submit and its parent may still get jobs.
 abbrev pub finished_if_gettable : List (Option JobView) → ℕ → JobView → Option JobView
 finished_if_gettable jobs j job =
     if may_get_in jobs job.parent && is_number (live_child jobs job.parent job.slot) j then Some (record job { phase = phase.Done }) else None
@@ -125,8 +127,8 @@ made a i job view =
     let moved = move_actor a (i + 1) view in
     record moved { jobs = map (drop_if_stale a i) moved.jobs ++ Some job ∷ [] }
 
--- the view and the outcome after actor a, at position i, submitted a job of class k, and the pool gave this answer; if the pool may reject
--- jobs and answers `Refused`, the submit is not refused, but the new job is done at once
+-- the view and the outcome after actor a at position i submitted a job of class k, and the pool gave this answer. If the pool
+-- may reject jobs and answers `Refused`, the submit is not refused. Instead, the new job is done at once.
 abbrev pub answered_in : Plan → View → Parent → ℕ → ℕ → Offer → View × Outcome
 answered_in plan view a i k offer.Started = (
   with_pool_in (pool_of plan k) (apply_answer (pool_in view (pool_of plan k)) (length view.jobs) offer.Started)

@@ -10,7 +10,7 @@ pub record WorldValue : Type 0 where
 abbrev pub live_jobs : View → ℕ
 live_jobs view = count_by is_some view.jobs
 
--- the number of places grew by one, for a job that was created while each place held a live job
+-- the number of places grew by 1, because a job was created while each place held a live job
 pub record IsOnePlaceMore (old new : WorldValue) : Type 0 where
   pub more : new.places ≡ old.places + 1
   pub made : length new.view.jobs ≡ length old.view.jobs + 1

@@ -20,11 +20,11 @@ pub(crate) struct PoolActivity {
 }
 
 impl PoolActivity {
-    /// Returns the activity after one more member of the set, with the phase `phase`, is counted.
+    /// Returns this activity with one more member counted, which is in the phase `phase`.
     ///
     /// - A queued member sets `queued`.
-    /// - A running member adds 1 to `at_work` if `is_new` is true. If `is_new` is false, it was
-    ///   counted before.
+    /// - A running member adds 1 to `at_work` if `is_new` is `true`. `is_new` is `false` for a
+    ///   member that was counted before.
     /// - A done member changes nothing.
     fn with(self, phase: Phase, is_new: bool) -> PoolActivity
         requires { self.at_work + 1 < 2 ^ 64 }
@@ -47,9 +47,8 @@ impl PoolActivity {
 impl World {
     ghost use Rattle.interleaving.specs.OfPlan.{IsReachableView};
 
-    /// Returns, for each pool number, the activity of the members in this pool. A member that
-    /// occurs more than once in the list counts once. A number of a job that is not live does not
-    /// count.
+    /// Returns the activity of the members in each pool, by pool number. Counts a member only once
+    /// if it occurs more than once in the list. Ignores a number whose job is not live.
     pub(crate) fn activities(&self, plan: &Plan, members: &Members<'_>) -> [PoolActivity; MAX_POOLS]
         requires of_plan { IsReachableView plan.now self.now.view }
         requires well_formed { IsWellFormed plan.now }

@@ -20,9 +20,11 @@ const SPARE_NUMBERS: usize = 16;
 /// The entry of a job that is no longer live is a gap.
 ///
 /// The entries with numbers from `base` up are in a ring buffer, in which a look-up is an index
-/// operation. The ring never begins with a gap. If the ring is too long for the number of live
-/// jobs, its first job moves into a map. The gaps after this job are then removed. So a job that
-/// stays live for long does not keep these gaps in memory.
+/// operation. The live jobs with lower numbers are in a map.
+///
+/// If the ring is too long for the number of live jobs, its first job moves into the map. The ring
+/// then begins at the next live job. So a job that stays live for long does not keep the gaps after
+/// it in memory.
 #[derive(Drop)]
 pub(crate) struct JobRing {
     // The number of the first entry of `recent`.

@@ -44,9 +44,9 @@ impl JobView {
         actor == self.parent && submit == self.slot
     }
 
-    /// Returns this live job, or `None` if it stops being live when the actor creates another job
-    /// by the submit at position `submit`. It stops being live if it is done and the same actor
-    /// created it by the same submit.
+    /// Returns this job, or `None` if it is stale: it is done, and the actor created it by the
+    /// submit at position `submit` of its body. A stale job stops being live when the same submit
+    /// creates another job, because a get then returns only the new job.
     pub fn drop_if_stale(self, actor: Parent, submit: usize) -> Option<JobView>
         ensures { result ≡ drop_if_stale actor submit (Some self) }
     {
@@ -57,8 +57,9 @@ impl JobView {
         }
     }
 
-    /// Returns this live job, or `None` if it stops being live when the job `parent` finishes. It
-    /// stops being live if it is done and the job `parent` created it.
+    /// Returns this job, or `None` if it is an orphan: it is done, and the job `parent` created it.
+    /// An orphan stops being live when the job `parent` finishes, because no actor can get it any
+    /// more.
     pub fn drop_if_orphan(self, parent: usize) -> Option<JobView>
         ensures { result ≡ drop_if_orphan parent (Some self) }
     {

@@ -37,8 +37,8 @@ pub fn waiting_sets_are_seen()
     ensures { WaitingSetsAreSeen }
 {}
 
-/// States that no event in a reachable state of a well-formed plan makes a job live again that is
-/// no longer live.
+/// States that a job that is no longer live does not become live again. This holds for every event
+/// in a reachable state of a well-formed plan.
 pub fn dead_jobs_stay_dead()
     ensures { DeadJobsStayDead }
 {}

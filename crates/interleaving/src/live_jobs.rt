@@ -128,9 +128,9 @@ impl LiveJobs {
         self.kept.reserve()
     }
 
-    /// Adds a new job. Removes the job `latest` if it is done and comes from the same submit of the
-    /// same actor. No other job of this submit may be done. [`LiveJobs::reserve_for`] must have
-    /// reserved memory.
+    /// Adds the new job `job`. Removes the job `latest` if it is done and was created by the same
+    /// submit of the same actor, because no get can return it any more. Every other live job of
+    /// this submit must be unfinished. [`LiveJobs::reserve_for`] must have reserved memory.
     pub fn create(&mut self, latest: Option<usize>, job: JobView)
         requires room { 0 < room_for self.old.room job.parent }
         requires parent { WasMade self.old.jobs job.parent }

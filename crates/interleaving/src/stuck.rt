@@ -22,14 +22,15 @@ use written_machine::Parent;
 impl World {
     ghost use Rattle.interleaving.specs.OfPlan.{IsReachableView};
 
-    /// Returns `true` if the jobs with these numbers, the members, wait only for each other. The
-    /// list must not be empty, and each member must be an unfinished job of one of these kinds:
+    /// Returns `true` if the jobs with these numbers, the members, are a waiting set. This means
+    /// that there is at least one member, and that each member is an unfinished job of one of these
+    /// kinds:
     ///
     /// - The member is at a get of a member.
     /// - The member is in the queue of a pool that has no idle worker and runs only members.
     ///
-    /// Returns `false` otherwise. Allocates no memory. Looks up each member in the list a few
-    /// times: by binary search if the list is sorted, and otherwise by a scan.
+    /// Allocates no memory. Looks up each member in the list a few times: by binary search if the
+    /// list is sorted, and otherwise by a scan.
     pub fn stuck(&self, plan: &Plan, members: &[usize]) -> bool
         requires { IsReachableView plan.now self.now.view }
         ensures in_words { (s : State)

@@ -28,7 +28,7 @@ impl World {
     /// - The pool refuses the job. The refusal is counted, and the actor does not move.
     ///
     /// `next` has the position of the submit in the body. If the body has a get of this submit, no
-    /// live job of this submit may exist yet.
+    /// earlier job of this submit may be live.
     ///
     /// # Errors
     ///

@@ -58,9 +58,9 @@ impl Levels {
         self.submitted.get(class).copied().unwrap_or(false)
     }
 
-    /// Gives `level` to each class that has no level yet and submits only classes of lower levels,
-    /// and appends these classes to the order. `known` has, for each class, the number of actions
-    /// at the start of its body that need no further check, and is updated.
+    /// Gives `level` to each class that has no level yet and submits only classes of lower levels.
+    /// Appends these classes to the order. `known` has, for each class, the length of a prefix of
+    /// its body that needs no further check. Updates these lengths.
     fn add_level(&mut self, plan: &Plan, level: u64, known: &mut [usize]) -> Result<(), AllocError>
         ensures { vec_len self.new.of_classes ≡ vec_len self.old.of_classes }
     {

@@ -1,6 +1,7 @@
-//! Least vectors of weights. A vector gives each point of a plan a weight, so that no event
-//! increases the sum of the weights. The jobs of one pool weigh at least 1 at certain points, so
-//! the sum bounds the number of these jobs at these points.
+//! Least vectors of weights. A vector gives a weight to each worker, to each client at each
+//! position of its body, and to each job at each stage. The weights are chosen so that no event
+//! increases their sum. For example, if each queued job of a pool weighs at least 1, the sum bounds
+//! the number of queued jobs of this pool.
 //!
 //! Searches for certificates use these vectors. The contracts promise only the shape of a vector,
 //! so a caller must check a vector before it relies on it, for example with `cert_check::accepts`.

@@ -1,7 +1,7 @@
 //! The search for a vector with a small total. The [`Target`] determines the pool, the kind of the
-//! vector and the limit of its total. A *loan* gives each worker of one pool a weight, so that the
-//! queued jobs of this pool, the *lender*, can weigh less. A [`Sketch`] has the parts of a vector
-//! that determine its total.
+//! vector and the limit of its total. A *loan* gives each worker of one pool a weight. This pool is
+//! then a *lender*, and its queued jobs can weigh less. A [`Sketch`] has the parts of a vector that
+//! determine its total.
 
 ghost use Rattle.std.specs.Prelude.{◌≡◌, ◌<◌, ◌≤◌, length, IfOk, IfSome, IsTrue, vec_len};
 ghost use Rattle.weights.specs.Vector.{vector_fits};
@@ -20,8 +20,8 @@ use weights::Vector;
 /// The maximum number of loans for one vector. This limit bounds the time of a search.
 const MAX_LOANS: usize = 256;
 
-/// A loan, which gives each worker of one pool a new weight: the pool, this weight, and the index
-/// of the resulting sketch in the cache.
+/// A loan: a new weight for each worker of one pool. The fields are the pool, the weight, and the
+/// index of the resulting sketch in the cache.
 #[derive(Clone, Copy)]
 pub(crate) struct Loan {
     pub(crate) pool: usize,
@@ -121,9 +121,8 @@ pub(crate) fn lightest_vector(
     vector_of(alloc, plan, target, workers, &sketch)
 }
 
-/// Returns the next loan, or `None` if no loan helps. If a class that is never submitted has a
-/// weight above `MAX_WEIGHT`, this is the result of [`relieving_loan`], and otherwise that of
-/// [`best_loan`].
+/// Returns the next loan, or `None` if no loan helps. Uses [`relieving_loan`] if a class that is
+/// never submitted has a weight above `MAX_WEIGHT`, and [`best_loan`] otherwise.
 ///
 /// - `workers` has the current weights of workers. They are the same after the call, unless memory
 ///   runs out.
@@ -146,9 +145,9 @@ fn next_loan(
     }
 }
 
-/// Returns the loan that gives the smallest total, or `None` if no loan makes the total smaller.
-/// Each worker gets the weight that [`peak`] returns. Classes that are never submitted are ignored,
-/// because a loan for their jobs does not change the total.
+/// Returns the loan that gives the smallest total, or `None` if no loan makes the total smaller. A
+/// loan gives each worker of its pool the weight that [`peak`] returns. Classes that are never
+/// submitted are ignored, because a loan for their jobs does not change the total.
 ///
 /// `workers` and `place` are as in [`next_loan`].
 fn best_loan(

@@ -1,5 +1,6 @@
-//! The reaches of classes. The reach of a class is the greatest of these numbers: the rank of the
-//! class's pool, and the reach of the class of each job that it gets.
+//! The reaches of classes. The reach of a class is the greatest rank of the pools on which its jobs
+//! depend. These are its own pool, and the pools of all jobs that its jobs get, directly or through
+//! other jobs.
 
 ghost use Rattle.std.specs.Prelude.{◌≡◌, IfOk, length, vec_len};
 
@@ -10,8 +11,8 @@ use std::alloc::{AllocError, Global};
 use weights::submitted_class;
 
 /// Returns the reach of each class, given the ranks of the pools. The reach of a class is the
-/// greatest of these numbers: the rank of the class's pool, and the reach of the class of each job
-/// that it gets.
+/// greatest rank of the pools on which its jobs depend. These are its own pool, and the pools of
+/// all jobs that its jobs get, directly or through other jobs.
 ///
 /// # Errors
 ///

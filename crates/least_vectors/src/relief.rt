@@ -1,7 +1,7 @@
-//! Loans that reduce weights above `MAX_WEIGHT` of classes that are never submitted. A loan gives
-//! the workers of a pool weight, so that the queued jobs of the pool can weigh less. Jobs of a
-//! class that is never submitted do not count towards the total, but the vector must have weights
-//! for them.
+//! Loans for classes that are never submitted and have a weight above `MAX_WEIGHT`. The jobs of
+//! such a class do not count towards the total, but the vector must have weights for them of at
+//! most `MAX_WEIGHT`. A loan gives the workers of a pool weight, so that the queued jobs of the
+//! pool can weigh less.
 
 ghost use Rattle.std.specs.Prelude.{◌≡◌, ◌<◌, ◌≤◌, IfOk, IfSome, vec_len, length};
 

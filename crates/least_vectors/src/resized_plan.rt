@@ -1,7 +1,10 @@
-//! The lightest vectors of a pool, for searches that change the sizes of a plan. A *standing
-//! vector* bounds the number of queued jobs of the pool, a *lifetime vector* the number of all jobs
-//! that are ever submitted to it, and a *blocked vector* the number of its jobs that wait at
-//! certain gets.
+//! The lightest vectors of a pool, for searches that change the sizes of a plan. There are three
+//! kinds:
+//!
+//! - A *standing vector* bounds the number of queued jobs of the pool.
+//! - A *lifetime vector* bounds the number of all jobs that are ever submitted to the pool.
+//! - A *blocked vector* bounds the number of the pool's jobs that wait at gets of classes with a
+//!   high reach (see [`Kind::Blocked`]).
 
 ghost use Rattle.std.specs.Prelude.{◌≡◌, ◌<◌, length, IfOk, IfSome, IsTrue, vec_len};
 ghost use Rattle.weights.specs.Vector.{vector_fits};
@@ -38,12 +41,14 @@ pub enum Kind<'a> {
     Standing,
     /// A lifetime vector. No workers have weight.
     Lifetime,
-    /// A blocked vector of a pool with the rank `rank`. Each worker of this pool weighs 0. If each
-    /// weighed at least 1, all of them would weigh at least the core size, and the total of the
-    /// vector must be below that.
+    /// A blocked vector of a pool with the rank `rank`. It bounds the number of the pool's jobs
+    /// that wait at gets of classes with a reach of at least `rank`. The workers of this pool weigh
+    /// 0. If each of them weighed at least 1, the total would be at least the core size, but it
+    /// must be less.
     Blocked {
-        /// The reach of each class. It is the greatest of these numbers: the rank of the class's
-        /// pool, and the reach of the class of each job that it gets.
+        /// The reach of each class: the greatest rank of the pools on which its jobs depend. These
+        /// are its own pool, and the pools of all jobs that its jobs get, directly or through other
+        /// jobs.
         reach: &'a [u64],
         rank: u64,
         /// Whether the workers of other pools may have weight.
@@ -65,8 +70,8 @@ impl ResizedPlan<'_> {
     /// finds no such vector, returns the summary of the vector with the smallest total that it
     /// found.
     ///
-    /// Returns `None` if a number of that vector would be above `MAX_WEIGHT`, or if a repeating
-    /// client would need more weight in each repetition.
+    /// Returns `None` if the search finds no vector at all, because a number would be above
+    /// `MAX_WEIGHT` or a repeating client would need more weight in each repetition.
     ///
     /// # Errors
     ///

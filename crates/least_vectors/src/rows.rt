@@ -75,9 +75,9 @@ fn class_row(
     Ok(row)
 }
 
-/// Returns the weights of a client of this kind at each position of its body. The weights are
-/// computed from the end of the body to its start. At the end, a client that repeats weighs
-/// `start`, and any other client weighs 0.
+/// Returns the weights of a client of this kind at each position of its body, computed from the end
+/// of the body to its start. `start` is the weight of the client at the start of its body. At the
+/// end, a client that repeats also weighs `start`, and any other client weighs 0.
 fn client_row(
     alloc: Global,
     target: &Target,

@@ -9,9 +9,9 @@ use job_bodies::{Action, Class, Client, MAX_WEIGHT, Plan};
 use std::alloc::{AllocError, Global};
 use weights::submitted_class;
 
-/// The total of a sketch if there is no vector with its worker weights. The reason is that another
-/// weight would be above `MAX_WEIGHT`, or that a repeating client would need more weight in each
-/// repetition. A total that overflows also has this value.
+/// The value of a sketch's total if there is no vector with its worker weights, or if the total
+/// overflows. There is no vector if another weight would be above `MAX_WEIGHT`, or if a repeating
+/// client would need more weight in each repetition.
 pub(crate) const TOO_HEAVY: u64 = u64::MAX;
 
 /// The parts of a vector that determine its total, without the weights at the positions of bodies.
@@ -24,8 +24,8 @@ pub(crate) struct Sketch {
     /// The weight of a client of each kind at the start of its body.
     pub(crate) starts: Vec<u64>,
     /// For each pool, the largest weight that a job of the pool has at any position of its body.
-    /// The weight is computed as if this job weighed as little as possible when it is done. Classes
-    /// that are never submitted are ignored.
+    /// The job is assumed to weigh as little as possible when it is done. Classes that are never
+    /// submitted are ignored.
     pub(crate) peaks: Vec<u64>,
     /// The total weight of all workers, if each pool has its maximum of workers.
     pub(crate) on_loan: u64,

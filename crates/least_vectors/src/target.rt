@@ -1,6 +1,9 @@
-//! The target of a search for a vector of a pool. A *standing vector* bounds the number of queued
-//! jobs of the pool, a *lifetime vector* the number of all jobs that are ever submitted to it, and
-//! a *blocked vector* the number of its jobs that wait at certain gets.
+//! The target of a search for a vector of a pool. There are three kinds of vectors:
+//!
+//! - A *standing vector* bounds the number of queued jobs of the pool.
+//! - A *lifetime vector* bounds the number of all jobs that are ever submitted to the pool.
+//! - A *blocked vector* bounds the number of the pool's jobs that wait at gets of classes with a
+//!   high reach (see [`WeightRequirement::AtGets`]).
 
 use crate::numbers::number_at;
 use job_bodies::{Action, Class, Plan, Pool};
@@ -12,11 +15,12 @@ use weights::submitted_class;
 pub(crate) enum WeightRequirement<'a> {
     /// While the job is queued. A standing vector has this requirement.
     WhileQueued,
-    /// At each get of a job of a class with a reach of at least `rank`, which is the rank of the
+    /// At each get that waits for a job of a class whose reach is at least `rank`, the rank of the
     /// pool. A blocked vector has this requirement.
     AtGets {
-        /// The reach of each class. It is the greatest of these numbers: the rank of the class's
-        /// pool, and the reach of the class of each job that it gets.
+        /// The reach of each class: the greatest rank of the pools on which its jobs depend. These
+        /// are its own pool, and the pools of all jobs that its jobs get, directly or through other
+        /// jobs.
         reach: &'a [u64],
         rank: u64,
     },
@@ -75,8 +79,8 @@ impl<'a> Target<'a> {
         }
     }
 
-    /// Creates the target of a blocked vector of pool `number` with a total of at most `limit`, for
-    /// this rank of the pool and these reaches of the classes.
+    /// Creates the target of a blocked vector of pool `number` with a total of at most `limit`.
+    /// `rank` is the rank of the pool, and `reach` has the reach of each class.
     pub(crate) fn blocked(number: usize, limit: u64, reach: &'a [u64], rank: u64) -> Target<'a> {
         Target {
             pool: number,
@@ -87,8 +91,8 @@ impl<'a> Target<'a> {
         }
     }
 
-    /// Returns the target, unchanged if its limit is positive. If the limit is 0, the result is a
-    /// target in which no worker may have weight, because any weight of a worker makes the total
+    /// Returns the target with no lenders if its limit is 0, and the unchanged target otherwise.
+    /// With a limit of 0, no worker may have weight, because any weight of a worker makes the total
     /// positive.
     pub(crate) fn without_useless_loans(self) -> Target<'a> {
         if self.limit > 0 {

@@ -1,10 +1,14 @@
-//! The two vectors that a certificate can have for each pool: the bound of the queue, and the
-//! blocked vector. The bound is a *standing vector*, which bounds the number of queued jobs of the
-//! pool, or a *lifetime vector*, which bounds the number of all jobs that are ever submitted to it.
-//! The *blocked vector* bounds the number of the pool's jobs that wait at gets of classes whose
-//! reach is at least the rank of the pool. The *reach* of a class is the greatest of these numbers:
-//! the rank of the class's pool, and the reach of the class of each job that it gets. A pool that
-//! may reject jobs or has an unbounded queue needs no bound, but can have one.
+//! The two vectors that a certificate can have for each pool:
+//!
+//! - The *bound* of the queue. It is one of two kinds. A *standing vector* bounds the number of
+//!   queued jobs of the pool. A *lifetime vector* bounds the number of all jobs that are ever
+//!   submitted to the pool. A pool that may reject jobs or has an unbounded queue needs no bound,
+//!   but can have one.
+//! - The *blocked vector*. It bounds the number of the pool's jobs that wait at gets of classes
+//!   whose reach is at least the rank of the pool.
+//!
+//! The *reach* of a class is the greatest rank of the pools on which its jobs depend. These are its
+//! own pool, and the pools of all jobs that its jobs get, directly or through other jobs.
 
 ghost use Rattle.std.specs.Prelude.{◌<◌, IfOk, IfSome, IsTrue, length};
 ghost use Rattle.weights.specs.Vector.{vector_fits};
@@ -55,8 +59,9 @@ pub fn pool_bound(
     }
 }
 
-/// Returns the number of jobs that the pool accepts before it can refuse one. If its core threads
-/// may time out, this is the capacity of its queue, because Java then starts threads without a job.
+/// Returns the number of jobs that the pool accepts before it can refuse one: its capacity plus its
+/// maximum, minus its prestarted threads. If core threads may time out, this is only the capacity
+/// of its queue, because Java then starts threads without a job.
 fn lifetime_limit(pool: &Pool) -> u64 {
     if pool.core_timeout {
         return pool.queue;
@@ -82,9 +87,10 @@ fn lightest_standing(
     }
 }
 
-/// Returns a blocked vector of the pool for this rank of the pool and these reaches of the classes.
-/// The total of the vector is below the pool's core. Returns `None` if the search finds no such
-/// vector. The plan must have a pool with the index `pool`.
+/// Returns a blocked vector of the pool, or `None` if the search finds none. The plan must have a
+/// pool with the index `pool`. `rank` is the rank of this pool, and `reach` has the reach of each
+/// class. The total of the vector is less than the pool's core size, or is 0 if core threads may
+/// time out.
 ///
 /// # Errors
 ///

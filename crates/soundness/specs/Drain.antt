@@ -19,20 +19,20 @@ abbrev pub of_submit : (ℕ → ℕ) → Action → ℕ
 of_submit f (Submit k) = f k
 of_submit f _ = 0
 
--- the number of job events and takes of a new job of class k and of the jobs that it submits, directly or through other jobs,
--- if jobs of at most n generations are counted
+-- the number of job events and takes of a new job of class k and of the jobs that it submits, directly or through other jobs.
+-- Only n generations of jobs are counted. The new job is the first generation, and the jobs that it submits are the second.
 abbrev pub full_within : Plan → ℕ → ℕ → ℕ
 full_within plan zero k = 0
 full_within plan (suc n) k = length (class_at plan k).body + 2 + sum_by (of_submit (full_within plan n)) (class_at plan k).body
 
--- the number of job events and takes of a new job of class k and of all jobs that it submits, directly or through other jobs.
--- If the rows of the ranks hold, the level of a class is above the level of each class that it submits, so level + 1
--- generations are all of them
+-- the work of a new job of class k: the number of job events and takes of this job and of all jobs that it submits, directly or
+-- through other jobs. If the rows of the ranks hold, a class has a higher level than each class that it submits. So there are
+-- at most level + 1 generations of jobs, and all of them are counted.
 abbrev pub full : Plan → Ranks → ℕ → ℕ
 full plan ranks k = full_within plan (level ranks k + 1) k
 
--- if the rows of the ranks hold, the work of a new job of class k is one event for each action, one for its take and one for
--- its end, plus the work of the jobs that it submits
+-- Let the rows of the ranks hold. Then the work of a new job of class k is one event for each action, one for its take and one
+-- for its end. The work of the jobs that it submits is added.
 abbrev pub FullIsWhole : Type 0
 FullIsWhole = (plan : Plan) (ranks : Ranks) (k : ℕ) → AllHold (rank_rows plan ranks) → full plan ranks k ≡ length (class_at plan k).body + 2 + sum_by (of_submit (full plan ranks)) (class_at plan k).body
 
@@ -64,9 +64,9 @@ pub record LeadsTo (plan : Plan) (s : State) (events : List Event) (s' : State) 
 abbrev pub IsQuiescent : Plan → State → Type 0
 IsQuiescent plan s = (event : Event) → IsTrue (is_of_job_or_pool event) → step plan s event ≡ None
 
--- If no client acts after a reachable state, the number of job events and takes that follow is at most the remaining work of
--- that state. When no job event and no take is possible any longer, no job is unfinished. Threads above core may end in
--- between.
+-- Let no client act after a reachable state. Then the number of job events and takes that follow is at most the remaining work
+-- of that state. When no job event and no take is possible any longer, no job is unfinished. Idle threads may end in between,
+-- as far as their pools allow it.
 pub record Drains (plan : Plan) (ranks : Ranks) : Type 0 where
   pub bounded : (s s' : State) (events : List Event) → LeadsTo plan s events s' → count_by is_of_job_or_pool events ≤ todo plan ranks s
   pub drained : (s s' : State) (events : List Event) → LeadsTo plan s events s' → IsQuiescent plan s' → (j : ℕ) → IsFalse (is_unfinished (job_at s' j).stage)

@@ -5,13 +5,13 @@ use Rattle.written_machine.specs.declared.parent.Parent.{Parent}
 use Rattle.written_machine.specs.State.{Stage, CreatedJob, State, job_at, is_made_by, child}
 use Rattle.written_machine.specs.State.Stage.{Claimed}
 
--- the job after an exchange of positions t and u of actor a: if a created the job at one of these positions, its position
--- becomes the other one
+-- the job after an exchange of positions t and u of actor a: if actor a created the job at t, its recorded position becomes u,
+-- and the other way round
 abbrev pub exchanged_job : Parent → ℕ → ℕ → CreatedJob → CreatedJob
 exchanged_job a t u job = record job { slot = if is_made_by a t job then u else (if is_made_by a u job then t else job.slot) }
 
--- the state after an exchange of positions t and u of actor a; only the recorded positions of the jobs that a submitted there
--- change
+-- the state after an exchange of positions t and u of actor a. Of each job that actor a created at t or u, the recorded
+-- position changes. Nothing else changes.
 abbrev pub after_exchange : Parent → ℕ → ℕ → State → State
 after_exchange a t u s = record s { jobs = map (exchanged_job a t u) s.jobs }
 
@@ -32,8 +32,8 @@ both_alike s _ _ = false
 abbrev pub can_exchange : State → Parent → ℕ → ℕ → Bool
 can_exchange s a t u = both_alike s (child s a t) (child s a u)
 
--- the effect of an exchange of positions t and u of actor a, from state s to state s'. In s', a get of a's submit at one of the
--- two positions finds the job that a get of the other submit finds in s. Every other get finds the same job in both states.
+-- the effect of an exchange of positions t and u of actor a, from state s to state s'. The gets of the submits at t and u swap
+-- their jobs: each of them finds in s' the job that the other finds in s. Every other get finds the same job in both states.
 -- Each job has the same class, creator and stage in both states.
 pub record AreExchanged (s : State) (a : Parent) (t u : ℕ) (s' : State) : Type 0 where
   pub first : child s' a t ≡ child s a u
@@ -44,7 +44,7 @@ pub record AreExchanged (s : State) (a : Parent) (t u : ℕ) (s' : State) : Type
   pub creators : (j : ℕ) → (job_at s' j).parent ≡ (job_at s j).parent
   pub stages : (j : ℕ) → (job_at s' j).stage ≡ (job_at s j).stage
 
--- the law that an exchange swaps the jobs that gets of the two submits find, and changes nothing else on which a get or a pool
--- depends
+-- each exchange has the effect `AreExchanged`: the gets of the two submits swap their jobs, and nothing else changes on which a
+-- get or a pool depends
 abbrev pub ExchangesSwapTwoGets : Type 0
 ExchangesSwapTwoGets = (s : State) (a : Parent) (t u : ℕ) → AreExchanged s a t u (after_exchange a t u s)

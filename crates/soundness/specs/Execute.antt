@@ -2,9 +2,9 @@
 -- occur between two steps. The first step starts a thread if the pool has fewer than core threads. Otherwise the second step
 -- offers the job to the queue. If the queue has no room, the third step requests a thread.
 --
--- If core threads of a pool may time out, any idle thread can end, and then the queue may be left without a thread. So Java looks at
--- the pool after each successful offer and after the end of each thread, and starts a thread if there is none. Between the offer or
--- the end and that look, other events can occur.
+-- If core threads of a pool may time out, any idle thread can end, so the queue may be left without a thread. Therefore Java
+-- looks at the pool after each successful offer and after the end of each thread. It starts a thread if a job is queued and the
+-- pool has no thread. Other events can occur before that look.
 use Rattle.std.specs.Prelude.{ℕ, zero, suc, ◌+◌, ◌-◌, ◌==◌, ◌&&◌, ◌||◌, not, nat_lt, Bool, List, [], ◌∷◌, length, filter, Option, Some, None, slice_get, if◌then◌else◌}
 use Rattle.std.specs.List.{list_any}
 use Rattle.job_bodies.specs.declared.action.Action.{Action}
@@ -26,18 +26,18 @@ pub record Call : Type 0 where
   pub actor : Parent
   pub pool : ℕ
 
--- a state of the machine with the calls in progress: `offering` has the calls that found at least core threads, and whose next
--- step offers the job to the queue; `requesting` has the calls that found the queue full, and whose next step requests a thread;
--- `looking` has a pool, whose core threads may time out, for each call that queued its job and for each thread that ended, if Java
--- has not looked yet whether the pool needs a thread
+-- a state of the machine, with the calls of `execute` that are in progress. The calls in `offering` found at least core
+-- threads, and offer the job to the queue in their next step. The calls in `requesting` found the queue full, and request a
+-- thread in their next step. `looking` has the pools at which Java still has to look. Core threads of these pools may time out.
+-- Such a pool has one entry for each call that queued a job and for each thread that ended.
 pub record JavaState : Type 0 where
   pub machine : State
   pub offering : List Call
   pub requesting : List Call
   pub looking : List ℕ
 
--- an event in Java's steps: `Acts` is an event of the machine or a step of a submit; in `Leaves` Java looks at the pool and finds that
--- it needs no thread; in `Spares` it starts an idle thread there
+-- an event in Java's steps. `Acts` is an event of the machine or a step of a submit. In `Leaves`, Java looks at the pool and
+-- starts no thread. In `Spares`, Java looks at the pool and starts a thread that has no job yet.
 pub data JavaEvent : Type 0 where
   Acts : Event → JavaEvent
   Leaves : ℕ → JavaEvent
@@ -53,15 +53,16 @@ without_calls_of a calls = filter (λ call. not (same_parent a call.actor)) call
 
 -- ---- the pools at which Java will look
 
--- Java will look at pool p
+-- Java still has to look at pool p
 abbrev pub is_looking : List ℕ → ℕ → Bool
 is_looking looking p = list_any (λ q. p == q) looking
 
--- the list with pool p added, if core threads of p may time out
+-- the list with pool p added if core threads of p may time out, and otherwise the unchanged list
 abbrev pub joined : Plan → ℕ → List ℕ → List ℕ
 joined plan p looking = if (pool_at plan p).core_timeout then p ∷ looking else looking
 
--- the list after pool p gave this answer: Java looks at p after it queued the job
+-- the pools at which Java still has to look after pool p gave this answer. If p queued the job and core threads of p may time
+-- out, p is added.
 abbrev pub looking_after : Plan → ℕ → Offer → List ℕ → List ℕ
 looking_after plan p Queued looking = joined plan p looking
 looking_after plan p _ looking = looking
@@ -71,7 +72,8 @@ abbrev pub looked_once : ℕ → List ℕ → List ℕ
 looked_once p [] = []
 looked_once p (q ∷ looking) = if p == q then looking else q ∷ looked_once p looking
 
--- the state after Java looked at pool p and started no thread; None if it does not look at p, or a job is queued and p has no thread
+-- the state after Java looked at pool p and started no thread. None if Java does not have to look at p, or if p has a queued
+-- job and no thread.
 abbrev pub leaves : Plan → JavaState → ℕ → Option JavaState
 leaves plan s p =
     if is_looking s.looking p && (nat_lt 0 (threads plan s.machine p) || length (pool_part s.machine p).queue == 0) then Some (record s { looking = looked_once p s.looking })
@@ -81,7 +83,8 @@ leaves plan s p =
 abbrev pub with_spare : PoolView → PoolView
 with_spare pool = record pool { threads = pool.threads + 1; idle = pool.idle + 1 }
 
--- the state after Java looked at pool p and started a thread without a job; None if it does not look at p, or p has max threads
+-- the state after Java looked at pool p and started a thread without a job. None if Java does not have to look at p, or if p
+-- already has its maximum of threads.
 abbrev pub spares : Plan → JavaState → ℕ → Option JavaState
 spares plan s p =
     if is_looking s.looking p && nat_lt (threads plan s.machine p) (pool_at plan p).max then Some (record s { machine = with_pool p (with_spare (pool_seen plan s.machine p)) s.machine; looking = looked_once p s.looking })
@@ -97,7 +100,8 @@ timed_out_of pool (suc idle) = if has_spare_worker pool idle then Some (record p
 abbrev pub timed_out : PoolView → Option PoolView
 timed_out pool = timed_out_of pool pool.idle
 
--- the state after a thread of pool p, whose core threads may time out, ended, given the pool afterwards
+-- the state after a thread of pool p ended, given the pool afterwards. Core threads of p may time out, so Java then has to look
+-- at p.
 abbrev pub after_timeout : JavaState → ℕ → Option PoolView → Option JavaState
 after_timeout s p None = None
 after_timeout s p (Some pool) = Some (record s { machine = with_pool p pool s.machine; looking = p ∷ s.looking })
@@ -130,8 +134,8 @@ offers_job plan s a i k =
     if nat_lt (length (pool_part s.machine (pool_of plan k)).queue) (room_limit (pool_at plan (pool_of plan k)).unbounded (pool_at plan (pool_of plan k)).queue (pool_part s.machine (pool_of plan k)).idle (length (pool_part s.machine (pool_of plan k)).queue)) then answers plan s a i k Queued
     else offer_fails plan s a k
 
--- the state after the third step: if the pool has fewer than max threads, a new thread runs the job. Otherwise the job is refused or, if
--- the pool may reject jobs, the submit is skipped. This step does not check the queue, which may have room again
+-- the state after the third step: if the pool has fewer than max threads, a new thread runs the job. Otherwise the job is
+-- refused or, if the pool may reject jobs, the submit is skipped. This step does not check the queue, which may have room again
 abbrev pub requests_thread : Plan → JavaState → Parent → ℕ → ℕ → JavaState
 requests_thread plan s a i k = answers plan s a i k (if nat_lt (threads plan s.machine (pool_of plan k)) (pool_at plan (pool_of plan k)).max then Started else Refused)
 
@@ -169,8 +173,8 @@ abbrev pub as_atomic : JavaState → Option (State × Outcome) → Option JavaSt
 as_atomic s None = None
 as_atomic s (Some x) = Some (record s { machine = x.0 })
 
--- the state after an event that is no step of a submit: the event of the machine, but if core threads of a pool may time out, an idle
--- thread of it can end even if the pool needs it
+-- the state after an event that is no step of a submit. This is the state after the event of the machine, with one exception:
+-- if core threads of a pool may time out, an idle thread can end even if the pool needs it.
 abbrev pub other_step : Plan → JavaState → Event → Option JavaState
 other_step plan s (Retire p) = if (pool_at plan p).core_timeout then after_timeout s p (timed_out (pool_seen plan s.machine p)) else as_atomic s (step plan s.machine (Retire p))
 other_step plan s e = as_atomic s (step plan s.machine e)
@@ -179,8 +183,8 @@ abbrev pub java_stepped : Plan → JavaState → Event → Option Submission →
 java_stepped plan s e None = other_step plan s e
 java_stepped plan s e (Some x) = Some (executes plan s x.actor x.position x.class)
 
--- the state after the event, or None if the event is not possible; if the event's actor is at a submit, the event is the next
--- step of that submit, and otherwise it is the event of the machine or the end of a thread
+-- the state after the event, or None if the event is not possible. If the actor of the event is at a submit, the event is the
+-- next step of that submit.
 abbrev pub java_step : Plan → JavaState → JavaEvent → Option JavaState
 java_step plan s (Acts e) = java_stepped plan s e (submission plan s.machine e)
 java_step plan s (Leaves p) = leaves plan s p

@@ -31,19 +31,20 @@ bound_of cert p = (pool_cert_at cert p).bound
 abbrev pub BoundedPoolsNeverReject : Plan → (ℕ → Option Bound) → Type 0
 BoundedPoolsNeverReject plan bounds = (events : List Event) (s s' : State) (event : Event) (p j : ℕ) → Reaches plan events s → step plan s event ≡ Some (s', Rejected p j) → bounds p ≡ None
 
--- in every state that choices reach: if an actor's call requests a thread of a pool that has max threads, so that the job is refused or
--- rejected, the pool has no bound
+-- a pool that declines a job has no bound, in every state that a list of choices (`Choice`) reaches. A pool declines a job if
+-- an actor's call requests a thread of it while it has its maximum of threads. The job is then refused or rejected.
 abbrev pub BoundedPoolsNeverDecline : Plan → (ℕ → Option Bound) → Type 0
 BoundedPoolsNeverDecline plan bounds = (choices : List Choice) (s : JavaState) (event : Event) (x : Submission) → ChoicesReach plan choices s → submission plan s.machine event ≡ Some x
     → IsTrue (is_calling s.requesting x.actor (pool_of plan x.class)) → (pool_at plan (pool_of plan x.class)).max ≤ threads plan s.machine (pool_of plan x.class) → bounds (pool_of plan x.class) ≡ None
 
--- The guarantees of an accepted certificate for its plan. Every reachable state is safe. In every reachable state with an unfinished job,
--- an event of a job or a take is possible. The plan drains: if no client acts, the number of job events and takes that can follow is
--- bounded, and when none of them is possible, no job is unfinished. The first three fields are for submits of one event each. The `java`
--- fields are for submits in the steps of Java's `execute`. There Java also looks at pools whose core threads may time out, and a look is
--- like a take, but is not counted. The `skipping` fields are for these steps if actors also skip submits together with their gets and
--- exchange alike jobs. The last two fields say that a pool with a bound in the certificate rejects no job, even if it may: the first for
--- submits of one event each, and the second for the steps of the `skipping` fields.
+-- The guarantees of an accepted certificate for its plan. The first three fields are for submits of one event each. Every
+-- reachable state is safe. In every reachable state with an unfinished job, an event of a job or a take is possible. The plan
+-- drains: if no client acts, the number of job events and takes that can follow is bounded, and when none of them is possible,
+-- no job is unfinished. The `java` fields are for submits in the steps of Java's `execute`. In these steps, Java also looks at
+-- pools whose core threads may time out. A look is like a take, but is not counted. The `skipping` fields are for these steps
+-- if actors also skip submits together with their gets and exchange alike jobs. The last two fields say that a pool with a
+-- bound in the certificate rejects no job, even if it may reject jobs. The first of them is for submits of one event each, and
+-- the second for the steps of the `skipping` fields.
 pub record Promises (plan : Plan) (cert : Cert) : Type 0 where
   pub safe : Safe plan
   pub makes_progress : MakesProgress plan
@@ -66,29 +67,29 @@ AcceptedPlansAreSafe = (plan : Plan) (cert : Cert) → IsWellFormed plan → IsT
 abbrev pub AcceptedPlansMakeProgress : Type 0
 AcceptedPlansMakeProgress = (plan : Plan) (cert : Cert) → IsWellFormed plan → IsTrue (accepted plan cert) → MakesProgress plan
 
--- if a certificate accepts a well-formed plan, the plan drains: if no client acts, the number of job events and takes that can
--- follow is bounded, and when none of them is possible, no job is unfinished
+-- Let a certificate accept a well-formed plan, and let no client act after a reachable state. Then the number of job events and
+-- takes that can follow is bounded. When none of them is possible, no job is unfinished.
 abbrev pub AcceptedPlansDrain : Type 0
 AcceptedPlansDrain = (plan : Plan) (cert : Cert) → IsWellFormed plan → IsTrue (accepted plan cert) → Drains plan cert.ranks
 
--- pool p has a bound, a standing or a lifetime vector, whose rows hold and under which a rejected job does not increase the weight of a
--- state; or it has none and needs none, because it may reject jobs or its queue is unbounded
+-- the bound of pool p is valid. If there is a bound (a standing or a lifetime vector), its rows hold, and rejected jobs are
+-- light under it (`RejectedAreLight`). If there is none, p needs none, because it may reject jobs or its queue is unbounded.
 abbrev pub HasBound : Plan → ℕ → Option Bound → Type 0
 HasBound plan p None = IsTrue (needs_no_bound (pool_at plan p))
 HasBound plan p (Some bound) = IsTrue (vector_fits plan (bound_vector bound)) × AllHold (bound_rows plan p bound) × RejectedAreLight plan (bound_vector bound)
 
--- in the state, no submit was refused, and no pool has more threads than its maximum; no bounded queue has more jobs than its capacity, or
--- than its pool has idle workers if the capacity is 0
+-- in the state, no submit was refused, no pool has more threads than its maximum, and no bounded queue has more jobs than its
+-- capacity. If the capacity is 0, the queue has at most as many jobs as its pool has idle workers.
 pub record KeepsSizes (plan : Plan) (s : State) : Type 0 where
   pub none_refused : s.refusals ≡ 0
   pub within_max : (p : ℕ) → p < length plan.pools → threads plan s p ≤ (pool_at plan p).max
   pub within_queue : (p : ℕ) → p < length plan.pools → IsFalse (pool_at plan p).unbounded → length (pool_part s p).queue ≤ queue_limit (pool_at plan p).queue (pool_part s p).idle
 
--- every reachable state of the plan keeps the sizes
+-- in every reachable state of the plan, no submit was refused, and no pool exceeds its sizes (`KeepsSizes`)
 abbrev pub RefusesNothing : Plan → Type 0
 RefusesNothing plan = (events : List Event) (s : State) → Reaches plan events s → KeepsSizes plan s
 
--- if each pool of a well-formed plan has a bound or needs none, no submit is refused in any reachable state, whatever the jobs wait
+-- if `HasBound` holds for each pool of a well-formed plan, no submit is refused in any reachable state, whatever the jobs wait
 -- for
 abbrev pub BoundedPlansRefuseNothing : Type 0
 BoundedPlansRefuseNothing = (plan : Plan) (bounds : ℕ → Option Bound) → IsWellFormed plan → ((p : ℕ) → p < length plan.pools → HasBound plan p (bounds p)) → RefusesNothing plan
@@ -99,26 +100,27 @@ BoundedPlansRefuseNothing = (plan : Plan) (bounds : ℕ → Option Bound) → Is
 abbrev pub AcceptedPlansAreJavaSafe : Type 0
 AcceptedPlansAreJavaSafe = (plan : Plan) (cert : Cert) → IsWellFormed plan → IsTrue (accepted plan cert) → JavaSafe plan
 
--- if a certificate accepts a well-formed plan, an event of a job, a take or a look at a pool is possible in every state with an
--- unfinished job that is reachable in Java's steps
+-- Let a certificate accept a well-formed plan, and let a state with an unfinished job be reachable in Java's steps. Then an
+-- event of a job, a take or a look at a pool is possible in this state.
 abbrev pub AcceptedPlansMakeJavaProgress : Type 0
 AcceptedPlansMakeJavaProgress = (plan : Plan) (cert : Cert) → IsWellFormed plan → IsTrue (accepted plan cert) → JavaMakesProgress plan
 
--- if a certificate accepts a well-formed plan, the plan drains in Java's steps: if no client acts, the number of job events and
--- takes that can follow is bounded, and when neither they nor a look at a pool is possible, no job is unfinished
+-- Let a certificate accept a well-formed plan, and let no client act after a state that is reachable in Java's steps. Then the
+-- number of job events and takes that can follow is bounded. When no job event, no take and no look at a pool is possible, no
+-- job is unfinished.
 abbrev pub AcceptedPlansJavaDrain : Type 0
 AcceptedPlansJavaDrain = (plan : Plan) (cert : Cert) → IsWellFormed plan → IsTrue (accepted plan cert) → JavaDrains plan cert.ranks
 
--- every state that is reachable in Java's steps keeps the sizes
+-- in every state that is reachable in Java's steps, no submit was refused, and no pool exceeds its sizes (`KeepsSizes`)
 abbrev pub JavaRefusesNothing : Plan → Type 0
 JavaRefusesNothing plan = (events : List JavaEvent) (s : JavaState) → JavaReaches plan events s → KeepsSizes plan s.machine
 
--- if each pool of a well-formed plan has a bound or needs none, no submit is refused in any state that is reachable in Java's steps
+-- if `HasBound` holds for each pool of a well-formed plan, no submit is refused in any state that is reachable in Java's steps
 abbrev pub BoundedPlansJavaRefuseNothing : Type 0
 BoundedPlansJavaRefuseNothing = (plan : Plan) (bounds : ℕ → Option Bound) → IsWellFormed plan → ((p : ℕ) → p < length plan.pools → HasBound plan p (bounds p)) → JavaRefusesNothing plan
 
--- if each pool of a well-formed plan has a bound or needs none, and the bound of pool p is a standing vector, no call ever finds the queue
--- of p full. So no call requests a thread above core from p
+-- Let `HasBound` hold for each pool of a well-formed plan, and let the bound of pool p be a standing vector. Then no call ever
+-- finds the queue of p full, so no call requests a thread above core from p.
 abbrev pub StandingPoolsAreNotAsked : Type 0
 StandingPoolsAreNotAsked = (plan : Plan) (bounds : ℕ → Option Bound) (p : ℕ) (v : Vector) (events : List JavaEvent) (s : JavaState) (a : Parent) → IsWellFormed plan
     → ((q : ℕ) → q < length plan.pools → HasBound plan q (bounds q))
@@ -126,18 +128,18 @@ StandingPoolsAreNotAsked = (plan : Plan) (bounds : ℕ → Option Bound) (p : �
 
 -- ---- actors that skip submits together with their gets and exchange alike jobs
 
--- if a certificate accepts a well-formed plan, every state that choices reach is safe
+-- if a certificate accepts a well-formed plan, every state that a list of choices (`Choice`) reaches is safe
 abbrev pub AcceptedPlansMaySkip : Type 0
 AcceptedPlansMaySkip = (plan : Plan) (cert : Cert) → IsWellFormed plan → IsTrue (accepted plan cert) → SkippingIsSafe plan
 
--- if a certificate accepts a well-formed plan, an event of a job, a take or a look at a pool is possible in every state with an
--- unfinished job that choices reach
+-- Let a certificate accept a well-formed plan, and let a list of choices (`Choice`) reach a state with an unfinished job. Then
+-- an event of a job, a take or a look at a pool is possible in this state.
 abbrev pub AcceptedPlansMakeProgressWithSkips : Type 0
 AcceptedPlansMakeProgressWithSkips = (plan : Plan) (cert : Cert) → IsWellFormed plan → IsTrue (accepted plan cert) → SkippingMakesProgress plan
 
--- if a certificate accepts a well-formed plan, the plan drains after choices: if no client acts, the number of job events, takes
--- and skips by jobs that can follow is bounded, and when no job event, no take and no look at a pool is possible, no job is
--- unfinished
+-- Let a certificate accept a well-formed plan, and let no client act after a state that a list of choices (`Choice`) reaches.
+-- Then the number of job events, takes, skips by jobs and missed offers by jobs that can follow is bounded. When no job event,
+-- no take and no look at a pool is possible, no job is unfinished.
 abbrev pub AcceptedPlansDrainWithSkips : Type 0
 AcceptedPlansDrainWithSkips = (plan : Plan) (cert : Cert) → IsWellFormed plan → IsTrue (accepted plan cert) → SkippingDrains plan cert.ranks
 
@@ -147,6 +149,7 @@ AcceptedPlansDrainWithSkips = (plan : Plan) (cert : Cert) → IsWellFormed plan 
 abbrev pub AcceptedBoundsNeverReject : Type 0
 AcceptedBoundsNeverReject = (plan : Plan) (cert : Cert) → IsWellFormed plan → IsTrue (accepted plan cert) → BoundedPoolsNeverReject plan (bound_of cert)
 
--- if a certificate accepts a well-formed plan, a pool with a bound refuses and rejects no job in any state that choices reach
+-- if a certificate accepts a well-formed plan, a pool with a bound refuses and rejects no job in any state that a list of
+-- choices (`Choice`) reaches
 abbrev pub AcceptedBoundsNeverDecline : Type 0
 AcceptedBoundsNeverDecline = (plan : Plan) (cert : Cert) → IsWellFormed plan → IsTrue (accepted plan cert) → BoundedPoolsNeverDecline plan (bound_of cert)

@@ -23,14 +23,14 @@ JavaReaches plan events s = java_replay plan (Some (without_calls (start plan)))
 abbrev pub IsJavaReached : Plan → JavaState → Type 0
 IsJavaReached plan s = (events : List JavaEvent) × JavaReaches plan events s
 
--- Java will look at no pool in whose queue a member waits
+-- no member waits in the queue of a pool at which Java still has to look
 abbrev pub NoneLooks : Plan → JavaState → List ℕ → Type 0
 NoneLooks plan s members = WhereMembersQueue plan s.machine members (λ p. IsFalse (is_looking s.looking p))
 
--- The state is safe: no submit was refused, no pool has more threads than its maximum, no bounded queue is longer than its capacity (or
--- than the number of idle workers if its capacity is 0), and no set of unfinished jobs waits only for its own members, now or at later
--- gets. While Java will look at a pool, it may still start a thread there, so a set is no waiting set then. Java looks only at pools
--- whose core threads may time out.
+-- The state is safe. No submit was refused, and no pool has more threads than its maximum. No bounded queue is longer than its
+-- capacity or, if the capacity is 0, than the number of idle workers. No set of unfinished jobs waits only for its own members,
+-- now or at later gets. A set does not count if a member waits in the queue of a pool at which Java still has to look: Java may
+-- start a thread there. Java looks only at pools whose core threads may time out.
 pub record IsJavaSafe (plan : Plan) (s : JavaState) : Type 0 where
   pub none_refused : s.machine.refusals ≡ 0
   pub within_max : (p : ℕ) → p < length plan.pools → threads plan s.machine p ≤ (pool_at plan p).max
@@ -65,7 +65,8 @@ pub record JavaCanProgress (plan : Plan) (s : JavaState) : Type 0 where
   pub of_job_or_pool : IsTrue (is_of_java_pool event)
   pub possible : IsTrue (is_some (java_step plan s event))
 
--- in every state with an unfinished job that is reachable in Java's steps, an event of a job, a take or a look at a pool is possible
+-- in every state that is reachable in Java's steps, an event of a job, a take or a look at a pool is possible if a job is
+-- unfinished
 abbrev pub JavaMakesProgress : Plan → Type 0
 JavaMakesProgress plan = (events : List JavaEvent) (s : JavaState) → JavaReaches plan events s → (j : ℕ) → IsTrue (is_unfinished (job_at s.machine j).stage) → JavaCanProgress plan s
 
@@ -79,14 +80,14 @@ pub record JavaLeadsTo (plan : Plan) (s : JavaState) (events : List JavaEvent) (
 abbrev pub IsJavaQuiescent : Plan → JavaState → Type 0
 IsJavaQuiescent plan s = (event : JavaEvent) → IsTrue (is_of_java_pool event) → java_step plan s event ≡ None
 
--- If no client acts after a reachable state, the number of job events and takes that follow is at most three times the remaining
--- work of that state, because a submit is up to three events. When no job event, no take and no look at a pool is possible any longer,
--- no job is unfinished. Threads may end in between, as far as the pools allow it.
+-- Let no client act after a reachable state. Then the number of job events and takes that follow is at most three times the
+-- remaining work of that state. The factor is three because a submit is up to three events. When no job event, no take and no
+-- look at a pool is possible any longer, no job is unfinished. Threads may end in between, as far as the pools allow it.
 pub record JavaDrains (plan : Plan) (ranks : Ranks) : Type 0 where
   pub bounded : (s s' : JavaState) (events : List JavaEvent) → JavaLeadsTo plan s events s' → count_by is_java_job_or_take events ≤ 3 * todo plan ranks s.machine
   pub drained : (s s' : JavaState) (events : List JavaEvent) → JavaLeadsTo plan s events s' → IsJavaQuiescent plan s' → (j : ℕ) → IsFalse (is_unfinished (job_at s'.machine j).stage)
 
--- each state that the machine reaches with atomic submits is also reachable in Java's steps, with no call in progress and no pool at
--- which Java will look; if core threads of a pool may time out, the plan is well-formed
+-- Java's steps reach each state that the machine reaches with atomic submits. No call is then in progress, and Java does not
+-- have to look at any pool. If core threads of a pool may time out, the plan must be well-formed.
 abbrev pub AtomicStatesAreReached : Type 0
 AtomicStatesAreReached = (plan : Plan) (s : State) → ((p : ℕ) → IsTrue (pool_at plan p).core_timeout → IsWellFormed plan) → IsReached plan s → IsJavaReached plan (without_calls s)

@@ -1,6 +1,6 @@
--- Actors that skip submits of their bodies together with the gets of these submits, as with an `if` around both, and that get
--- jobs of one class in another order than their bodies. An actor decides anew each time which submits to skip and in which order
--- to get its jobs.
+-- Actors that skip submits of their bodies and change the order of their gets. An actor skips a submit together with its get,
+-- as with an `if` around both. It can get its jobs of one class in another order than its body says. An actor decides anew each
+-- time which submits to skip and in which order to get its jobs.
 use Rattle.std.specs.Prelude.{◌≡◌, ◌≤◌, ◌<◌, ◌+◌, ◌*◌, ◌||◌, ◌&&◌, ◌==◌, if◌then◌else◌, ℕ, Bool, true, false, IsTrue, IsFalse, List, [], ◌∷◌, length, Option, Some, None, slice_get, count_by, not}
 use Rattle.std.specs.List.{list_all}
 use Rattle.job_bodies.specs.declared.action.Action.{Action}
@@ -25,9 +25,10 @@ use Rattle.soundness.specs.Execute.{JavaState, JavaEvent, Submission, is_calling
 use Rattle.soundness.specs.JavaSafe.{IsJavaSafe, JavaCanProgress, IsJavaQuiescent}
 use Rattle.soundness.specs.Exchange.{after_exchange, can_exchange}
 
--- a choice: `Acts` performs an event. `Skips` makes the actor of the event skip the submit at which it is. `Misses` makes the offer of the
--- event's actor fail although a thread may be idle, which can happen at a queue of capacity 0. `Exchanges` exchanges the jobs that an actor
--- submitted at two positions. In `Leaves` and `Spares` Java looks at a pool
+-- a choice. `Acts` performs an event. `Skips` makes the actor of the event skip its current submit. `Misses` makes the offer of
+-- the event's actor fail at a queue of capacity 0, although a thread may be idle. `Exchanges` exchanges the jobs that an actor
+-- submitted at two positions. In `Leaves` and `Spares`, Java looks at the pool: it starts no thread in `Leaves`, and one in
+-- `Spares`.
 pub data Choice : Type 0 where
   Acts : Event → Choice
   Skips : Event → Choice
@@ -54,8 +55,8 @@ skip_submit plan s (Some x) = if has_begun plan s x then None else Some (record 
 abbrev pub has_no_queue : Pool → Bool
 has_no_queue pool = not pool.unbounded && pool.queue == 0
 
--- the state after the offer of the submit finds no thread at a queue of capacity 0, although a thread may be idle: it is not back at the
--- queue yet. None if there is no submit, its next step is no offer, or the queue has a greater capacity or is unbounded
+-- the state after the offer of the submit fails at a queue of capacity 0. A thread may be idle, but it has not returned to the
+-- queue yet. None if there is no submit, if its next step is no offer, or if the queue has a greater capacity or is unbounded.
 abbrev pub miss_thread : Plan → JavaState → Option Submission → Option JavaState
 miss_thread plan s None = None
 miss_thread plan s (Some x) =
@@ -89,8 +90,8 @@ ChoicesReach plan choices s = choices_replay plan (Some (without_calls (start pl
 abbrev pub SkippingIsSafe : Plan → Type 0
 SkippingIsSafe plan = (choices : List Choice) (s : JavaState) → ChoicesReach plan choices s → IsJavaSafe plan s
 
--- in every state with an unfinished job that choices reach, an event of a job, a take or a look at a pool is possible without a skip or an
--- exchange
+-- in every state that choices reach, an event of a job, a take or a look at a pool is possible if a job is unfinished; no skip
+-- and no exchange is needed for it
 abbrev pub SkippingMakesProgress : Plan → Type 0
 SkippingMakesProgress plan = (choices : List Choice) (s : JavaState) → ChoicesReach plan choices s → (j : ℕ) → IsTrue (is_unfinished (job_at s.machine j).stage) → JavaCanProgress plan s
 
@@ -105,31 +106,34 @@ is_of_jobs (Exchanges a t u) = false
 is_of_jobs (Leaves p) = false
 is_of_jobs (Spares p) = false
 
--- the choice is neither an event of a client nor a skip or a missed offer by a client; an exchange of a client's jobs does not count as an
--- action of the client
+-- the choice is not an event, a skip or a missed offer of a client. An exchange of a client's jobs does not count as an action
+-- of the client.
 abbrev pub no_client_acts : Choice → Bool
 no_client_acts (Acts e) = is_of_no_client e
 no_client_acts (Skips e) = is_of_no_client e
 no_client_acts (Misses e) = is_of_no_client e
 no_client_acts _ = true
 
--- the choices lead from the state s, which the choices `before` reach, to the state s', and no client acts in them
+-- The choices `before` reach the state s, and the given choices lead from s to the state s'. No client acts in the given
+-- choices.
 pub record ChoicesLeadTo (plan : Plan) (s : JavaState) (choices : List Choice) (s' : JavaState) : Type 0 where
   pub before : List Choice
   pub reached : ChoicesReach plan before s
   pub of_no_client : IsTrue (list_all no_client_acts choices)
   pub replayed : choices_replay plan (Some s) choices ≡ Some s'
 
--- Let no client act after a state that choices reach. Then the number of the job events, takes, skips by jobs and missed offers by jobs
--- that follow is at most three times the remaining work of that state. When no job event, no take and no look at a pool is possible any
--- longer, no job is unfinished. In between, threads may end, as far as the pools allow it, and jobs may be exchanged.
+-- Let no client act after a state that choices reach. Then the number of the job events, takes, skips by jobs and missed offers
+-- by jobs that follow is bounded: it is at most three times the remaining work of that state. When no job event, no take and no
+-- look at a pool is possible any longer, no job is unfinished. In between, threads may end, as far as the pools allow it, and
+-- jobs may be exchanged.
 pub record SkippingDrains (plan : Plan) (ranks : Ranks) : Type 0 where
   pub bounded : (s s' : JavaState) (choices : List Choice) → ChoicesLeadTo plan s choices s' → count_by is_of_jobs choices ≤ 3 * todo plan ranks s.machine
   pub drained : (s s' : JavaState) (choices : List Choice) → ChoicesLeadTo plan s choices s' → IsJavaQuiescent plan s' → (j : ℕ) → IsFalse (is_unfinished (job_at s'.machine j).stage)
 
 -- ---- laws
 
--- if the rows of a vector and of the ranks hold, a done job of a class weighs at most as much as a queued job of that class
+-- Let the rows of a vector and of the ranks hold. Then a done job of a class weighs at most as much as a queued job of that
+-- class.
 abbrev pub DoneWithinQueued : Type 0
 DoneWithinQueued = (get_return : GetReturn) (plan : Plan) (v : Vector) (ranks : Ranks) (k : ℕ) → IsWellFormed plan → AllHold (rank_rows plan ranks) → AllHold (rows get_return plan v) → k < length plan.classes → done_weight plan v k ≤ queued_weight v k
 
@@ -138,8 +142,8 @@ abbrev pub event_of_actor : Parent → Event
 event_of_actor (parent.Client c) = event.Client c
 event_of_actor (parent.Job j) = event.Job j
 
--- an actor at a get of its submit at position t can get its job of position u instead, if that job is done and the actor's jobs
--- of the two positions are alike: the actor exchanges the two jobs and then performs the get
+-- An actor at a get of its submit at position t can get its job of position u instead. The actor exchanges the two jobs and
+-- then performs the get. The job of position u must be done, and the actor's jobs of the two positions must be alike.
 abbrev pub AlikeJobsAreGotInAnyOrder : Type 0
 AlikeJobsAreGotInAnyOrder = (plan : Plan) (s : JavaState) (a : Parent) (body : List Action) (i t u j : ℕ) → point plan s.machine a ≡ Some (record { body = body; position = i }) → slice_get body i ≡ Some (Get t)
     → IsTrue (can_exchange s.machine a t u) → child s.machine a u ≡ Some j → (job_at s.machine j).stage ≡ Stage.Done

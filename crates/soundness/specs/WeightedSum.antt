@@ -15,9 +15,9 @@ stage_weight get_return plan v k (At i) = job_weight v k i
 stage_weight get_return plan v k Done = done_weight plan v k
 stage_weight get_return plan v k Claimed = claimed_weight get_return plan v k
 
--- the weight of a state: the sum of the weights of its clients, of its jobs, and of the workers of each pool that are not busy.
--- The number of workers that are not busy is the maximum minus the busy ones; in a reachable state no pool has more than max busy
--- workers.
+-- the weight of a state: the sum of the weights of its clients, its jobs and its workers that are not busy. Each pool counts as
+-- if it had its maximum of workers, so the number of workers that are not busy is the maximum minus the busy ones. In a
+-- reachable state, no pool has more than max busy workers.
 abbrev pub sum_of : GetReturn → Plan → Vector → State → ℕ
 sum_of get_return plan v s =
     sum_by (λ client. client_weight v client.kind client.position) s.clients

@@ -7,8 +7,8 @@ use Rattle.written_machine.specs.State.{pool_part, threads}
 use Rattle.soundness.specs.Execute.{JavaState, JavaEvent, java_step}
 use Rattle.soundness.specs.JavaSafe.{IsJavaReached}
 
--- an event that is possible in a reachable state in which the queue of pool p has room, the pool has at least core threads, and
--- at least one of them is idle
+-- a reachable state `before`, an event that is possible in it, and the state `after` the event. In `before`, the queue of pool
+-- p has room, and the pool has at least core threads, of which at least one is idle.
 pub record WithRoom (plan : Plan) (p : ℕ) : Type 0 where
   pub before : JavaState
   pub reached : IsJavaReached plan before

@@ -1,14 +1,17 @@
-//! Laws of accepted certificates, each as the contract of an empty function.
+//! Laws of accepted certificates, each as the contract of an empty function. They use these terms:
 //!
-//! A *take* is the event in which a worker takes a job from a queue. The *remaining work* of a job
-//! is the number of job events and takes that are left until it and all jobs that it will submit
-//! are done. A *standing* or *lifetime* vector bounds the queue of a pool, and its *rows* are the
-//! conditions on it. If a pool rejects a job as the plan allows, the submit does not count as
-//! refused: it is skipped together with its get.
-//!
-//! If core threads of a pool may time out, Java *looks* at the pool after each successful offer and
-//! after the end of each thread, and starts a thread if there is none. Other events can occur before
-//! that look.
+//! - A *job event* is an event in which a job performs its next action or finishes.
+//! - A *take* is the event in which a worker takes a job from a queue.
+//! - The *remaining work* of a job is the number of job events and takes that are left until it and
+//!   all jobs that it will submit are done.
+//! - A *standing* or *lifetime* vector bounds the queue of a pool. Its *rows* are the conditions on
+//!   it.
+//! - A pool that must not reject jobs *refuses* a job if it has no room. A pool that may reject
+//!   jobs *rejects* the job in this case. The submit is then skipped together with its get, and
+//!   does not count as refused.
+//! - Java *looks* at a pool whose core threads may time out, after each successful offer and after
+//!   the end of each thread. It starts a thread if a job is queued and the pool has no thread.
+//!   Other events can occur before that look.
 
 ghost use Rattle.soundness.specs.Headline.{
   AcceptedPlansAreSafe,
@@ -24,14 +27,15 @@ ghost use Rattle.soundness.specs.Headline.{
 ghost use Rattle.soundness.specs.Headline.{AcceptedPlansMaySkip, AcceptedPlansMakeProgressWithSkips, AcceptedPlansDrainWithSkips};
 ghost use Rattle.soundness.specs.Headline.{AcceptedBoundsNeverReject, AcceptedBoundsNeverDecline};
 
-/// States that, if a certificate accepts a well-formed plan, every reachable state is safe. In a
-/// safe state, these facts hold:
+/// States that every reachable state is safe if a certificate accepts a well-formed plan. In a safe
+/// state, these facts hold:
 ///
 /// - No submit was refused.
-/// - No set of unfinished jobs waits only for its own members, now or at later gets.
+/// - No set of unfinished jobs waits only for its own members, either now or at later gets of its
+///   members.
 /// - No pool has more threads than its maximum.
-/// - No bounded queue has more jobs than its capacity, or, if the capacity is 0, more jobs than its
-///   pool has idle workers.
+/// - No bounded queue has more jobs than its capacity. If the capacity is 0, the queue has at most
+///   as many jobs as its pool has idle workers.
 pub fn accepted_plans_are_safe()
     ensures { AcceptedPlansAreSafe }
 {}
@@ -42,20 +46,22 @@ pub fn accepted_plans_make_progress()
     ensures { AcceptedPlansMakeProgress }
 {}
 
-/// States that a well-formed plan drains if a certificate accepts it. The remaining work of a job
-/// is the number of job events and takes that are left until the job and all jobs that it will
-/// submit are done. Let no client act after a reachable state. Then these facts hold:
+/// States that a well-formed plan drains if a certificate accepts it. Suppose that no client acts
+/// after some reachable state. Then these facts hold:
 ///
-/// - At most as many job events and takes follow as the remaining work of the jobs in that state.
+/// - The number of job events and takes that follow is at most the remaining work of the jobs in
+///   that state. The remaining work of a job is the number of job events and takes that are still
+///   needed to finish the job and all jobs that it will submit.
 /// - When no job event and no take is possible any longer, no job is unfinished.
 ///
-/// Threads above core may end in between.
+/// Idle threads may end in between, as far as their pools allow it.
 pub fn accepted_plans_drain()
     ensures { AcceptedPlansDrain }
 {}
 
-/// States that a well-formed plan refuses no submit if its bounds hold, whatever its jobs wait for.
-/// No ranks and no blocked vectors are needed. One of these conditions must hold for each pool:
+/// States that a well-formed plan refuses no submit if the bounds of its pools hold. The law says
+/// nothing about jobs that wait for each other, and needs no ranks and no blocked vectors.
+/// One of these conditions must hold for each pool:
 ///
 /// - The pool has a bound, which is a standing or a lifetime vector, and the rows (the conditions)
 ///   of this vector hold. In this vector, a rejected job weighs at most as much as a queued job of
@@ -66,32 +72,43 @@ pub fn accepted_plans_drain()
 ///
 /// - No submit was refused.
 /// - No pool has more threads than its maximum.
-/// - No bounded queue has more jobs than its capacity, or, if the capacity is 0, more jobs than its
-///   pool has idle workers.
+/// - No bounded queue has more jobs than its capacity. If the capacity is 0, the queue has at most as
+///   many jobs as its pool has idle workers.
 pub fn bounded_plans_refuse_nothing()
     ensures { BoundedPlansRefuseNothing }
 {}
 
-/// Proves that, if a certificate accepts a well-formed plan, every reachable state is safe even if
-/// a submit takes the separate steps of Java's `execute`, with other events between them. While Java
-/// will look at a pool, the jobs in its queue do not count as waiting, because it may still start a
-/// thread there. It looks only at pools whose core threads may time out.
+/// Proves that accepted plans are safe in Java's steps. Let a certificate accept a well-formed
+/// plan, and let a submit take the separate steps of Java's `execute`, with other events between
+/// them. Then every reachable state is safe.
+///
+/// At some moments, Java still has to look at a pool whose core threads may time out, and may then
+/// start a thread there. Before that look, the jobs in the queue of this pool do not count as
+/// waiting.
 pub fn accepted_plans_are_java_safe()
     ensures { AcceptedPlansAreJavaSafe }
 {}
 
-/// Proves that a well-formed plan makes progress if a certificate accepts it, even if a submit
-/// takes the separate steps of Java's `execute`: in every reachable state with an unfinished job,
-/// an event of a job, a take from a queue or a look at a pool is possible.
+/// Proves that accepted plans make progress in Java's steps. Let a certificate accept a well-formed
+/// plan, and let a submit take the separate steps of Java's `execute`. Then one of these events is
+/// possible in every reachable state with an unfinished job:
+///
+/// - An event of a job.
+/// - A take from a queue.
+/// - A look at a pool, in which Java checks whether the pool needs a thread.
 pub fn accepted_plans_make_java_progress()
     ensures { AcceptedPlansMakeJavaProgress }
 {}
 
-/// Proves that a well-formed plan drains if a certificate accepts it, even if a submit takes the
-/// separate steps of Java's `execute`. If no client acts after a reachable state, the number of job
-/// events and takes that follow is at most three times the remaining work of the state's jobs. When
-/// no job event, no take and no look is possible any longer, no job is unfinished. Threads may end
-/// in between, as far as their pools allow it.
+/// Proves that accepted plans drain in Java's steps. Let a certificate accept a well-formed plan,
+/// and let a submit take the separate steps of Java's `execute`. Suppose that no client acts after
+/// some reachable state. Then these facts hold:
+///
+/// - The number of job events and takes that follow is at most three times the remaining work of
+///   the jobs in that state (see [`accepted_plans_drain`]).
+/// - When no job event, no take and no look at a pool is possible any longer, no job is unfinished.
+///
+/// Threads may end in between, as far as their pools allow it.
 pub fn accepted_plans_java_drain()
     ensures { AcceptedPlansJavaDrain }
 {}
@@ -122,19 +139,25 @@ pub fn accepted_plans_may_skip()
     ensures { AcceptedPlansMaySkip }
 {}
 
-/// States that a well-formed plan makes progress if a certificate accepts it, even if actors skip
-/// submits and exchange their jobs of one class. In every reachable state with an unfinished job,
-/// an event of a job, a take from a queue or a look at a pool is possible, without a further skip or
-/// exchange.
+/// States that accepted plans make progress even if actors skip submits and exchange their jobs of
+/// one class. Let a certificate accept a well-formed plan. Then an event of a job, a take from a
+/// queue or a look at a pool is possible in every reachable state with an unfinished job. No
+/// further skip or exchange is needed for it.
 pub fn accepted_plans_make_progress_with_skips()
     ensures { AcceptedPlansMakeProgressWithSkips }
 {}
 
-/// Proves that a well-formed plan drains if a certificate accepts it, even if actors skip submits
-/// and exchange their jobs of one class. If no client acts after a reachable state, the number of
-/// job events, takes and skips by jobs that follow is at most three times the remaining work of the
-/// state's jobs. When no job event, no take and no look is possible any longer, no job is
-/// unfinished. Threads may end, as far as their pools allow it, and jobs may be exchanged in between.
+/// Proves that accepted plans drain even if actors skip submits and exchange their jobs of one
+/// class. Let a certificate accept a well-formed plan, and suppose that no client acts after some
+/// reachable state. Then these facts hold:
+///
+/// - The number of job events, takes, skips by jobs and missed offers by jobs that follow has a
+///   limit. It is three times the remaining work of the jobs in that state (see
+///   [`accepted_plans_drain`]). A missed offer fails at a queue of capacity 0, although a thread may
+///   be idle.
+/// - When no job event, no take and no look at a pool is possible any longer, no job is unfinished.
+///
+/// Threads may end in between, as far as their pools allow it, and jobs may be exchanged.
 pub fn accepted_plans_drain_with_skips()
     ensures { AcceptedPlansDrainWithSkips }
 {}

@@ -4,17 +4,20 @@
 ghost use Rattle.soundness.specs.JavaSafe.{AtomicStatesAreReached};
 ghost use Rattle.soundness.specs.WithRoom.{RefusedWithRoom, StartedWithRoom};
 
-/// Proves that each state that atomic submits reach is also reachable in Java's steps, with no call
-/// in progress and no pool at which Java will look. The reason is that the steps of a submit can
-/// follow each other directly, and so can the end of a thread and Java's look at its pool. If core
-/// threads of a pool may time out, the plan must be well-formed.
+/// Proves that Java's steps reach every state that atomic submits reach. An atomic submit is one
+/// event, while a submit in Java's steps is up to three. When Java's steps reach the state, no call
+/// of `execute` is in progress, and Java does not have to look at any pool.
+///
+/// The reason is that no other event has to occur between the steps of a submit. The same is true
+/// between the end of a thread and Java's look at its pool. If core threads of a pool may time out,
+/// the plan must be well-formed.
 pub fn atomic_states_are_reached()
     ensures { AtomicStatesAreReached }
 {}
 
-/// States that Java can refuse a submit while the queue has room and a thread is idle. This happens
-/// if the queue was full when the call offered its job, and the pool has its maximum of threads
-/// when the same call requests a thread.
+/// States that Java can refuse a submit while the queue has room and a thread is idle. The call
+/// found the queue full when it offered its job. When it then requests a thread, the pool has its
+/// maximum of threads.
 pub fn java_may_refuse_with_room()
     ensures { RefusedWithRoom }
 {}

@@ -6,16 +6,16 @@ ghost use Rattle.soundness.specs.Exchange.{ExchangesSwapTwoGets};
 ghost use Rattle.soundness.specs.Skipping.{DoneWithinQueued};
 ghost use Rattle.soundness.specs.Skipping.{AlikeJobsAreGotInAnyOrder};
 
-/// States that a skipped submit does not increase the weight of a state, because it creates a done
-/// job in place of a queued job. Let the rows (the conditions) of a vector and of the ranks hold.
-/// Then a done job of a class weighs at most as much as a queued job of this class.
+/// States that a done job of a class weighs at most as much as a queued job of this class. The rows
+/// (the conditions) of the vector and of the ranks must hold. So a skipped submit does not increase
+/// the weight of a state: it creates a done job in place of a queued job.
 pub fn done_within_queued()
     ensures { DoneWithinQueued }
 {}
 
 /// States what changes if an actor exchanges its jobs at two of its submits:
 ///
-/// - The get of each of the two submits finds the job that the get of the other submit found
+/// - The gets of the two submits swap their jobs: each get finds the job that the other found
 ///   before.
 /// - Every other get finds the same job as before.
 /// - Each job keeps its class, its creator and its stage.

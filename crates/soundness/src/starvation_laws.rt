@@ -7,35 +7,40 @@
 ghost use Rattle.soundness.specs.CountedGets.{FewerThanCoreMayBlock, NoLooseWaitingSets};
 ghost use Rattle.soundness.specs.Drain.{FullIsWhole, FullIsOfThePlan};
 
-/// Proves a limit on the jobs of a pool that can be blocked, if the rows of the ranks and of the
-/// pool's blocked vector hold. In every reachable state, the number of these jobs is at most the
-/// vector's total, and less than the pool's core size, or than 1 if core threads may time out. A job
-/// can be blocked if it runs, and its current action or a later action is a counted get.
+/// Proves a limit on the jobs of a pool that can be blocked. A job can be blocked if it runs, and
+/// its current action or a later action is a counted get, which can block a thread that other jobs
+/// need. Let the rows (the conditions) of the ranks and of the pool's blocked vector hold. Then the
+/// number of these jobs has two limits in every reachable state:
+///
+/// - It is at most the vector's total.
+/// - It is less than the pool's core size. If core threads may time out, it is 0.
 pub fn fewer_than_core_may_block()
     ensures { FewerThanCoreMayBlock }
 {}
 
 /// States that jobs never wait only for each other, if the rows (the conditions) of the ranks and
-/// of a blocked vector for each pool hold. In every reachable state, each non-empty set of
-/// unfinished jobs has a member that does not wait only for members of the set.
+/// of a blocked vector for each pool hold. In every reachable state, no non-empty set of unfinished
+/// jobs waits only for its own members.
 ///
-/// The law also covers jobs that wait later. A running member already counts as waiting for another
-/// member in this case: it created the other member, and its body still has a get of a job of the
-/// other member's class.
+/// The law also covers jobs that have not yet reached their get. A running member already counts as
+/// waiting for a member that it created, if its body still has a get of a job of the same class.
 pub fn no_loose_waiting_sets()
     ensures { NoLooseWaitingSets }
 {}
 
-/// States how the work of a new job adds up, if the rows (the conditions) of the ranks hold. The
-/// work is a number of events: one for each action, one for the take of the job from the queue, and
-/// one for the end of the job. The work of the jobs that it submits is added.
+/// States the *work* of a new job, if the rows (the conditions) of the ranks hold. The work is the
+/// number of events of the job and of all jobs that it causes. It is the sum of these numbers:
+///
+/// - One event for each action of the job's body.
+/// - One event for the take of the job from the queue, and one for its end.
+/// - The work of each job that it submits.
 pub fn full_is_whole()
     ensures { FullIsWhole }
 {}
 
-/// States that the plan determines the work of a new job: it is the same for all ranks that satisfy
-/// their rows (the conditions), although the definition of work mentions ranks. The work is the
-/// number of events of the job and of all jobs that it causes.
+/// States that the work of a new job depends only on the plan, although its definition uses ranks.
+/// The work is the number of events of the job and of all jobs that it causes. It is the same for
+/// all ranks that satisfy their rows (the conditions).
 pub fn full_is_of_the_plan()
     ensures { FullIsOfThePlan }
 {}

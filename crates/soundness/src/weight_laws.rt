@@ -1,7 +1,8 @@
 //! Laws of weights, each as the contract of an empty function. A vector gives a weight to each
-//! point of a plan, and its *rows* are the conditions on these weights. The weight of a state is
-//! the sum of the weights of its clients, of its jobs, and of the workers that are not busy, if
-//! each pool has its maximum of workers.
+//! worker, to each client at each position of its body, and to each job at each stage. Its *rows*
+//! are the conditions on these weights. The weight of a state is the sum of the weights of its
+//! clients, its jobs and its workers that are not busy. Each pool counts here as if it had its
+//! maximum of workers.
 //!
 //! The laws require that *rejected jobs are light*: if a pool may reject jobs, a done job of its
 //! classes weighs at most as much as a queued one.
@@ -23,9 +24,9 @@ pub fn sum_stays_within_total()
     ensures { SumStaysWithinTotal }
 {}
 
-/// States that a pool refuses and rejects no job in any reachable state, if a standing or a
-/// lifetime vector of the pool satisfies its rows (the conditions). In this vector, a rejected job
-/// must weigh at most as much as a queued job. Nothing is assumed about the other pools.
+/// States that a pool refuses and rejects no job in any reachable state. A standing or a lifetime
+/// vector of the pool must satisfy its rows (the conditions). In this vector, a rejected job must
+/// weigh at most as much as a queued job. Nothing is assumed about the other pools.
 pub fn bounds_refuse_nothing()
     ensures { BoundsRefuseNothing }
 {}

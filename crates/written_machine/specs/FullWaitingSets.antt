@@ -15,11 +15,13 @@ WhereMembersQueue plan s members holds = (p j : ℕ) → IsMember members j → 
 abbrev pub HasMaxThreads : Plan → State → ℕ → Type 0
 HasMaxThreads plan s p = threads plan s p ≡ (pool_at plan p).max
 
--- pool p has its maximum of threads, or its queue is unbounded and it has at least core threads, so it starts none
+-- pool p is full: it has its maximum of threads, or its queue is unbounded and it has at least core threads. No offer starts a
+-- thread in a full pool.
 abbrev pub IsFull : Plan → State → ℕ → Type 0
 IsFull plan s p = HasMaxThreads plan s p ⊎ (IsTrue (pool_at plan p).unbounded × ((pool_at plan p).core ≤ threads plan s p))
 
--- in pool p, core equals the maximum, or the maximum is 1 if core threads may time out
+-- the sizes of pool p are fixed: core equals the maximum and core threads never time out, or they may time out and the maximum
+-- is 1
 abbrev pub IsFixed : Plan → ℕ → Type 0
 IsFixed plan p = least_threads (pool_at plan p) ≡ (pool_at plan p).max
 
@@ -28,8 +30,8 @@ pub record IsFullWaitingSet (plan : Plan) (s : State) (members : List ℕ) : Typ
   pub waits : IsWaitingSet plan s members
   pub full : WhereMembersQueue plan s members (IsFull plan s)
 
--- in state s' the members are still a full waiting set, each member is the same as in state s, and each pool with a queued member has as
--- many threads
+-- In state s', the members are still a full waiting set, and each member is the same as in state s. Each pool that has a queued
+-- member in s has the same number of threads in both states.
 pub record StaysFull (plan : Plan) (s s' : State) (members : List ℕ) : Type 0 where
   pub still : IsFullWaitingSet plan s' members
   pub unmoved : (j : ℕ) → IsMember members j → job_at s' j ≡ job_at s j
@@ -40,7 +42,8 @@ abbrev pub FullWaitingSetsStay : Type 0
 FullWaitingSetsStay = (plan : Plan) (s s' : State) (events : List Event) (members : List ℕ) → IsWellFormed plan → IsReached plan s → IsFullWaitingSet plan s members
     → replay plan (Some s) events ≡ Some s' → StaysFull plan s s' members
 
--- if each pool with a queued member of a waiting set is fixed, the set is full, and each of these pools has its maximum of threads
+-- Let `IsFixed` hold for each pool with a queued member of a waiting set. Then the set is full, and each of these pools has its
+-- maximum of threads.
 abbrev pub FixedPoolsAreFull : Type 0
 FixedPoolsAreFull = (plan : Plan) (s : State) (members : List ℕ) → IsWellFormed plan → IsReached plan s → IsWaitingSet plan s members
     → WhereMembersQueue plan s members (IsFixed plan) → IsFullWaitingSet plan s members × WhereMembersQueue plan s members (HasMaxThreads plan s)

@@ -17,7 +17,8 @@ is_of_pool plan p job = pool_of plan job.class == p
 abbrev pub jobs_made : Plan → State → ℕ → ℕ
 jobs_made plan s p = count_by (is_of_pool plan p) s.jobs
 
--- the number of threads and queued jobs of pool p is at most the number of jobs that were created for it, plus its prestarted threads
+-- the number of threads and queued jobs of pool p is at most the number of jobs that were created for it, plus its prestarted
+-- threads
 abbrev pub HasJobs : Plan → State → ℕ → Type 0
 HasJobs plan s p = threads plan s p + length (pool_part s p).queue ≤ jobs_made plan s p + first_workers (pool_at plan p)
 
@@ -25,8 +26,8 @@ HasJobs plan s p = threads plan s p + length (pool_part s p).queue ≤ jobs_made
 abbrev pub ThreadsHaveJobs : Type 0
 ThreadsHaveJobs = HoldsWhereReached (λ plan s. (p : ℕ) → p < length plan.pools → HasJobs plan s p)
 
--- a pool refuses a job only if the number of jobs that were created for it, plus its prestarted threads, is at least its queue capacity
--- plus its maximum
+-- Let n be the number of jobs that were created for a pool, plus its prestarted threads. The pool refuses a job only if n is at
+-- least its queue capacity plus its maximum.
 abbrev pub RefusalsNeedJobs : Type 0
 RefusalsNeedJobs = (plan : Plan) (p : ℕ) (s s' : State) (event : Event) → IsWellFormed plan → IsReached plan s → step plan s event ≡ Some (s', Refused p)
     → (pool_at plan p).queue + (pool_at plan p).max ≤ jobs_made plan s p + first_workers (pool_at plan p)

@@ -17,8 +17,8 @@ use Rattle.written_machine.specs.LooseWaiting.{IsLooseWaitingSet}
 abbrev pub HoldsWhereReached : (Plan → State → Type 0) → Type 0
 HoldsWhereReached holds = (plan : Plan) (s : State) → IsWellFormed plan → IsReached plan s → holds plan s
 
--- pool p has at most its maximum of threads. Unless its queue is unbounded, it has at most as many queued jobs as its capacity, or as idle
--- workers if the capacity is 0
+-- pool p has at most its maximum of threads. A bounded queue has at most as many jobs as its capacity. If the capacity is 0, it
+-- has at most as many jobs as the pool has idle workers.
 pub record KeepsSizes (plan : Plan) (s : State) (p : ℕ) : Type 0 where
   pub within_max : threads plan s p ≤ (pool_at plan p).max
   pub within_queue : IsFalse (pool_at plan p).unbounded → length (pool_part s p).queue ≤ queue_limit (pool_at plan p).queue (pool_part s p).idle
@@ -39,8 +39,8 @@ abbrev pub HasGreaterNumber : Parent → ℕ → Type 0
 HasGreaterNumber (Client c) n = ⊤
 HasGreaterNumber (Job j) n = j < n
 
--- actor a has a latest job that it created at position t; the job has class k, is not claimed, and has a greater number than a if a is a
--- job
+-- there is a latest job that actor a created at position t. This job has class k and is not claimed. If a is a job, the latest
+-- job has a greater number than a.
 pub record HasLatest (s : State) (a : Parent) (t k : ℕ) : Type 0 where
   pub number : ℕ
   pub is_child : child s a t ≡ Some number

@@ -1,6 +1,6 @@
--- The safety of a plan: in every reachable state no submit has been refused, and no pool has more threads than its maximum. No bounded
--- queue has more jobs than its capacity, or than its pool has idle workers if the capacity is 0. No set of unfinished jobs waits only for
--- its own members, now or at later gets.
+-- The safety of a plan. In every reachable state, no submit has been refused, no pool has more threads than its maximum, and no
+-- bounded queue has more jobs than its capacity. If the capacity is 0, the queue has at most as many jobs as its pool has idle
+-- workers. No set of unfinished jobs waits only for its own members, now or at later gets.
 use Rattle.std.specs.Prelude.{◌≡◌, ◌≤◌, ◌<◌, ℕ, Bool, true, false, IsTrue, IsFalse, is_some, List, length}
 use Rattle.job_bodies.specs.Plan.{Plan, pool_at}
 use Rattle.pool_machine.specs.PoolState.{queue_limit}

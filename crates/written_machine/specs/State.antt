@@ -37,8 +37,8 @@ pub record State : Type 0 where
   pub clients : List ClientState
   pub refusals : ℕ
 
--- the defaults for an index past the end of a list of the state; the default job is claimed, so that an unclaimed job is never the default
--- one
+-- the default values for an index past the end of a list of the state. The default job is claimed, so a job that is not claimed
+-- is never the default job.
 abbrev pub no_pool_part : PoolPart
 no_pool_part = record { queue = []; idle = 0 }
 
@@ -93,11 +93,11 @@ threads plan s p = (pool_part s p).idle + busy plan s p
 abbrev pub part_of : PoolView → PoolPart
 part_of pool = record { queue = pool.queue; idle = pool.idle }
 
--- the pool with these sizes, with this queue and these idle workers, and with this number of threads
+-- the view of a pool with these sizes, this queue, these idle workers and this number of threads
 abbrev pub pool_view : Pool → PoolPart → ℕ → PoolView
 pool_view pool part threads = record { core = pool.core; max = pool.max; capacity = pool.queue; unbounded = pool.unbounded; core_timeout = pool.core_timeout; threads = threads; idle = part.idle; queue = part.queue }
 
--- pool p in state s, as `pool_machine` sees a pool
+-- the view of pool p in state s, for the definitions of `pool_machine`
 abbrev pub pool_seen : Plan → State → ℕ → PoolView
 pool_seen plan s p = pool_view (pool_at plan p) (pool_part s p) (threads plan s p)
 

@@ -65,13 +65,13 @@ with_pool p pool s = record s { pools = slice_set s.pools p (part_of pool) }
 abbrev pub new_job : ℕ → Parent → ℕ → Stage → CreatedJob
 new_job k a i stage = record { class = k; parent = a; slot = i; stage = stage }
 
--- the state after actor a skipped its submit of a job of class k at position i: a new job is done at once, so that a get of the submit
--- returns, and the pools are unchanged
+-- the state after actor a skipped its submit of a job of class k at position i. A new job is done at once, so that a get of the
+-- submit returns. The pools are unchanged.
 abbrev pub skipped : State → Parent → ℕ → ℕ → State
 skipped s a i k = with_job (new_job k a i state.Stage.Done) (with_position a (i + 1) s)
 
--- the state and the outcome after actor a submitted a job of class k at position i, and the pool gave this answer. If the pool may reject
--- jobs and answers `Refused`, the submit is not refused but skipped
+-- the state and the outcome after actor a submitted a job of class k at position i, and the pool gave this answer. If the pool
+-- may reject jobs and answers `Refused`, the submit is not refused but skipped.
 abbrev pub answered : Plan → State → Parent → ℕ → ℕ → Offer → State × Outcome
 answered plan s a i k offer.Started =
     (with_job (new_job k a i (state.Stage.At 0)) (with_position a (i + 1) s), Started (length s.jobs))

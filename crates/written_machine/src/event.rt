@@ -11,9 +11,10 @@ pub enum Event {
     Job(usize),
     /// An idle worker of the pool with this index takes the head of the pool's queue.
     Take(usize),
-    /// An idle worker of the pool with this index ends. This is possible only while the pool has
-    /// more than core threads, or if its core threads may time out and it has another thread or no
-    /// queued job.
+    /// An idle worker of the pool with this index ends. This is possible only in these cases:
+    ///
+    /// - The pool has more than core threads.
+    /// - Core threads of the pool may time out, and the pool has another thread or no queued job.
     Retire(usize),
 }
 

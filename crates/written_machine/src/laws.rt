@@ -16,15 +16,16 @@ ghost use Rattle.written_machine.specs.Laws.{
 /// States that no pool exceeds its sizes in a reachable state of a well-formed plan:
 ///
 /// - A pool has at most its maximum of threads.
-/// - A bounded queue has at most as many jobs as its capacity or, if the capacity is 0, as many as
-///   its pool has idle workers.
+/// - A bounded queue has at most as many jobs as its capacity. If the capacity is 0, it has at most
+///   as many jobs as its pool has idle workers.
 pub fn pools_keep_their_sizes()
     ensures { PoolsKeepTheirSizes }
 {}
 
-/// Proves that, in every reachable state of a well-formed plan, a pool with a queued job has at
-/// least core threads, or at least one if its core threads may time out. A pool queues a job only
-/// if it has at least core threads, and the last threads do not end while jobs are queued.
+/// Proves that a pool with a queued job always has threads. In every reachable state of a
+/// well-formed plan, it has at least core threads, or at least one thread if its core threads may
+/// time out. The reason is that a pool queues a job only if it has at least core threads. Its last
+/// threads do not end while jobs are queued.
 pub fn queues_have_threads()
     ensures { QueuesHaveThreads }
 {}
@@ -59,16 +60,26 @@ pub fn waiting_sets_are_loose()
     ensures { WaitingSetsAreLoose }
 {}
 
-/// Proves that a waiting set is permanent if each pool with a queued member has its maximum of
-/// threads, or has an unbounded queue and at least core threads: after any list of events it is
-/// still a waiting set, its jobs are unchanged, and these pools have as many threads as before.
+/// Proves that a full waiting set is permanent. A waiting set is full if each pool with a queued
+/// member has its maximum of threads, or has an unbounded queue and at least core threads. Consider
+/// a full waiting set in a reachable state of a well-formed plan. After any list of events, these
+/// facts hold:
+///
+/// - The set is still a full waiting set.
+/// - Its jobs are unchanged.
+/// - The pools with a queued member have as many threads as before.
 pub fn full_waiting_sets_stay()
     ensures { FullWaitingSetsStay }
 {}
 
-/// Proves that, in every reachable state of a well-formed plan, each pool with a queued member of a
-/// waiting set has its maximum of threads. The assumption is that the core of each of these pools
-/// equals its maximum, or that its maximum is 1 if its core threads may time out.
+/// Proves that a waiting set is full if the sizes of its pools are fixed. The sizes of a pool are
+/// fixed in these cases:
+///
+/// - Its core equals its maximum, and its core threads never time out.
+/// - Its core threads may time out, and its maximum is 1.
+///
+/// In every reachable state of a well-formed plan, consider a waiting set. If the sizes of each
+/// pool with a queued member are fixed, each of these pools has its maximum of threads.
 pub fn fixed_pools_are_full()
     ensures { FixedPoolsAreFull }
 {}
@@ -81,9 +92,8 @@ pub fn threads_have_jobs()
 {}
 
 /// States that a pool refuses a job only after enough jobs were created for it. Let `n` be the
-/// number of these jobs plus the number of the pool's prestarted threads. If an event in a
-/// reachable state of a well-formed plan is a refusal by the pool, then `n` is at least the pool's
-/// queue capacity plus its maximum.
+/// number of these jobs plus the number of the pool's prestarted threads. If the pool refuses a job
+/// in a reachable state of a well-formed plan, `n` is at least its queue capacity plus its maximum.
 pub fn refusals_need_jobs()
     ensures { RefusalsNeedJobs }
 {}
