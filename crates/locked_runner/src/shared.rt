@@ -85,8 +85,8 @@ impl<'a> Shared<'a> {
         })
     }
 
-    /// Returns the history and the reported fault with the lowest number, or `None` if no thread
-    /// reported a fault.
+    /// Returns the history, and the reported fault with the lowest number. The fault is `None` if
+    /// no thread reported one.
     pub(crate) fn into_history(self) -> (Vec<Event>, Option<ThreadFault>) {
         let Shared {
             machine,
@@ -251,8 +251,8 @@ impl<'a> Shared<'a> {
         Wakeup::Worker(pool)
     }
 
-    /// Stops the run because the pool of a started or queued job was not found. Returns that all
-    /// threads are to wake.
+    /// Stops the run because the pool of a started or queued job was not found. Returns
+    /// [`Wakeup::All`], so that all threads notice the stop.
     fn end_without_worker<R: Wait>(&self, rt: &R) -> Wakeup {
         self.progress.lock(rt).end();
         Wakeup::All
@@ -284,8 +284,9 @@ impl<'a> Shared<'a> {
     }
 }
 
-/// Returns the job that the last event took from a queue, with `receipt`, the receipt of that
-/// event. Returns `None` if the last event took no job, or if the job is not found.
+/// Returns the job that the last event took from a queue. `receipt` is the receipt of that event,
+/// and becomes a part of the result. Returns `None` if the last event took no job, or if the job is
+/// not found.
 fn work_taken(guard: &MachineGuard<'_, '_>, receipt: Receipt<Event>) -> Option<Work> {
     match guard.state().outcome {
         Some(Outcome::Took(job)) => work_on(guard, job, Some(receipt)),

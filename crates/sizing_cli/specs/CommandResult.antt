@@ -126,7 +126,7 @@ pub record TaskWritesWithCertificate (task : Task) (file : Text) (input : List �
   pub status_is : status ≡ answer.status
 
 -- What a command returns besides its output. For `ask`, `left` is the text of the certificate that shows that the plan is safe.
--- It is None for any other finding. For other commands, nothing is claimed.
+-- It is None for any other answer, or if the text is too long to be read back. For other commands, nothing is claimed.
 abbrev pub WritesWithCertificate : Command → Text → List ℕ → Status → Option (List ℕ) → Option (List ℕ) → Option (List ℕ) → Type 0
 WritesWithCertificate (Sequential review) file input status left old new = Unit {0}
 WritesWithCertificate (OnRecording reading) file input status left old new = Unit {0}
