@@ -98,16 +98,16 @@ conform_shape = (of_both (codes "conform")).top
 abbrev pub learn_shape : Shape
 learn_shape = (with_rule (of_plan (codes "learn")) strict_option).top
 
--- the application after the subcommands `replay`, `check` and `explain` are added
+-- adds the subcommands `replay`, `check` and `explain` to the application
 abbrev pub with_review_commands : App → App
 with_review_commands program = with_subcommand (with_subcommand (with_subcommand program replay_shape) check_shape) explain_shape
 
--- the application after the subcommands `certify`, `fit`, `run`, `refute` and `ask` are added
+-- adds the subcommands `certify`, `fit`, `run`, `refute` and `ask` to the application
 abbrev pub with_tasks : App → App
 with_tasks program =
     with_subcommand (with_subcommand (with_subcommand (with_subcommand (with_subcommand program certify_shape) fit_shape) run_shape) refute_shape) ask_shape
 
--- the application after the subcommands `conform` and `learn` are added
+-- adds the subcommands `conform` and `learn` to the application
 abbrev pub with_recording_commands : App → App
 with_recording_commands program = with_subcommand (with_subcommand program conform_shape) learn_shape
 

@@ -64,8 +64,8 @@ form_named name =
     else (if bytes_eq name (codes "github") then Some Github
     else (if bytes_eq name (codes "sarif") then Some Sarif else None)))))
 
--- The output format that the options request: `--format`, if it has a value, and `--json` and `--dot`, if their flags are true.
--- None if two of them are given, or if no format has the name that is the value of `--format`.
+-- The output format that the options request. The arguments are the value of `--format`, and whether `--json` and `--dot` are
+-- given. None if two of these options are given, or if no format has the name that is the value of `--format`.
 abbrev pub form_of : Option Text → Bool → Bool → Option Form
 form_of None false false = Some Words
 form_of None true false = Some Json

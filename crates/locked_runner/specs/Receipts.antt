@@ -24,7 +24,7 @@ AreListsOf plan history [] [] = Unit {0}
 AreListsOf plan history (owner ∷ owners) (list ∷ lists) = AreReceiptsOf plan history owner 0 list × AreListsOf plan history owners lists
 AreListsOf plan history _ _ = ⊥
 
--- the number of receipts in the lists that have the number k
+-- the number of receipts in all lists whose number is k
 abbrev pub places_of : ℕ → List (List (Receipt Event)) → ℕ
 places_of k lists = sum_by (λ list. count_by (λ r. r.number == k) list) lists
 

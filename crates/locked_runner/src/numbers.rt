@@ -27,7 +27,7 @@ pub struct RunNumbers {
 /// times. With 0 rounds, a repeating client contributes nothing.
 ///
 /// The jobs that clients submit are generation 0, the jobs that these jobs submit are generation 1,
-/// and so on. The last generation that is counted has the number of the greatest level in `ranks`.
+/// and so on. The number of the last generation that is counted is the greatest level in `ranks`.
 /// If the rows (the conditions) of the ranks hold, no job is in a later generation.
 ///
 /// # Errors

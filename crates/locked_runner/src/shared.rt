@@ -58,7 +58,7 @@ pub(crate) struct Work {
 }
 
 impl<'a> Shared<'a> {
-    /// Creates the shared state, before the first event, of a run with `clients` clients.
+    /// Creates the shared state of a run with `clients` clients, before the first event.
     ///
     /// # Errors
     ///
@@ -125,9 +125,9 @@ impl<'a> Shared<'a> {
         None
     }
 
-    /// Waits for the next job of the pool and returns it, first from the hand-off queue, then from
-    /// the pool's queue. Returns `None` if the run is complete or the threads must stop. Stops the
-    /// run if memory runs out, or if the pool or the job is not found.
+    /// Waits for the next job of the pool, and returns it. Jobs of the hand-off queue come before
+    /// those of the pool's queue. Returns `None` if the run is complete or the threads must stop.
+    /// Stops the run if memory runs out, or if the pool or the job is not found.
     pub(crate) fn next_job<R: Wait>(&self, rt: &R, pool: usize) -> Option<Work> {
         let Some(handoff) = self.handoffs.get(pool) else {
             self.end(rt);

@@ -144,8 +144,8 @@ needed_of plan (Safe cert rejections) = needed_places plan cert
 needed_of plan (NotSafe witness sizes) = needed_by_sizes sizes
 needed_of plan (NotDecided sizes) = needed_by_sizes sizes
 
--- The lowered plan is the plan with each maximum lowered to the core size of its pool, unless core threads may time out. Its
--- certificate accepts it. `can_be_lowered` says for which plans there is a lowered plan.
+-- `lowered` has the lowered plan, and a certificate that accepts it. In the lowered plan, each maximum is lowered to the core
+-- size of its pool, unless core threads may time out. The plan must be one that can be lowered (`can_be_lowered`).
 pub record IsAcceptedAtCore (plan : Plan) (lowered : LoweredPlan) : Type 0 where
   pub can_be : can_be_lowered plan ≡ true
   pub is_at_core : lowered.plan ≡ at_core plan

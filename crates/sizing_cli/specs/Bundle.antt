@@ -8,7 +8,8 @@ pub record Bundle : Type 0 where
   pub plan : List ℕ
   pub second : List ℕ
 
--- The text after its first line, if this line is `%%`. If this line is also the last line of the text, it needs no newline.
+-- The rest of a text after its first line, if this line is `%%`. If this line is also the last line of the text, it needs no
+-- newline.
 abbrev pub after_separator : List ℕ → Option (List ℕ)
 after_separator text =
     if starts_with nat_eq text (37 ∷ 37 ∷ 10 ∷ []) then Some (drop 3 text) else (if bytes_eq text (37 ∷ 37 ∷ []) then Some [] else None)
@@ -17,8 +18,8 @@ abbrev pub bundle_here : Option (List ℕ) → Option Bundle
 bundle_here None = None
 bundle_here (Some second) = Some (record { plan = []; second = second })
 
--- The split of a text at its first line `%%`, with an empty plan. There is no split if the first line is not `%%`. There is
--- none either if the flag says that the text does not begin at the beginning of a line.
+-- The split of a text at its first line, if this line is `%%`. The plan of this split is empty. If the flag is false, the text
+-- does not begin at the beginning of a line, and there is no split.
 abbrev pub split_here : Bool → List ℕ → Option Bundle
 split_here false text = None
 split_here true text = bundle_here (after_separator text)

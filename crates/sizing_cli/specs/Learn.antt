@@ -126,8 +126,8 @@ pub record IsConformingText (recording text : List ℕ) : Type 0 where
 abbrev pub differences : Plan → List Finding → List ℕ
 differences plan findings = codes "no plan was written: the recording does not conform to it" ++ 10 ∷ findings_text plan findings
 
--- The answer for a learned plan with this text and these findings. Its status is a yes only if there are no findings. With
--- `--strict` (the flag), findings replace the text.
+-- The answer for a learned plan with this text and these findings. Its status is a yes only if there are no findings. If there
+-- are findings and the flag (`--strict`) is true, the findings replace the text.
 abbrev pub learned_answer : Bool → List ℕ → Plan → List Finding → Answer
 learned_answer strict text plan [] = record { text = text; status = Done }
 learned_answer false text plan (finding ∷ others) = record { text = text; status = Refused }

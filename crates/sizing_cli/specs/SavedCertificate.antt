@@ -50,9 +50,9 @@ abbrev pub IsReplaceable : (Text → Option (List ℕ)) → (Text → Option Boo
 IsReplaceable content directory named = IfSome named (IsReplaceableName content directory)
 
 -- The writes to files after an answer was written to the sink. `left` is the text of the certificate that the answer is based
--- on. There is no such text if the plan is not safe, or if the text is too long to be read back. If there is a text and a
--- certificate file is named, the only write is that of the text to this file. Otherwise there is no write. `is_done` is false
--- if the write failed.
+-- on. There is no such text if the plan is not shown to be safe, or if the text is too long to be read back. If there is a text
+-- and a certificate file is named, the only write is that of the text to this file. Otherwise there is no write. `is_done` is
+-- false if the write failed.
 pub record WritesCertificateFile (before after : Option (List FileWrite)) (named : Option Text) (is_done : Bool) (command : Command) (file : Text) (input : List ℕ) (status : Status) (old new : Option (List ℕ)) : Type 0 where
   pub left : Option (List ℕ)
   pub leaves : WritesWithCertificate command file input status left old new

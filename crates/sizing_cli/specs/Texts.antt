@@ -19,8 +19,8 @@ abbrev pub JoinedTextsSplitAgain : Type 0
 JoinedTextsSplitAgain = (plan second : List ℕ) → has_separator second ≡ false
     → bundle_of (join_texts plan second) ≡ Some (record { plan = whole_lines plan; second = second })
 
--- The part of a text that the command reads. It has at most one byte more than the longest input, which shows that a text is
--- too long.
+-- The part of a text that the command reads. It ends at most one byte after the longest valid input. This byte shows that the
+-- text is too long.
 abbrev pub read_part : Command → List ℕ → List ℕ
 read_part command = take (most_bytes command + 1)
 

@@ -29,7 +29,7 @@ use std::thread::Threads;
 /// The arguments name at most two files of `files`. If they name one file, it contains the whole
 /// input of the command. If they name two files, the first contains the plan. The second contains
 /// the text that follows the line `%%` in a whole input. The name `-` means `input`, the standard
-/// input. If no file is named, the whole input is read from there too.
+/// input. If no file is named, the whole input is read from `input`.
 ///
 /// The arguments can also name a certificate file. If the answer is based on a certificate, the
 /// certificate is written to this file after the answer. It is not written if its text is too long

@@ -102,8 +102,8 @@ fn plan_warnings(
     }
 }
 
-/// Returns the warnings about a plan for which a certificate accepts `lowered`, the plan with
-/// lowered maximums (see [`LoweredPlan`]).
+/// Returns the warnings about a plan that has a lowered plan. `lowered` is the lowered plan, and a
+/// certificate that accepts it.
 fn lowered_warnings(
     alloc: Global,
     text: &[u8],

@@ -71,8 +71,8 @@ fn fit_plan<R: Threads + Wait + Sync>(
     answer_of_sizes(rt, alloc, sizes_form, plan, &found)
 }
 
-/// Returns the answer for the result of a search for sizes. It is the sizes as lines, or the
-/// bundle, or the reason why there is neither.
+/// Returns the answer for the result of a search for sizes. The answer has the sizes, as lines or
+/// as a bundle, or the reason why it has none.
 ///
 /// # Errors
 ///
@@ -111,8 +111,8 @@ fn sizes_of<R: Threads + Wait + Sync>(
     Ok(search_sizes(alloc, plan, first)?)
 }
 
-/// Returns the answer that lists the sizes that were found as lines. If no sizes were found, the
-/// answer has the reason.
+/// Returns the answer with a line for each pool, which has the sizes that were found. If no sizes
+/// were found, the answer has the reason.
 fn lines_of(alloc: Global, plan: &Plan, found: &SizesFound) -> Result<Answer, AllocError>
     ensures { IfOk result (λ answer. answer ≡ spec.lines_answer plan.now found.now) }
 {

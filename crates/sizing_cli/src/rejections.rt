@@ -1,4 +1,5 @@
-//! The search for events after which a pool rejects a job. Only some pools may reject jobs.
+//! The search for events after which a pool rejects a job. A pool rejects jobs only if the plan
+//! allows it.
 
 ghost use Rattle.std.specs.Prelude.{IfOk, IfSome};
 ghost use Rattle.report.specs.Finding.{RejectsAfter, AreRejections};

@@ -37,8 +37,8 @@ pub fn replay_lines(alloc: Global, plan: &Plan, lines: EventLines<'_>) -> Result
     }
 }
 
-/// Appends the replies to the event lines, up to and including the first impossible event. Adds the
-/// number of jobs that pools rejected to `rejected`. Returns the number of the first malformed
+/// Appends the replies to the event lines, up to and including the first impossible event. Adds to
+/// `rejected` the number of jobs that pools rejected. Returns the number of the first malformed
 /// line, counted from 1, or `None` if no line is malformed.
 fn push_replies(
     alloc: Global,
