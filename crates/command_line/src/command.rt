@@ -210,7 +210,8 @@ fn parsed_args<'a>(matches: &ArgMatches<'a>) -> Option<Cli<'a>>
     })
 }
 
-// Returns whether a subcommand was entered with invalid options, which `clap` does not reject.
+// Returns whether a subcommand was entered with options that are invalid although `clap` accepts
+// them.
 fn is_refused(matches: &ArgMatches<'_>) -> bool
     ensures { result ≡ spec.is_refused (subcommand_rows_of matches.now) }
 {

@@ -58,7 +58,7 @@ pub fn serve_words<'a, R: Threads + Wait + Sync, F: TextFiles, S: Source, K: Sin
     input: &mut S,
     sink: &mut K,
 ) -> Result<Status, CliError<'a>>
-    // What was written, and the status, are a possible answer of the named command to the named
+    // What was written and the status belong to a possible answer of the named command to the named
     // texts.
     ensures named { IfOk result (λ _.
         (is_some (command_of (map (λ word. word.now) words.now)) ≡ true)
@@ -83,7 +83,8 @@ pub fn serve_words<'a, R: Threads + Wait + Sync, F: TextFiles, S: Source, K: Sin
         MeansSafe command text (K.written sink.old)
         (K.written sink.new)))) }
 
-    // The certificate that the answer rests on, if there is one, is all that is written to files.
+    // Nothing is written to files except the certificate that the answer is based on, if there is
+    // one.
     ensures kept { IfOk result (λ status.
         IfSome
         (command_of (map (λ word. word.now) words.now))
@@ -140,8 +141,8 @@ pub fn serve_words<'a, R: Threads + Wait + Sync, F: TextFiles, S: Source, K: Sin
     ensures nothing { IfErr result
         (λ fault. is_of_sink fault ≡ false → Keeps (K.written sink.old) (K.written sink.new)) }
 
-    // If the sink failed, a prefix of such an answer was written; if the certificate's file failed,
-    // the whole answer.
+    // If the sink failed, a prefix of a possible answer was written. If the certificate file could
+    // not be written, the whole answer was written.
     ensures before { IfErr result (λ fault.
         IfSome
         (command_of (map (λ word. word.now) words.now))

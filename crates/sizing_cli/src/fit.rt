@@ -191,7 +191,7 @@ fn bundle_of_sizes<R: Threads + Wait + Sync>(
             bytes,
             status: Status::Done,
         }),
-        // The check on threads contradicts the search, which a check on one thread cannot do.
+        // The check on threads contradicts the search. A check on one thread cannot contradict it.
         None => Err(ServeFault { number: MIXED }),
     }
 }
