@@ -138,7 +138,7 @@ needed_by_sizes (Found fit cert) = needed_places fit cert
 needed_by_sizes (NotFound cause) = []
 
 -- For each pool, the number of queue places that it needs. For a safe plan, the certificate of the finding proves this number.
--- For any other plan, it is that of `needed_by_sizes`.
+-- For any other plan, see `needed_by_sizes`.
 abbrev pub needed_of : Plan → PlanFinding → List (Option ℕ)
 needed_of plan (Safe cert rejections) = needed_places plan cert
 needed_of plan (NotSafe witness sizes) = needed_by_sizes sizes

@@ -1,5 +1,5 @@
--- The replies of a world, and the answer after some of the event lines. A world is the view of a state. A definition with a
--- world states something of every reachable state with this view.
+-- The replies of a world, and the answer after some of the event lines. A world is the view of a state, and several states can
+-- have the same view. A statement of a world concerns each reachable state with this view.
 use Rattle.std.specs.Prelude.{◌≡◌, ℕ, List, Option, Some, None}
 use Rattle.job_bodies.specs.Plan.{Plan}
 use Rattle.written_machine.specs.State.{State}

@@ -45,7 +45,7 @@ name_or_none (Some name) = name
 abbrev pub plan_name : Option Text × Option Text → Text
 plan_name (first, second) = name_or_none (file_named first)
 
--- the text of this file, or of standard input if there is none
+-- the text of the named file, or of standard input if no file is named; None if the text is not known
 abbrev pub text_of : (Text → Option (List ℕ)) → Option (List ℕ) → Option Text → Option (List ℕ)
 text_of files input None = input
 text_of files input (Some name) = files name
