@@ -9,7 +9,7 @@ use Rattle.job_bodies.specs.declared.limits.TheConstants.{DEFAULT_WORKERS, MAX_R
 abbrev pub file_argument : Text → Rule
 file_argument id = record (new_rule id) { action = Some Set; value_names = 1 }
 
--- the argument that names the file of the plan, or of all texts if it is the only file
+-- The argument that names the file of the plan. If it names the only file, this file has the whole input.
 abbrev pub plan_argument : Rule
 plan_argument = file_argument (codes "PLAN")
 
@@ -38,7 +38,7 @@ explain_shape = (of_both (codes "explain")).top
 abbrev pub number_option : Text → ℕ → ℕ → Rule
 number_option id low high = record (new_rule id) { long = Some id; action = Some Set; parser = Some (parser.Unsigned low high); value_names = 1 }
 
--- the option `--workers N`: the number of search threads
+-- the option `--workers N`: the maximum number of threads
 abbrev pub workers_option : Rule
 workers_option = record (number_option (codes "workers") 1 MAX_WORKERS) { defaults = decimal DEFAULT_WORKERS ∷ [] }
 
@@ -52,7 +52,7 @@ bundle_option = record (new_rule (codes "bundle")) { long = Some (codes "bundle"
 abbrev pub fit_shape : Shape
 fit_shape = (with_rule (of_plan (codes "fit")) bundle_option).top
 
--- the required option `--rounds N`: how often each repeating client goes through its body
+-- the required option `--rounds N`: the number of times that each repeating client performs its body
 abbrev pub rounds_option : Rule
 rounds_option = record (number_option (codes "rounds") 1 MAX_ROUNDS) { required = true }
 
@@ -66,7 +66,7 @@ states_option = record (number_option (codes "states") 1 MAX_STATES) { defaults 
 abbrev pub refute_shape : Shape
 refute_shape = (with_rule (with_rule (of_plan (codes "refute")) states_option) bundle_option).top
 
--- the option `--strict`, which has a different effect in `ask` and in `learn`
+-- the option `--strict` of `ask` and `learn`
 abbrev pub strict_option : Rule
 strict_option = record (new_rule (codes "strict")) { long = Some (codes "strict"); action = Some SetTrue }
 
@@ -98,20 +98,20 @@ conform_shape = (of_both (codes "conform")).top
 abbrev pub learn_shape : Shape
 learn_shape = (with_rule (of_plan (codes "learn")) strict_option).top
 
--- the application with the further subcommands `replay`, `check` and `explain`
+-- adds the subcommands `replay`, `check` and `explain` to the application
 abbrev pub with_review_commands : App → App
 with_review_commands program = with_subcommand (with_subcommand (with_subcommand program replay_shape) check_shape) explain_shape
 
--- the application with the further subcommands `certify`, `fit`, `run`, `refute` and `ask`
+-- adds the subcommands `certify`, `fit`, `run`, `refute` and `ask` to the application
 abbrev pub with_tasks : App → App
 with_tasks program =
     with_subcommand (with_subcommand (with_subcommand (with_subcommand (with_subcommand program certify_shape) fit_shape) run_shape) refute_shape) ask_shape
 
--- the application with the further subcommands `conform` and `learn`
+-- adds the subcommands `conform` and `learn` to the application
 abbrev pub with_recording_commands : App → App
 with_recording_commands program = with_subcommand (with_subcommand program conform_shape) learn_shape
 
--- the application without subcommands, which has a version
+-- the application `sizing` before its subcommands are added; it has a version
 abbrev pub program : App
 program = record (new_app (codes "sizing")) { top = record (new_app (codes "sizing")).top { has_version = true } }
 

@@ -29,11 +29,11 @@ use Rattle.command_line.specs.declared.command.Form.TheVariants.{Words, Json, Do
 abbrev pub number_in : ℕ → ℕ → Text → Option ℕ
 number_in low high text = if accepts false (parser.Unsigned low high) text then Some (digits_value 10 (without_leading_plus text)) else None
 
--- the number that the parsed arguments have for the option with this id; None if it is not from `low` to `high`
+-- The number that the parsed arguments have for the option with this id. None if there is no such number from `low` to `high`.
 abbrev pub number_of : Text → ℕ → ℕ → List Row → Option ℕ
 number_of id low high rows = option_and_then (number_in low high) (first_of id rows)
 
--- whether the option with this id was given; if so, `clap` stores the value `true` for it
+-- whether the option with this id was given, in which case `clap` stores the value `true` for it
 abbrev pub is_set : Text → List Row → Bool
 is_set id rows = option_map_or (λ text. bytes_eq text (codes "true")) (first_of id rows) false
 
@@ -54,7 +54,7 @@ abbrev pub ask_input_of : Option Text → AskInput
 ask_input_of None = PlanAlone
 ask_input_of (Some name) = WithCertificate
 
--- the output format with this name
+-- the output format with this name; None if there is none
 abbrev pub form_named : Text → Option Form
 form_named name =
     if bytes_eq name (codes "text") then Some Words
@@ -64,7 +64,8 @@ form_named name =
     else (if bytes_eq name (codes "github") then Some Github
     else (if bytes_eq name (codes "sarif") then Some Sarif else None)))))
 
--- the output format that `--format` with this value, `--json` and `--dot` request; None if two of them are given, or if no format has the name
+-- The output format that the options request. The arguments are the value of `--format`, and whether `--json` and `--dot` are
+-- given. None if two of these options are given, or if no format has the name that is the value of `--format`.
 abbrev pub form_of : Option Text → Bool → Bool → Option Form
 form_of None false false = Some Words
 form_of None true false = Some Json
@@ -78,7 +79,7 @@ form_of (Some name) false true = None
 abbrev pub form_in : List Row → Option Form
 form_in rows = form_of (first_of (codes "format") rows) (is_set (codes "json") rows) (is_set (codes "dot") rows)
 
--- whether an option that names a file was not given, or its value is the name of a file; the empty text and `-` are not
+-- Whether the value of an option can be the name of a file. The empty text and `-` cannot. True if there is no value.
 abbrev pub names_file : Option Text → Bool
 names_file None = true
 names_file (Some name) = not (bytes_eq name (codes "") || bytes_eq name (codes "-"))
@@ -87,11 +88,13 @@ names_file (Some name) = not (bytes_eq name (codes "") || bytes_eq name (codes "
 abbrev pub ask_in : List Row → Form → Task
 ask_in rows form = Ask (ask_input_of (first_of (codes "SECOND") rows)) (record { strict = is_set (codes "strict") rows; form = form })
 
--- the task `ask` with these parsed arguments; None if they request no output format or two, or if `--certificate` names no file
+-- The task `ask` with these parsed arguments. None if they request two output formats or an unknown one, or if the value of
+-- `--certificate` cannot be the name of a file.
 abbrev pub ask_named : List Row → Option Task
 ask_named rows = if names_file (first_of (codes "certificate") rows) then option_map (ask_in rows) (form_in rows) else None
 
--- the task of the subcommand with this name and these parsed arguments; None if their values are invalid, or if no task has this name
+-- The task of the subcommand with this name and these parsed arguments. None if no task has this name, or if the arguments are
+-- invalid.
 abbrev pub task_of : Text → List Row → Option Task
 task_of name rows =
     if bytes_eq name (codes "certify") then certify_with (number_of (codes "workers") 1 MAX_WORKERS rows)
@@ -104,7 +107,8 @@ task_of name rows =
 abbrev pub learn_with : Bool → RecordingCommand
 learn_with strict = Learn strict
 
--- the command of the subcommand with this name and these parsed arguments; None if their values are invalid
+-- the command of the subcommand with this name and these parsed arguments; None if there is none, or if the arguments are
+-- invalid
 abbrev pub command_named : Text × List Row → Option Command
 command_named (name, rows) =
     if bytes_eq name (codes "replay") then Some (Sequential Replay)
@@ -113,11 +117,11 @@ command_named (name, rows) =
     else (if bytes_eq name (codes "conform") then Some (OnRecording Conform)
     else (if bytes_eq name (codes "learn") then Some (OnRecording (learn_with (is_set (codes "strict") rows))) else option_map (λ task. OnThreads task) (task_of name rows)))))
 
--- the command of the subcommand that was entered; None if no subcommand was entered or its values are invalid
+-- the command of the subcommand that was entered; None if no subcommand was entered, or if its arguments are invalid
 abbrev pub command_among : Option (Text × List Row) → Option Command
 command_among = option_and_then command_named
 
--- the command that the arguments of a command line name
+-- the command that the arguments of a command line name; None if they name none
 abbrev pub command_of : List Text → Option Command
 command_of words = command_among (subcommand_of sizing words)
 
@@ -130,7 +134,8 @@ files_in (Some rows) = (first_of (codes "PLAN") rows, first_of (codes "SECOND") 
 abbrev pub files_among : Option (Text × List Row) → Option Text × Option Text
 files_among entered = files_in (option_map (λ entry. entry.1) entered)
 
--- the names of the two files that a command line has: that of the plan, or of all texts if it is the only file, and that of the second text
+-- The names of the two files on a command line. The first file is that of the plan, or of the whole input if there is no second
+-- file. The second file is that of the second text.
 abbrev pub files_of : List Text → Option Text × Option Text
 files_of words = files_among (subcommand_of sizing words)
 
@@ -143,11 +148,11 @@ abbrev pub certificate_in : Option (List Row) → Option Text
 certificate_in None = None
 certificate_in (Some rows) = first_of (codes "certificate") rows
 
--- the name of the file for a certificate of the subcommand that was entered, if one was
+-- the name of the certificate file of the subcommand that was entered, if one was entered
 abbrev pub certificate_among : Option (Text × List Row) → Option Text
 certificate_among entered = certificate_in (option_map (λ entry. entry.1) entered)
 
--- the name of the file for a certificate that a command line has
+-- the name of the certificate file on a command line; None if it has none
 abbrev pub certificate_of : List Text → Option Text
 certificate_of words = certificate_among (subcommand_of sizing words)
 
@@ -155,13 +160,13 @@ certificate_of words = certificate_among (subcommand_of sizing words)
 abbrev pub certificate_of_cli : Cli → Option Text
 certificate_of_cli cli = option_map (λ name. name.now) cli.certificate
 
--- whether a subcommand was entered with options that name no command: a number out of its range, two options that exclude each other, no
--- output format, or no file for a certificate
+-- Whether a subcommand was entered with options that name no command. Such options have a number out of its range, two output
+-- formats, an unknown output format, or a name that is not that of a certificate file.
 abbrev pub is_refused : Option (Text × List Row) → Bool
 is_refused entered = is_some entered && not (is_some (command_among entered))
 
--- the kinds of error that the arguments of a command line can have: the kinds of the first fault that `clap` finds; if it finds none, the
--- kind for options that name no command
+-- The kinds of error that the arguments of a command line can have. If `clap` finds a fault, they are the kinds of the first
+-- fault. Otherwise they are the kind for options that name no command (`is_refused`), or none.
 abbrev pub faults_of : List Text → Kinds
 faults_of words = or_else (fault_of sizing words) (if is_refused (subcommand_of sizing words) then ValueValidation ∷ [] else [])
 

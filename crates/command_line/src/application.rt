@@ -93,7 +93,8 @@ fn explain<'a>(alloc: Global) -> Result<Command<'a>, AllocError>
     of_both(alloc, "explain", help::EXPLAIN)
 }
 
-// Creates the argument that names the file of the plan, or of all texts if it is the only file.
+// Creates the argument that names the file of the plan. If it is the only file, it has the whole
+// input.
 fn plan<'a>(alloc: Global) -> Arg<'a>
     ensures rule { rule_of result ≡ file_argument (codes "PLAN") }
     ensures local { result.global ≡ false }
@@ -234,7 +235,7 @@ fn recording<'a>(alloc: Global) -> Arg<'a>
         .help("The file of the recording; `-` is standard input")
 }
 
-// Creates the option `--strict`, which has a different effect in `ask` and in `learn`.
+// Creates the option `--strict` of `ask` or `learn` with this help text.
 fn strict<'a>(alloc: Global, help: &'a str) -> Arg<'a>
     ensures rule { rule_of result ≡ strict_option }
     ensures local { result.global ≡ false }

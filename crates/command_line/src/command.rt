@@ -43,8 +43,8 @@ pub enum RecordingCommand {
     Conform,
     /// Derives a plan from a recording.
     Learn {
-        /// Whether the command writes differences in place of the learned plan, if the recording
-        /// does not conform to this plan.
+        /// Whether the command writes the differences in place of the learned plan. It does so only
+        /// if the recording does not conform to this plan.
         strict: bool,
     },
 }
@@ -54,7 +54,8 @@ pub enum RecordingCommand {
 pub enum Task {
     /// Searches for a certificate.
     Certify {
-        /// The number of threads that search, from 1 to 64. The default is 4.
+        /// The maximum number of threads of the search and of the check, from 1 to 64. The default
+        /// is 4.
         workers: usize,
     },
     /// Searches for sizes with which a certificate accepts the plan.
@@ -62,11 +63,10 @@ pub enum Task {
         /// The output format for the sizes.
         sizes_form: SizesForm,
     },
-    /// Runs a plan on threads if a certificate accepts the plan, and counts the jobs and the units
-    /// of work.
+    /// Runs a plan on threads, and counts the jobs and the units of work. A certificate must accept
+    /// the plan.
     Run {
-        /// The number of times that each repeating client passes through its body, from 1 to
-        /// 1,000,000.
+        /// The number of times that each repeating client performs its body, from 1 to 1,000,000.
         rounds: u64,
     },
     /// Searches for events that show that a plan is unsafe.
@@ -95,16 +95,16 @@ pub struct Cli<'a> {
     /// The second file, which holds the text that follows the plan. `None` means that no second
     /// file is named, and `-` means standard input.
     pub second: Option<&'a str>,
-    /// The file to which a certificate is written if one is found. `None` means that no certificate
-    /// is to be written.
+    /// The file to which a certificate is written, if one is found. `None` means that no
+    /// certificate is to be written.
     pub certificate: Option<&'a str>,
 }
 
 /// An output format of `fit`.
 #[derive(Clone, Copy, Debug, PartialEq, Eq)]
 pub enum SizesForm {
-    /// A line for each pool, in which the sizes that change are marked, and then the number of
-    /// changes.
+    /// A line for each pool, and then the number of sizes that change. These sizes are marked in
+    /// the lines.
     Sizes,
     /// The plan with the new sizes, and its certificate.
     Bundle,
@@ -131,7 +131,8 @@ pub enum AskInput {
 /// The options of `ask`.
 #[derive(Clone, Copy, Debug, PartialEq, Eq)]
 pub struct AskOptions {
-    /// Whether the exit status is 1 in place of 0 if the plan is safe but has a warning.
+    /// Whether a warning about a safe plan changes the exit status from 0 to 1. A note does not
+    /// change it.
     pub strict: bool,
     pub form: Form,
 }
@@ -153,7 +154,7 @@ pub enum Form {
     Sarif,
 }
 
-/// Parses the arguments of a command line, of which the first is the program's name. Returns `None`
+/// Parses the arguments of a command line. The first argument is the program's name. Returns `None`
 /// if the arguments name no command. The numbers in a returned command are in their ranges.
 ///
 /// # Errors
@@ -209,7 +210,8 @@ fn parsed_args<'a>(matches: &ArgMatches<'a>) -> Option<Cli<'a>>
     })
 }
 
-// Returns whether a subcommand was entered with invalid options, which `clap` does not reject.
+// Returns whether a subcommand was entered with options that are invalid although `clap` accepts
+// them.
 fn is_refused(matches: &ArgMatches<'_>) -> bool
     ensures { result ≡ spec.is_refused (subcommand_rows_of matches.now) }
 {

@@ -1,4 +1,4 @@
-//! The errors for arguments that `clap` accepts, but whose values or combination `ask` rejects.
+//! The error for options of `ask` that `clap` accepts and the program rejects.
 ghost use Rattle.std.specs.Prelude.{◌≡◌, IfOk};
 ghost use Rattle.clap.specs.Words.{kind_of};
 ghost use Rattle.clap.specs.declared.error.kind.ErrorKind.TheVariants.{ValueValidation};

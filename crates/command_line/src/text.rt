@@ -13,8 +13,8 @@ pub(crate) fn text_of<'a>(options: &ArgMatches<'a>, id: &str) -> Option<&'a str>
     options.get_str(id)
 }
 
-/// Returns `true` if the value can be the name of a file to write, which means that it is neither
-/// empty nor `-`. Also returns `true` if there is no value.
+/// Returns `true` if the value can be the name of a file to write, or if there is no value. The
+/// empty text and `-` cannot be such a name.
 pub(crate) fn names_file(value: Option<&str>) -> bool
     ensures { result ≡ spec.names_file (option_map (λ text. text.now) value.entry) }
 {

@@ -3,8 +3,8 @@ use Rattle.std.specs.Prelude.{ℕ, Bool, not, ◌&&◌, ◌||◌, if◌then◌el
 use Rattle.job_bodies.specs.Plan.{Pool}
 use Rattle.job_bodies.specs.WellFormed.{has_no_max}
 
--- no more than core threads of the pool execute jobs of a run, whatever its maximum: its queue is unbounded, and its core threads never
--- time out or it has no maximum
+-- Whether a run needs only core threads for the pool, whatever its maximum. This is so if the queue is unbounded and core
+-- threads never time out. It is also so if the pool has no maximum.
 abbrev pub needs_core_only : Pool → Bool
 needs_core_only pool = (pool.unbounded && not pool.core_timeout) || has_no_max pool
 

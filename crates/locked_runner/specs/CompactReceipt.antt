@@ -6,7 +6,7 @@ use Rattle.held_machines.specs.declared.held.Receipt.{Receipt}
 use Rattle.locked_runner.specs.declared.compact_receipt.Kind.{Kind}
 use Rattle.locked_runner.specs.declared.compact_receipt.Kind.TheVariants as kind
 
--- the event of this kind, of the client, job or pool with the number n
+-- the event of this kind, with n as the number of its client, job or pool
 abbrev pub event_of : Kind → ℕ → Event
 event_of kind.Client n = event.Client n
 event_of kind.Job n = event.Job n

@@ -11,7 +11,7 @@ use Rattle.locked_runner.specs.Owner.{kinds_of}
 abbrev pub rounds_of : ℕ → Client → ℕ
 rounds_of rounds client = if client.repeat then rounds else 1
 
--- the number of events of a client: those of its rounds, plus a loop event between consecutive rounds
+-- the number of events of a client: those of its rounds, and one event between two consecutive rounds
 abbrev pub events_of_client : ℕ → Client → ℕ
 events_of_client rounds client = rounds_of rounds client * length client.body + rounds_of rounds client - 1
 

@@ -21,14 +21,14 @@ clients plan = sum_by (λ client. client.count) plan.clients
 abbrev pub workers : Plan → ℕ
 workers plan = sum_by carriers plan.pools
 
--- a run of the plan exceeds a limit, if `events` is the bound on its number of events
+-- whether a run of the plan exceeds a limit; `events` is the upper bound of its number of events
 abbrev pub exceeds_limits : Plan → ℕ → Bool
 exceeds_limits plan events = may_reject plan || nat_lt MAX_RUN_CLIENTS (clients plan) || nat_lt MAX_RUN_CARRIERS (workers plan) || nat_lt MAX_RUN_EVENTS events
 
 abbrev pub is_too_large : Plan → Ranks → ℕ → Bool
 is_too_large plan ranks rounds = exceeds_limits plan (most_events plan ranks rounds)
 
--- the limit to report of a run that is too large: the first of the limits on rejecting pools, on clients and on threads that the plan
--- exceeds, or the limit on events if it exceeds none of these
+-- The limit to report for a run that is too large. It is the first of these limits that the plan exceeds: on rejecting pools,
+-- on clients, on threads. If the plan exceeds none of them, it is the limit on events.
 abbrev pub limit_of : Plan → RunLimit
 limit_of plan = if may_reject plan then Rejections else if nat_lt MAX_RUN_CLIENTS (clients plan) then Clients else if nat_lt MAX_RUN_CARRIERS (workers plan) then Threads else Events

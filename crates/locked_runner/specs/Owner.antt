@@ -10,8 +10,8 @@ use Rattle.locked_runner.specs.Carriers.{carriers}
 use Rattle.locked_runner.specs.declared.owner.Owner.{Owner}
 use Rattle.locked_runner.specs.declared.owner.Owner.TheVariants as owner
 
--- the owner of the event in the state before it: the client, or the pool whose thread takes the job or performs its actions; a retirement
--- has no owner, because no thread of a run performs it
+-- The owner of an event in state s. A client owns its own events. A pool owns the events in which its threads take jobs or
+-- perform the actions of jobs. A retirement has no owner, because no thread of a run performs it.
 abbrev pub owner_in : Plan → State → Event → Option Owner
 owner_in plan s (event.Client c) = Some (owner.Client c)
 owner_in plan s (event.Job j) = Some (owner.Pool (pool_of plan (job_at s j).class))
@@ -35,14 +35,14 @@ pool_lists entry = replicate (carriers entry.1) (owner.Pool entry.0)
 abbrev pub lists_of : Plan → List Owner
 lists_of plan = map client_list (enumerate_from 0 (kinds_of plan)) ++ flat_map pool_lists (enumerate_from 0 plan.pools)
 
--- the owner of the event; if it is an event of a job, it is computed from the pool of this job
+-- the owner of the event; for an event of a job, `pool` must be the pool of this job
 abbrev pub owner_by : Event → ℕ → Option Owner
 owner_by (event.Client c) pool = Some (owner.Client c)
 owner_by (event.Job j) pool = Some (owner.Pool pool)
 owner_by (event.Take p) pool = Some (owner.Pool p)
 owner_by (event.Retire p) pool = None
 
--- the list has a pool for each event of the history, and each event and its pool determine the owner of the event
+-- The list has a pool for each event of the history. The event and this pool determine the owner of the event (`owner_by`).
 pub record ArePoolsOf (plan : Plan) (history : List Event) (pools : List ℕ) : Type 0 where
   pub as_many : length pools ≡ length history
   pub each : (n : ℕ) (s : State) (e : Event) (pool : ℕ) → slice_get history n ≡ Some e → slice_get pools n ≡ Some pool → Reaches plan (take n history) s → owner_in plan s e ≡ owner_by e pool

@@ -1,4 +1,4 @@
--- The results of the threads of a run, and the report of a run, with lists in place of vectors.
+-- The results of the threads of a run, and the report of a run. They have lists where the program has vectors.
 use Rattle.std.specs.Prelude.{ℕ, List, Option}
 use Rattle.written_machine.specs.declared.event.Event.{Event}
 use Rattle.held_machines.specs.declared.held.Receipt.{Receipt}

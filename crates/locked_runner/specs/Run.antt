@@ -1,4 +1,4 @@
--- Complete runs of a plan, and the faults for all other results of threads.
+-- Complete runs of a plan. If the results of the threads are not a complete run, there is a fault.
 use Rattle.std.specs.Prelude.{◌≡◌, ◌<◌, ◌≤◌, ◌+◌, ◌⊎◌, ℕ, List, length, take, sum_by, Option, Some, None}
 use Rattle.support.specs.declared.number.TheConstants.{MEMORY, STRANGE, MIXED, GATE}
 use Rattle.job_bodies.specs.Plan.{Plan}
@@ -35,7 +35,7 @@ units_done plan history = sum_by worked (outcomes plan (Some (start plan)) histo
 abbrev pub Works : Plan → List Event → ℕ → Type 0
 Works plan history units = units_done plan history ≡ units
 
--- the history is legal, and complete for this number of rounds, and these are its receipts
+-- The history is legal, and complete for this number of rounds. The lists have the receipts of its events.
 pub record IsRun (plan : Plan) (rounds : ℕ) (history : List Event) (lists : List (List (Receipt Event))) : Type 0 where
   pub last : State
   pub legal : Reaches plan history last
@@ -60,19 +60,20 @@ abbrev pub number_of : ThreadFault → ℕ
 number_of cause.Memory = MEMORY
 number_of cause.Gate = GATE
 
--- fault 41: the receipts of a list are not in ascending order, or one of them is not the receipt of an event in the legal
--- part that belongs to the list's owner
+-- Fault 41: the lists of receipts do not match the legal part of the history. The number of lists is wrong, or the receipts of
+-- a list are not in ascending order, or one of them is not the receipt of an event of the list's owner.
 pub record IsStrange (plan : Plan) (history : List Event) (lists : List (List (Receipt Event))) (fault : RunFault) : Type 0 where
   pub number : fault.number ≡ STRANGE
   pub strange : ¬ AreListsOf plan (take fault.events history) (lists_of plan) lists
 
--- fault 42: each list has receipts of its owner in ascending order, but the run is not complete or has other numbers of jobs or units
+-- Fault 42: each list has receipts of its owner in ascending order. But the run is not complete, or it has other numbers of
+-- jobs or units.
 pub record IsMixed (plan : Plan) (rounds jobs units : ℕ) (history : List Event) (lists : List (List (Receipt Event))) (fault : RunFault) : Type 0 where
   pub number : fault.number ≡ MIXED
   pub owner_lists : AreListsOf plan (take fault.events history) (lists_of plan) lists
   pub mixed : ¬ (IsRun plan rounds history lists × Makes plan history jobs × Works plan history units)
 
--- the fault of a check that has enough memory: the one that a thread reported, or 41 or 42 if no thread reported one
+-- The fault of a check that has enough memory. If a thread reported a fault, it is this fault. Otherwise it is 41 or 42.
 abbrev pub IsAnswerTo : Plan → ℕ → ℕ → ℕ → List Event → List (List (Receipt Event)) → Option ThreadFault → RunFault → Type 0
 IsAnswerTo plan rounds jobs units history lists (Some cause) fault = fault.number ≡ number_of cause
 IsAnswerTo plan rounds jobs units history lists None fault = IsStrange plan history lists fault ⊎ IsMixed plan rounds jobs units history lists fault

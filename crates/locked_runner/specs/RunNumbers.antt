@@ -18,17 +18,18 @@ units_of _ = 0
 abbrev pub units_in : List Action → ℕ
 units_in body = sum_by units_of body
 
--- the sum of f over the classes that the body submits, once for each submit
+-- the sum of f over the submits of the body; each submit adds the value of f for the submitted class
 abbrev pub submitted : (ℕ → ℕ) → List Action → ℕ
 submitted f body = sum_by (of_submit f) body
 
--- the quantity of one job of the class, without the jobs that it causes; its events are its actions, a take and its end
+-- The quantity of one job of the class, without the jobs that it causes. The events of a job are its actions, a take and its
+-- end.
 abbrev pub own_quantity : Measure → Class → ℕ
 own_quantity Jobs class = 1
 own_quantity Units class = units_in class.body
 own_quantity Events class = length class.body + 2
 
--- the quantity of one job with the jobs that it causes, in n generations including its own
+-- The quantity of one job of class k and of the jobs that it causes, in n generations. The job itself is the first generation.
 abbrev pub quantity_within : Plan → (Class → ℕ) → ℕ → ℕ → ℕ
 quantity_within plan own_quantity zero k = 0
 quantity_within plan own_quantity (suc n) k = own_quantity (class_at plan k) + submitted (quantity_within plan own_quantity n) (class_at plan k).body
@@ -36,12 +37,12 @@ quantity_within plan own_quantity (suc n) k = own_quantity (class_at plan k) + s
 abbrev pub greatest : List ℕ → ℕ
 greatest = fold (λ a n. max a n) 0
 
--- the quantity of one job with all jobs that it causes. The level of a class is above the levels of the classes that it submits, so this
--- many generations are all of them.
+-- The quantity of one job of class k and of all jobs that it causes. The level of a class is above the levels of the classes
+-- that it submits. So no job is in a later generation than those that are counted here.
 abbrev pub total_quantity : Plan → Ranks → (Class → ℕ) → ℕ → ℕ
 total_quantity plan ranks own_quantity k = quantity_within plan own_quantity (greatest ranks.levels + 1) k
 
--- the sum of f over the jobs that the clients of a kind submit in all their rounds
+-- the sum of f over the submits of all clients of a kind in all their rounds
 abbrev pub submitted_by : ℕ → (ℕ → ℕ) → Client → ℕ
 submitted_by rounds f client = client.count * (rounds_of rounds client * submitted f client.body)
 
@@ -64,21 +65,22 @@ jobs plan ranks rounds = by_jobs plan ranks rounds (own_quantity Jobs)
 abbrev pub units : Plan → Ranks → ℕ → ℕ
 units plan ranks rounds = by_jobs plan ranks rounds (own_quantity Units) + sum_by (units_of_clients rounds) plan.clients
 
--- an upper bound of the number of events of a run, which are those of its jobs and clients
+-- an upper bound of the number of events that the jobs and the clients of a run perform
 abbrev pub most_events : Plan → Ranks → ℕ → ℕ
 most_events plan ranks rounds = by_jobs plan ranks rounds (own_quantity Events) + sum_by (events_of_clients rounds) plan.clients
 
--- if the rows of the ranks hold, the quantity of a job is its own quantity plus those of the classes that it submits
+-- If the rows (the conditions) of the ranks hold, total quantities add up. The total quantity of a job is its own quantity plus
+-- the total quantities of the jobs that its body submits.
 abbrev pub TotalsAddUp : Type 0
 TotalsAddUp = (plan : Plan) (ranks : Ranks) (own_quantity : Class → ℕ) (k : ℕ) → AllHold (rank_rows plan ranks) → total_quantity plan ranks own_quantity k ≡ own_quantity (class_at plan k) + submitted (total_quantity plan ranks own_quantity) (class_at plan k).body
 
--- both ranks give a run the same three numbers
+-- with either of the two ranks, a run has the same numbers of jobs and units, and the same bound of its events
 pub record HaveSameNumbers (plan : Plan) (rounds : ℕ) (ranks ranks' : Ranks) : Type 0 where
   pub jobs : jobs plan ranks rounds ≡ jobs plan ranks' rounds
   pub units : units plan ranks rounds ≡ units plan ranks' rounds
   pub most_events : most_events plan ranks rounds ≡ most_events plan ranks' rounds
 
--- all ranks whose rows hold give a run the same numbers
+-- a run has the same numbers for all ranks whose rows (conditions) hold
 abbrev pub NumbersAreOfThePlan : Type 0
 NumbersAreOfThePlan = (plan : Plan) (rounds : ℕ) (ranks ranks' : Ranks) → AllHold (rank_rows plan ranks) → AllHold (rank_rows plan ranks') → HaveSameNumbers plan rounds ranks ranks'
 
@@ -86,11 +88,11 @@ NumbersAreOfThePlan = (plan : Plan) (rounds : ℕ) (ranks ranks' : Ranks) → Al
 abbrev pub capped : ℕ → ℕ
 capped n = min n (2 ^ 64 - 1)
 
--- the list has, for each class k of the plan, the number f k, capped
+-- the list has, for each class k of the plan, the number f k, capped at the greatest u64
 abbrev pub AreCapped : Plan → (ℕ → ℕ) → List ℕ → Type 0
 AreCapped plan f numbers = (k : ℕ) → k < length plan.classes → slice_index numbers k ≡ capped (f k)
 
--- the list has, for each class, the quantity of one job and of the jobs that it causes, in n generations including its own, capped at the
--- greatest u64
+-- The list has a quantity for each class of the plan: that of one job and of the jobs that it causes in n generations
+-- (`quantity_within`), capped at the greatest u64.
 abbrev pub AreQuantities : Plan → (Class → ℕ) → ℕ → List ℕ → Type 0
 AreQuantities plan own_quantity n numbers = AreCapped plan (quantity_within plan own_quantity n) numbers

@@ -5,13 +5,13 @@ ghost use Rattle.locked_runner.specs.Carriers as spec;
 
 use job_bodies::Pool;
 
-/// Returns the number of threads that a run has for the pool. This is the maximum of the pool, with
-/// two exceptions, in which it is the core size:
+/// Returns the number of threads that a run has for the pool. This is the maximum of the pool,
+/// except in two cases, in which it is the core size:
 ///
 /// - The queue is unbounded, and core threads never time out. The pool then starts no thread above
 ///   its core size.
-/// - The pool has no maximum. Its queue is then unbounded too. Java may start threads above core
-///   that replace others, but a submit starts none.
+/// - The pool has no maximum, and so its queue is unbounded too. A submit then starts no thread
+///   above the core size. Java may start such a thread only to replace another one.
 pub(crate) fn carriers(pool: &Pool) -> u64
     ensures { result ≡ spec.carriers pool.now }
 {

@@ -1,4 +1,5 @@
-//! The compact form of receipts.
+//! The compact form of receipts. A receipt has an event of a run, and the number of the event in
+//! the history.
 
 ghost use Rattle.std.specs.Prelude.{◌≡◌, ◌<◌, ◌^◌, ◌↔◌, IfSome, IsSome};
 ghost use Rattle.locked_runner.specs.CompactReceipt.{IsKeepable, event_of, number_in};
@@ -7,13 +8,14 @@ use held_machines::Receipt;
 use interleaving::Event;
 use std::marker::Model;
 
-/// A receipt in 12 bytes, which is half the size of a [`Receipt`], because its numbers have 32
-/// bits. The receipts of a run are stored in this form.
+/// A receipt in 12 bytes. This is half the size of a [`Receipt`], because the numbers have 32 bits.
+/// The receipts of a run are stored in this form.
 #[derive(Drop)]
 pub struct CompactReceipt {
     number: u32,
     kind: Kind,
-    /// The number of the event's client, job or pool, depending on the kind of the event.
+    /// The number of the event's client, job or pool. The kind of the event says which of them it
+    /// is.
     of: u32,
 }
 

@@ -1,5 +1,5 @@
-//! The test whether a history is complete: no job is unfinished, and each client has performed all
-//! its rounds.
+//! The test whether a run is complete: no job is unfinished, and each client has performed all its
+//! rounds.
 
 ghost use Rattle.std.specs.Prelude.{◌≡◌, ◌<◌, ◌+◌, ◌-◌, ◌^◌, ◌↔◌, ℕ, List, IsTrue, IfOk, Some, length, min, count_by, slice_get, slice_index, if◌then◌else◌};
 ghost use Rattle.job_bodies.specs.Plan.{Plan, client_at};
@@ -43,8 +43,8 @@ pub(crate) fn is_complete(
 }
 
 /// Returns `true` if each client has performed all events of its rounds and is at the end of its
-/// body. `kinds` has the client kind of each client, and `made` has the number of events that each
-/// client performed.
+/// body. For each client, `kinds` has the index of its client kind, and `made` has the number of
+/// events that it performed.
 fn clients_are_complete(
     plan: &Plan,
     kinds: &[usize],
@@ -106,9 +106,9 @@ fn events_made(alloc: Global, clients: usize, history: &[Event]) -> Result<Vec<u
     Ok(made)
 }
 
-/// Adds 1 to the count, in `made`, of the client that performed the event. Does nothing if no
-/// client performed the event, or if `made` has no count for the client. A count does not exceed
-/// `u64::MAX`.
+/// Counts the event for the client that performed it. `made` has a count for each client. Does
+/// nothing if no client performed the event, or if `made` has no count for the client. A count does
+/// not exceed `u64::MAX`.
 fn count_event(made: &mut [u64], event: Event)
     ensures as_many { length made.new ≡ length made.old }
     ensures made { (c : ℕ)

@@ -18,8 +18,8 @@ pub trait Gate: Sync {
     ///
     /// # Errors
     ///
-    /// Returns `GateFault` if the work failed. The run then ends with fault 43. If memory runs out
-    /// as well, it ends with fault 20 (see [`RunFault`](crate::RunFault)). Other threads may still
-    /// call the gate before they stop.
+    /// Returns `GateFault` if the work failed. The run then ends with fault 43, or with fault 20 if
+    /// memory also runs out (see [`RunFault`](crate::RunFault)). Before the run ends, other threads
+    /// may still call the gate.
     fn work(&self, actor: Actor, units: u32) -> Result<(), GateFault>;
 }

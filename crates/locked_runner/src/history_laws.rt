@@ -1,17 +1,20 @@
 //! Laws of the numbers of jobs, units of work and events of a run. Each of these three numbers is a
 //! *quantity*. Each law is the contract of a function with an empty body.
+//!
+//! The laws concern the ranks of a certificate, and their *rows*. A row is a condition on the
+//! ranks.
 
 ghost use Rattle.locked_runner.specs.RunNumbers.{TotalsAddUp, NumbersAreOfThePlan};
 
-/// States how the total quantity of a job adds up, if the rows (the conditions) of the ranks hold.
-/// A quantity is a number of jobs, of units of work or of events. The total is the job's own
-/// quantity plus the total quantities of the jobs that its body submits.
+/// States how the total quantity of a job adds up, if the rows of the ranks hold. A quantity is a
+/// number of jobs, of units of work or of events. The total is the job's own quantity plus the
+/// total quantities of the jobs that its body submits.
 pub fn totals_add_up()
     ensures { TotalsAddUp }
 {}
 
-/// States that the computed numbers of jobs, units of work and events of a run do not depend on the
-/// certificate. They are the same for all ranks that satisfy their rows (the conditions).
+/// States that the numbers of jobs, units of work and events of a run do not depend on the
+/// certificate. They are the same for all ranks whose rows hold.
 pub fn numbers_are_of_the_plan()
     ensures { NumbersAreOfThePlan }
 {}

@@ -10,8 +10,8 @@ use job_bodies::{MAX_RUN_CARRIERS, MAX_RUN_CLIENTS, MAX_RUN_EVENTS, Plan};
 /// A limit that a run can exceed.
 #[derive(Clone, Copy, PartialEq, Eq)]
 pub enum RunLimit {
-    /// The number of pools that may reject jobs, which must be 0. A run must perform every job of
-    /// the plan, but a rejected job is not performed.
+    /// No pool may be allowed to reject jobs. A run must perform every job of the plan, but a
+    /// rejected job is not performed.
     Rejections,
     /// The number of clients of all kinds together, which must be at most 64.
     Clients,
@@ -21,8 +21,8 @@ pub enum RunLimit {
     Events,
 }
 
-/// Returns the limit to report for a plan that exceeds a limit of a run. This is the first of these
-/// limits that the plan exceeds: the limit on rejecting pools, on clients, on threads, on events.
+/// Returns the limit to report for a plan that exceeds a limit of a run. This is the first limit
+/// that the plan exceeds, in the order of the variants of [`RunLimit`].
 pub fn limit_of(plan: &Plan) -> RunLimit
     ensures { result ≡ spec.limit_of plan.now }
 {

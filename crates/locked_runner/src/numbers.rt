@@ -23,11 +23,12 @@ pub struct RunNumbers {
     pub events: u64,
 }
 
-/// Returns the numbers of a run of the plan in which each repeating client performs its body
-/// `rounds` times. With 0 rounds, a repeating client contributes nothing. The jobs that clients
-/// submit are generation 0, the jobs that these jobs submit are generation 1, and so on. Jobs are
-/// counted up to the generation whose number is the greatest level in `ranks`. If the rows (the
-/// conditions) of the ranks hold, these are all jobs.
+/// Returns the numbers of a run of the plan. Each repeating client performs its body `rounds`
+/// times. With 0 rounds, a repeating client contributes nothing.
+///
+/// The jobs that clients submit are generation 0, the jobs that these jobs submit are generation 1,
+/// and so on. The number of the last generation that is counted is the greatest level in `ranks`.
+/// If the rows (the conditions) of the ranks hold, no job is in a later generation.
 ///
 /// # Errors
 ///
@@ -55,7 +56,7 @@ pub fn run_numbers(
     })
 }
 
-/// The quantity that is summed over the jobs of a run: the number of jobs, of units of work or of
+/// A quantity that is summed over the jobs of a run: the number of jobs, of units of work or of
 /// events.
 #[derive(Clone, Copy)]
 enum Measure {
@@ -64,8 +65,8 @@ enum Measure {
     Events,
 }
 
-/// Returns the quantity of one job of the class, without the jobs that it causes. If `measure`
-/// selects events, these are the actions of the job, a take from the queue and the job's end.
+/// Returns the quantity of one job of the class, without the jobs that it causes. `measure` selects
+/// the quantity. The events of a job are its actions, a take from the queue and its end.
 fn own_quantity(measure: Measure, class: &Class) -> u64
     ensures { result ≡ capped (spec.own_quantity measure class.now) }
 {
@@ -77,7 +78,7 @@ fn own_quantity(measure: Measure, class: &Class) -> u64
 }
 
 /// Returns the quantity that `measure` selects, summed over all jobs of a run. These are the jobs
-/// that the clients submit in all their rounds, and all jobs that those jobs cause.
+/// that clients submit in all their rounds, and all jobs that those jobs cause.
 fn by_jobs(
     alloc: Global,
     plan: &Plan,
@@ -92,8 +93,8 @@ fn by_jobs(
     Ok(submitted_by_all(plan, rounds, &numbers))
 }
 
-/// Returns a sum over all submits of all clients in all their rounds. For each submit, the sum has
-/// the number of the submitted class in `numbers`.
+/// Returns a sum over all submits of all clients in all their rounds. Each submit adds the number
+/// that `numbers` has for the submitted class.
 fn submitted_by_all(plan: &Plan, rounds: u64, numbers: &[u64]) -> u64
     ensures { (f : ℕ → ℕ)
         → spec.AreCapped plan.now f numbers.now
@@ -174,8 +175,8 @@ fn units_in(body: &[Action]) -> u64
     total
 }
 
-/// Returns a sum over all submits of the body. For each submit, the sum has the number of the
-/// submitted class in `numbers`, or 0 if `numbers` has no number for the class.
+/// Returns a sum over all submits of the body. Each submit adds the number that `numbers` has for
+/// the submitted class, or 0 if `numbers` has none.
 fn submitted(body: &[Action], numbers: &[u64]) -> u64
     ensures { result ≡ capped (spec.submitted (slice_index numbers.now) body.now) }
 {
@@ -188,8 +189,8 @@ fn submitted(body: &[Action], numbers: &[u64]) -> u64
     total
 }
 
-/// Returns, for each class, the quantity that `measure` selects, summed over one job of the class
-/// and all jobs that this job causes, directly or through other jobs.
+/// Returns, for each class, the quantity of one job of the class and of all jobs that this job
+/// causes, directly or through other jobs. `measure` selects the quantity.
 fn total_quantity(
     alloc: Global,
     plan: &Plan,
@@ -222,9 +223,9 @@ fn greatest(levels: &[u64]) -> u64
     greatest
 }
 
-/// Returns, for each class, the quantity that `measure` selects, summed over one job of the class
-/// and the jobs that it causes up to some generation. `numbers` has these sums for one generation
-/// less. If `numbers` is empty, the result includes no caused jobs.
+/// Extends the quantities in `numbers` by one generation of jobs. Returns, for each class, the
+/// quantity of one job of the class and of the jobs that it causes up to that generation. If
+/// `numbers` is empty, the result includes no caused jobs. `measure` selects the quantity.
 fn add_generation(
     alloc: Global,
     plan: &Plan,

@@ -23,8 +23,8 @@ pub enum Owner {
     Pool(usize),
 }
 
-/// Returns the pool of the job that performs the event. Returns 0 if no job performs the event, or
-/// if the job is not in `world`, which is the world before the event.
+/// Returns the pool of the job that performs the event. `world` is the world before the event.
+/// Returns 0 if no job performs the event, or if the job is not in `world`.
 pub(crate) fn pool_of(plan: &Plan, world: &World, event: Event) -> u8
     ensures { (s : State)
         → IsReached plan.now s
@@ -53,9 +53,9 @@ fn pool_of_class(plan: &Plan, class: usize) -> u8
     }
 }
 
-/// Returns the owner of the event, or `None` for the end of an idle worker, which no thread of a
-/// run performs. If a job performs the event, `pool` must be the pool of this job. For any other
-/// event, `pool` has no effect.
+/// Returns the owner of the event. If a job performs the event, `pool` must be the pool of this
+/// job. For any other event, `pool` has no effect. Returns `None` for the end of an idle worker,
+/// because no thread of a run performs such an event.
 pub(crate) fn owner_by(event: Event, pool: u8) -> Option<Owner>
     ensures { result ≡ spec.owner_by event pool }
 {

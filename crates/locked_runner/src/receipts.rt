@@ -1,5 +1,5 @@
-//! The check of the receipts of all threads: each event of the history has exactly one receipt, and
-//! the receipt is in a list of the event's owner.
+//! The check of the receipts of all threads. Each event of the history must have exactly one
+//! receipt, in a list of the event's owner.
 
 ghost use Rattle.std.specs.Prelude.{◌≡◌, ◌<◌, ◌+◌, ◌==◌, ◌↔◌, ℕ, IsTrue, IfOk, Some, length, map, min, slice_index, count_by, if◌then◌else◌};
 ghost use Rattle.locked_runner.specs.Owner.{ArePoolsOf};
@@ -13,12 +13,12 @@ use interleaving::Event;
 use job_bodies::Plan;
 use std::alloc::{AllocError, Global};
 
-/// Returns `true` if these conditions hold:
+/// Checks the lists of receipts against the history. Returns `true` if these conditions hold:
 ///
 /// - There is one list of receipts for each owner in `of_lists`.
 /// - The receipts of each list are in ascending order.
-/// - Each receipt has the event that the history has at the receipt's number, and this event
-///   belongs to the owner of the list.
+/// - The event of each receipt is the event of the history with the receipt's number.
+/// - This event belongs to the owner of the list.
 ///
 /// `pools` has, for each event of the history, the pool of the job that performed the event, or 0
 /// if no job performed it.
@@ -67,7 +67,7 @@ fn list_fits(
     true
 }
 
-/// Returns `true` if the receipt has the event that the history has at the receipt's number, and
+/// Returns `true` if the receipt's event is the event of the history with the receipt's number, and
 /// this event belongs to the owner.
 fn receipt_fits(
     _plan: &Plan,
@@ -114,12 +114,12 @@ fn is_owned_by(found: Option<Owner>, owner: Owner) -> bool
     }
 }
 
-/// Returns `true` if the lists have, for each number from 0 to `length - 1`, exactly one receipt
-/// with this number.
+/// Returns `true` if each number from 0 to `length - 1` is the number of exactly one receipt in the
+/// lists.
 ///
 /// # Errors
 ///
-/// Returns `AllocError` if there is not enough memory for a mark for each number.
+/// Returns `AllocError` if there is not enough memory for one byte for each number.
 pub(crate) fn each_once(
     alloc: Global,
     length: usize,
@@ -136,8 +136,8 @@ pub(crate) fn each_once(
     Ok(all_are_one(&marks))
 }
 
-/// Adds 1, for each receipt in the list, to the mark at the index that is the receipt's number.
-/// Ignores a receipt if `marks` has no such index. A mark of 255 does not change.
+/// Counts the receipts of the list by their numbers. A receipt with the number k adds 1 to
+/// `marks[k]`. Ignores a receipt if `marks` has no such index. A mark of 255 does not change.
 fn mark_all(marks: &mut [u8], list: &[CompactReceipt])
     ensures len { length marks.new ≡ length marks.old }
     ensures marks { (k : ℕ)

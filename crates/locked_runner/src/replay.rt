@@ -115,8 +115,8 @@ impl Replay {
     }
 }
 
-/// Returns `units` plus the units of work of the outcome. `None` stands for a number above
-/// `u64::MAX`, both as the argument and as the result.
+/// Returns `units` plus the units of work of the outcome. `units` and the result are `None` if the
+/// number exceeds `u64::MAX`.
 fn with_work(units: Option<u64>, outcome: Outcome) -> Option<u64>
     ensures { (n : ℕ) → IsCounted n units → IsCounted (n + worked (Some outcome)) result }
 {

@@ -34,13 +34,15 @@ impl Model for RunReport {
     ghost view = { λ r. record { jobs = r.jobs; units = r.units; refused = r.refused; history = r.history.items; receipts = map (λ list. list.items) r.receipts.items } };
 }
 
-/// The reason why a run is not complete, with the length of a legal prefix of the history. A prefix
-/// is legal if each of its events was possible. The reason is the number of a fault from `support`:
+/// The reason why a run is not complete. `events` is the length of a legal prefix of the history. A
+/// prefix is legal if each of its events was possible. `number` is one of these faults of
+/// `support`:
 ///
 /// - 20: memory ran out, or a thread could not be started.
 /// - 40: the run exceeds a limit, and no thread was started.
-/// - 41: the number of lists of receipts is wrong. This is also the fault if the receipts of a list
-///   are not in ascending order, do not match the history, or belong to another client or pool.
+/// - 41: there is a wrong number of lists of receipts. This is also the fault if the receipts of a
+///   list are not in ascending order, do not match the history, or belong to another client or
+///   pool.
 /// - 42: the history has an impossible event, is not complete, or has another number of jobs or
 ///   units than the computed one. This is also the fault if an event does not have exactly one
 ///   receipt.
@@ -83,8 +85,8 @@ impl ThreadFault {
     }
 }
 
-/// The results of the threads of a run: the history and the receipts of each thread. If threads
-/// reported faults, also the reported fault with the lowest number.
+/// The results of the threads of a run: the history, the receipts of each thread, and the reported
+/// fault with the lowest number. `fault` is `None` if no thread reported a fault.
 #[derive(Drop)]
 pub struct ThreadResults {
     pub history: Vec<Event>,

@@ -19,8 +19,9 @@ use job_bodies::Plan;
 use std::alloc::{AllocError, Global};
 use support::number::{MEMORY, MIXED, STRANGE};
 
-/// Checks that the results of the threads form a complete run of the plan with this number of
-/// rounds and these numbers of jobs and units of work. Returns the report of the run.
+/// Checks that the results of the threads form a complete run of the plan, and returns the report
+/// of the run. `rounds` is the number of rounds. `numbers` has the numbers of jobs and units of
+/// work that the run must have.
 ///
 /// # Errors
 ///
@@ -167,7 +168,7 @@ fn fault_of(
 /// Returns `true` if these conditions hold:
 ///
 /// - The history was replayed to its end and is complete.
-/// - It has these numbers of jobs and units of work.
+/// - The history has the numbers of jobs and units of work in `numbers`.
 /// - The lists have exactly one receipt for each event.
 ///
 /// The caller must have checked that each list has only receipts of its own client or pool.

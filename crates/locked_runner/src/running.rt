@@ -17,9 +17,10 @@ use std::thread::Threads;
 use support::number::{MEMORY, RUN_TOO_LARGE};
 use weights::Ranks;
 
-/// Runs a certified plan. One thread for each client, and `max` threads for each pool, perform the
-/// events of the plan's machine. The gate does the declared work. A pool has core threads in place
-/// of `max` if its queue is unbounded and its core threads never time out, or if it has no maximum.
+/// Runs a certified plan. There is one thread for each client. For each pool, there are `max`
+/// threads. A pool has core threads in place of `max` if its queue is unbounded and its core
+/// threads never time out, or if it has no maximum. The threads perform the events of the plan's
+/// machine, and the gate does the declared work.
 ///
 /// A client of a repeating kind performs its body `rounds` times, and any other client performs it
 /// once. `rounds` should be at least 1. With 0 rounds, a repeating client performs no event. If its

@@ -58,7 +58,7 @@ pub(crate) struct Work {
 }
 
 impl<'a> Shared<'a> {
-    /// Creates the shared state, before the first event, of a run with `clients` clients.
+    /// Creates the shared state of a run with `clients` clients, before the first event.
     ///
     /// # Errors
     ///
@@ -85,8 +85,8 @@ impl<'a> Shared<'a> {
         })
     }
 
-    /// Returns the history and the reported fault with the lowest number, or `None` if no thread
-    /// reported a fault.
+    /// Returns the history, and the reported fault with the lowest number. The fault is `None` if
+    /// no thread reported one.
     pub(crate) fn into_history(self) -> (Vec<Event>, Option<ThreadFault>) {
         let Shared {
             machine,
@@ -125,9 +125,9 @@ impl<'a> Shared<'a> {
         None
     }
 
-    /// Waits for the next job of the pool and returns it, first from the hand-off queue, then from
-    /// the pool's queue. Returns `None` if the run is complete or the threads must stop. Stops the
-    /// run if memory runs out, or if the pool or the job is not found.
+    /// Waits for the next job of the pool, and returns it. Jobs of the hand-off queue come before
+    /// those of the pool's queue. Returns `None` if the run is complete or the threads must stop.
+    /// Stops the run if memory runs out, or if the pool or the job is not found.
     pub(crate) fn next_job<R: Wait>(&self, rt: &R, pool: usize) -> Option<Work> {
         let Some(handoff) = self.handoffs.get(pool) else {
             self.end(rt);
@@ -251,8 +251,8 @@ impl<'a> Shared<'a> {
         Wakeup::Worker(pool)
     }
 
-    /// Stops the run because the pool of a started or queued job was not found. Returns that all
-    /// threads are to wake.
+    /// Stops the run because the pool of a started or queued job was not found. Returns
+    /// [`Wakeup::All`], so that all threads notice the stop.
     fn end_without_worker<R: Wait>(&self, rt: &R) -> Wakeup {
         self.progress.lock(rt).end();
         Wakeup::All
@@ -284,8 +284,9 @@ impl<'a> Shared<'a> {
     }
 }
 
-/// Returns the job that the last event took from a queue, with `receipt`, the receipt of that
-/// event. Returns `None` if the last event took no job, or if the job is not found.
+/// Returns the job that the last event took from a queue. `receipt` is the receipt of that event,
+/// and becomes a part of the result. Returns `None` if the last event took no job, or if the job is
+/// not found.
 fn work_taken(guard: &MachineGuard<'_, '_>, receipt: Receipt<Event>) -> Option<Work> {
     match guard.state().outcome {
         Some(Outcome::Took(job)) => work_on(guard, job, Some(receipt)),

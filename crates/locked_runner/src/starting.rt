@@ -14,9 +14,9 @@ use std::sync::Wait;
 use std::thread;
 use std::thread::Threads;
 
-/// Starts the threads of a run: one for each client, and those of each pool. Returns the results of
-/// the threads after all threads have ended. If a thread cannot be started or memory runs out, the
-/// run stops, and the fault in the results is [`ThreadFault::Memory`].
+/// Starts the threads of a run, and returns their results after all threads have ended. There is
+/// one thread for each client, and those of each pool. If a thread cannot be started or memory runs
+/// out, the run stops, and the fault in the results is [`ThreadFault::Memory`].
 ///
 /// # Errors
 ///

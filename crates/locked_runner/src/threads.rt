@@ -15,7 +15,7 @@ use std::sync::Wait;
 /// heap.
 const FIRST_ROOM: usize = 16_384;
 
-/// A thread of a run, with the receipts of its events.
+/// The state of one thread of a run, with the receipts of the events that it performed.
 #[derive(Drop)]
 pub(crate) struct Runner<'a, 'b, R, G> {
     pub(crate) rt: &'b R,
@@ -64,7 +64,7 @@ impl<'a, 'b, R: Wait, G: Gate> Runner<'a, 'b, R, G> {
         self.receipts
     }
 
-    /// Runs a worker thread of a pool, which performs jobs of the pool one after the other until
+    /// Runs a worker thread of a pool. The thread performs jobs of the pool, one at a time, until
     /// the run is complete or stops. Returns the receipts of the thread.
     pub(crate) fn run_worker(mut self, pool: usize) -> Vec<CompactReceipt> {
         for _ in self.rt.forever() {

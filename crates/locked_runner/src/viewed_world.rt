@@ -1,5 +1,5 @@
-//! A world whose contracts mention only its live view: its live jobs, pools and clients, and its
-//! number of refused submits.
+//! A world whose contracts mention only its live view. The *live view* of a world is its live jobs,
+//! pools and clients, and its number of refused submits.
 
 ghost use Rattle.std.specs.Prelude.{◌≡◌, IfOk, OnErr};
 ghost use Rattle.job_bodies.specs.WellFormed.{IsWellFormed};
@@ -13,9 +13,9 @@ use job_bodies::Plan;
 use std::alloc::{AllocError, Global};
 use std::marker::Model;
 
-/// A world whose contracts mention only its live view, which is its live jobs, pools and clients
-/// and its number of refused submits. They do not mention the number of places for live jobs,
-/// because a state of the plan's machine does not determine this number.
+/// A world whose contracts mention only its live jobs, pools and clients, and its number of refused
+/// submits. A [`World`] also has a number of places for live jobs. The contracts do not mention it,
+/// because a state of the plan's machine does not determine it.
 #[derive(Drop)]
 pub struct ViewedWorld {
     world: World,
@@ -46,7 +46,7 @@ impl ViewedWorld {
         })
     }
 
-    /// Returns the world itself. Its contracts also mention the places for live jobs.
+    /// Returns the [`World`] itself, whose contracts also mention its places for live jobs.
     pub fn world(&self) -> &World
         ensures { result.now.view ≡ self.now }
     {

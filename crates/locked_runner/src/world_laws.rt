@@ -9,8 +9,8 @@ use crate::{CertifiedWorld, ViewedWorld};
 use cert_check::Certified;
 use held_machines::Held;
 
-/// States that the machine in `held` has refused no submit and refuses none next. The following
-/// facts hold for its world and its history:
+/// States that the machine in `held` has refused no submit, and refuses none in its next event. The
+/// following facts hold for its world and its history:
 ///
 /// - The world is the live view of the state to which the history leads.
 /// - No submit of the history was refused.
@@ -24,7 +24,7 @@ pub fn held_worlds_refuse_nothing(held: &Held<CertifiedWorld<'_>>)
     let _history = held.history();
 }
 
-/// States that no submit was refused in any world to which a history of the certified plan leads.
+/// States that a world has no refused submit if a history of the certified plan leads to it.
 pub fn reached_worlds_refuse_nothing(certified: &Certified, world: &ViewedWorld)
     ensures { (history : List Event)
         → IsReachedBy certified.now.plan history world.now

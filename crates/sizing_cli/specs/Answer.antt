@@ -17,7 +17,8 @@ code Refused = 1
 code BadText = 2
 code Undecided = 4
 
--- the status of an answer in two parts: that of the second part if the first is Done, otherwise that of the first
+-- The status of an answer in two parts. If the first part has the status Done, it is the status of the second part. Otherwise
+-- it is the status of the first part.
 abbrev pub then_status : Status → Status → Status
 then_status status Done = status
 then_status status Refused = Refused
@@ -28,7 +29,7 @@ then_status status Undecided = Undecided
 abbrev pub yes_or_no : Bool → Status
 yes_or_no answer = if answer then Done else Refused
 
--- the answer that begins with `front` and ends with `rest`
+-- the answer with the text of `front` and then the text of `rest`; `then_status` combines their statuses
 abbrev pub followed_by : Answer → Answer → Answer
 followed_by front rest = record { text = front.text ++ rest.text; status = then_status front.status rest.status }
 

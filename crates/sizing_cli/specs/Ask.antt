@@ -1,6 +1,7 @@
--- The possible answers of `ask` to an input, and the certificate that it leaves. `file` is the name of the plan's file in
--- messages. This is a relation: it does not fix which certificate, witness or sizes are found, or that some are, nor the wording
--- of faults, nor the places of a plan's entries.
+-- The possible answers of `ask` to an input, and the text of the certificate that is returned with an answer (`left`). In all
+-- definitions, `file` is the name of the plan's file in messages. They are relations, because several answers are possible.
+-- They do not say which certificate, witness or sizes are found, or whether any are found. They also leave open the wording of
+-- faults, and the places of a plan's entries in its text.
 use Rattle.std.specs.Prelude.{◌≡◌, ◌≤◌, ◌<◌, ℕ, nat_lt, Bool, true, false, not, ◌&&◌, if◌then◌else◌, List, [], ◌∷◌, ◌++◌, length, codes, decimal, Option, Some, None, IfSome, Result, Ok, Err, option_map, IsTrue, MatchBool}
 use Rattle.std.specs.List.{All}
 use Rattle.clap.specs.Words.{Text}
@@ -61,7 +62,8 @@ source_of file text = record { file = file; text = text }
 
 -- ---- faults
 
--- the text reports the faults of a plan's text in this form; the form `Dot` uses words for faults
+-- The text reports the faults of a plan's text in this output format. The format `Dot` cannot show faults, so the text is then
+-- the same as for `Words`.
 abbrev pub TellsFaultsIn : Form → PlanSource → Faults → List ℕ → Type 0
 TellsFaultsIn Words source faults text = text ≡ faults_text source.file faults
 TellsFaultsIn Json source faults text = json.TellsFaults source.file source.text faults text
@@ -70,8 +72,8 @@ TellsFaultsIn Html source faults text = page.TellsFaults source.file source.text
 TellsFaultsIn Github source faults text = text ≡ github.github_text source.file (fault_remarks faults)
 TellsFaultsIn Sarif source faults text = IsLineOf (sarif.sarif_data source.file (fault_remarks faults)) text
 
--- the answer reports at most 100 faults of a plan's text, each in one line. The first of them is `fault`. It omits faults
--- only if it reports 100.
+-- The answer reports the faults of a plan's text, of which `fault` is the first. It reports at most 100 faults, and the message
+-- of each is one line. It omits faults only if it reports 100.
 pub record AnswersFault (form : Form) (source : PlanSource) (fault : PlanFault) (answer : Answer) : Type 0 where
   pub faults : Faults
   pub is_first : faults.first.fault ≡ fault
@@ -81,11 +83,11 @@ pub record AnswersFault (form : Form) (source : PlanSource) (fault : PlanFault) 
   pub tells : TellsFaultsIn form source faults answer.text
   pub status : answer.status ≡ BadText
 
--- the fault number at the end of the message
+-- the end of a message: the fault number, and a newline
 abbrev pub fault_number : ℕ → List ℕ
 fault_number number = codes " (fault " ++ (decimal number ++ (codes ")" ++ 10 ∷ []))
 
--- the text reports a fault of a certificate in this form and in these words
+-- the text reports the fault of a certificate with this number and this message, in this output format
 abbrev pub TellsCertFaultIn : Form → PlanSource → ℕ → List ℕ → List ℕ → Type 0
 TellsCertFaultIn Words source number words text = text ≡ words ++ fault_number number
 TellsCertFaultIn Json source number words text = json.TellsFault source.file source.text number words text
@@ -94,7 +96,7 @@ TellsCertFaultIn Html source number words text = page.TellsFault source.file sou
 TellsCertFaultIn Github source number words text = text ≡ github.github_text source.file (single_fault number words)
 TellsCertFaultIn Sarif source number words text = IsLineOf (sarif.sarif_data source.file (single_fault number words)) text
 
--- the answer reports a fault of a certificate, in words that are one line
+-- the answer reports a fault of a certificate, and the message of the fault is one line
 pub record AnswersCertFault (form : Form) (source : PlanSource) (fault : CertFault) (answer : Answer) : Type 0 where
   pub words : List ℕ
   pub single_line : HasNoNewline words
@@ -103,18 +105,19 @@ pub record AnswersCertFault (form : Form) (source : PlanSource) (fault : CertFau
 
 -- ---- answers
 
--- the status of a finding; if `strict` is set, a safe plan has the status `Refused` if there is a warning that is not a note
+-- The status of an answer with this finding. If `strict` is true, the status of a safe plan is Refused if it has a warning. A
+-- note does not count as a warning here.
 abbrev pub status_of : Bool → List Warning → PlanFinding → Status
 status_of strict warnings (Safe cert rejections) = if strict && has_warning warnings then Refused else Done
 status_of strict warnings (NotSafe witness sizes) = Refused
 status_of strict warnings (NotDecided sizes) = Undecided
 
--- the warning about a stale certificate, which comes last
+-- the list with the lint of a stale certificate if the flag is true, and otherwise the empty list
 abbrev pub stale_if : Bool → List Lint
 stale_if true = StaleCertificate ∷ []
 stale_if false = []
 
--- a given certificate is stale if it does not accept the plan
+-- whether the given certificate, if there is one, is stale, which means that it does not accept the plan
 abbrev pub is_stale : Plan → Option Cert → Bool
 is_stale plan None = false
 is_stale plan (Some cert) = not (accepted plan cert)
@@ -124,42 +127,44 @@ abbrev pub IsSafeBy : Cert → PlanFinding → Type 0
 IsSafeBy cert (Safe found rejections) = found ≡ cert
 IsSafeBy cert _ = ⊥
 
--- the finding rests on the given certificate if that accepts the plan
+-- if the given certificate accepts the plan, the finding is that the plan is safe by this certificate
 abbrev pub RestsOnGiven : Plan → Option Cert → PlanFinding → Type 0
 RestsOnGiven plan given finding = IfSome given (λ cert. IsTrue (accepted plan cert) → IsSafeBy cert finding)
 
--- the number of places that each pool needs with the sizes that were found, by their certificate
+-- For each pool, the number of queue places that it needs with the sizes that were found. The certificate of these sizes proves
+-- this number. If no sizes were found, the list is empty.
 abbrev pub needed_by_sizes : SizesFound → List (Option ℕ)
 needed_by_sizes (Found fit cert) = needed_places fit cert
 needed_by_sizes (NotFound cause) = []
 
--- the number of places that each pool needs, by the certificate that was found
+-- For each pool, the number of queue places that it needs. For a safe plan, the certificate of the finding proves this number.
+-- For any other plan, see `needed_by_sizes`.
 abbrev pub needed_of : Plan → PlanFinding → List (Option ℕ)
 needed_of plan (Safe cert rejections) = needed_places plan cert
 needed_of plan (NotSafe witness sizes) = needed_by_sizes sizes
 needed_of plan (NotDecided sizes) = needed_by_sizes sizes
 
--- the lowered plan is the plan with each maximum lowered to the core size of its pool, unless core threads may time out; its certificate
--- accepts it, and the plan can be lowered
+-- `lowered` has the lowered plan, and a certificate that accepts it. In the lowered plan, each maximum is lowered to the core
+-- size of its pool, unless core threads may time out. The plan must be one that can be lowered (`can_be_lowered`).
 pub record IsAcceptedAtCore (plan : Plan) (lowered : LoweredPlan) : Type 0 where
   pub can_be : can_be_lowered plan ≡ true
   pub is_at_core : lowered.plan ≡ at_core plan
   pub is_accepted : IsTrue (accepted lowered.plan lowered.cert)
 
--- only a plan that is not decided has a lowered plan
+-- there is a lowered plan only if the finding is that the plan is undecided
 abbrev pub IsLowered : Plan → PlanFinding → Option LoweredPlan → Type 0
 IsLowered plan (Safe cert rejections) lowered = lowered ≡ None
 IsLowered plan (NotSafe witness sizes) lowered = lowered ≡ None
 IsLowered plan (NotDecided sizes) lowered = IfSome lowered (IsAcceptedAtCore plan)
 
--- the lints of the plan, with the numbers of places of the lowered plan's certificate if there is one
+-- The lints of the plan. If there is a lowered plan, they use the numbers of queue places that its certificate proves.
+-- Otherwise they use the numbers of the finding (`needed_of`).
 abbrev pub AreLintsWith : Plan → PlanFinding → Option LoweredPlan → List Lint → Type 0
 AreLintsWith plan finding (Some lowered) lints = AreLints plan (needed_places lowered.plan lowered.cert) true lints
 AreLintsWith plan finding None lints = AreLints plan (needed_of plan finding) false lints
 
--- the warnings are exactly the lints of the plan, in order, with these numbers of places for the pools, and whether the plan is
--- safe with its maximums lowered; then a warning about a stale certificate, if it is stale. A circle of submits that a warning
--- reports is one of the plan.
+-- The warnings are exactly the lints of the plan, in order (`AreLintsWith`). If `stale` is true, a last warning is about the
+-- stale certificate. If a warning reports a circle of submits, it is one of the plan.
 pub record AreWarnings (plan : Plan) (finding : PlanFinding) (lowered : Option LoweredPlan) (stale : Bool) (warnings : List Warning) : Type 0 where
   pub lints : List Lint
   pub are_lints : AreLintsWith plan finding lowered lints
@@ -173,13 +178,13 @@ pub record TellsFinding (file : Text) (plan : Plan) (warnings : List Warning) (f
   pub tells : Tells plan finding words
   pub text_is : text ≡ warnings_text file warnings ++ words
 
--- the property holds with some places of the plan's entries in its text
+-- there are places of the plan's entries in its text for which `Holds` is true
 pub record WithPlaces (plan : Plan) (Holds : PlanPlaces → Type 0) : Type 0 where
   pub places : PlanPlaces
   pub fit : FitPlan plan places
   pub holds : Holds places
 
--- the text reports the finding in this form
+-- the text reports the finding in this output format; for each format except `Dot`, it also reports the warnings
 abbrev pub TellsFindingIn : Form → PlanSource → Plan → List Warning → PlanFinding → List ℕ → Type 0
 TellsFindingIn Words source plan warnings finding text = TellsFinding source.file plan warnings finding text
 TellsFindingIn Json source plan warnings finding text = WithPlaces plan (λ places. json.TellsFinding source.file source.text places plan finding warnings text)
@@ -188,7 +193,7 @@ TellsFindingIn Html source plan warnings finding text = WithPlaces plan (λ plac
 TellsFindingIn Github source plan warnings finding text = WithPlaces plan (λ places. github.TellsFinding source.file places plan finding warnings text)
 TellsFindingIn Sarif source plan warnings finding text = WithPlaces plan (λ places. sarif.TellsFinding source.file places plan finding warnings text)
 
--- the answer reports the finding and the warnings, each of which is one line, and its status follows from both
+-- The answer reports the finding and the warnings. Its status follows from both (`status_of`).
 pub record AnswersFinding (options : AskOptions) (source : PlanSource) (plan : Plan) (finding : PlanFinding) (lowered : Option LoweredPlan) (stale : Bool) (answer : Answer) : Type 0 where
   pub warnings : List Warning
   pub are_warnings : AreWarnings plan finding lowered stale warnings
@@ -197,27 +202,27 @@ pub record AnswersFinding (options : AskOptions) (source : PlanSource) (plan : P
 
 -- ---- the certificate that an answer leaves
 
--- the text that is left, if any, is that of the certificate; if there is none, the certificate's text is too long to be
--- read back
+-- The given text, if there is one, is read as the certificate. There is no text only if the certificate's text is too long to
+-- be read back.
 abbrev pub IsCertificateText : Plan → Cert → Option (List ℕ) → Type 0
 IsCertificateText plan cert (Some text) = cert_of text plan ≡ Ok cert
 IsCertificateText plan cert None = HasLongText cert
 
--- the certificate's text that a finding leaves: that of the certificate that accepts the plan, or None if there is no such
--- certificate
+-- `left` is the text that is returned with a finding. For a safe plan, it is the text of the finding's certificate
+-- (`IsCertificateText`). For any other finding, it is None.
 abbrev pub IsFindingCertificate : Plan → PlanFinding → Option (List ℕ) → Type 0
 IsFindingCertificate plan (Safe cert rejections) left = IsCertificateText plan cert left
 IsFindingCertificate plan (NotSafe witness sizes) left = left ≡ None
 IsFindingCertificate plan (NotDecided sizes) left = left ≡ None
 
--- the certificate's text that is left beside an answer
+-- the text of the certificate that is returned with an answer
 abbrev pub certificate_of_output : AskOutput → Option (List ℕ)
 certificate_of_output answer = option_map (λ text. text.items) answer.certificate
 
 -- ---- answers to an input
 
--- the answer reports a finding that is true of the plan. It rests on the given certificate if that accepts the plan, and it
--- leaves its certificate.
+-- The answer reports a finding that is true of the plan. If the given certificate accepts the plan, the finding is based on it.
+-- `left` is the text of the finding's certificate.
 pub record AnswersPlan (options : AskOptions) (source : PlanSource) (plan : Plan) (given : Option Cert) (left : Option (List ℕ)) (answer : Answer) : Type 0 where
   pub finding : PlanFinding
   pub is_finding : IsFinding plan finding
@@ -231,12 +236,12 @@ abbrev pub AnswersCert : AskOptions → PlanSource → Plan → Result Cert Cert
 AnswersCert options source plan (Err f) left answer = (left ≡ None) × AnswersCertFault options.form source f answer
 AnswersCert options source plan (Ok cert) left answer = AnswersPlan options source plan (Some cert) left answer
 
--- answers for a plan and, if one is given, the text of a certificate
+-- the answers for a plan and, if one is given, a certificate's text
 abbrev pub AnswersGiven : AskOptions → PlanSource → Option (List ℕ) → Plan → Option (List ℕ) → Answer → Type 0
 AnswersGiven options source None plan left answer = AnswersPlan options source plan None left answer
 AnswersGiven options source (Some cert) plan left answer = AnswersCert options source plan (cert_of cert plan) left answer
 
--- answers for the result of reading the plan
+-- the answers for the result of parsing the plan's text; a fault of this text is the whole answer
 abbrev pub AnswersReading : AskOptions → PlanSource → Option (List ℕ) → Result Plan PlanFault → Option (List ℕ) → Answer → Type 0
 AnswersReading options source cert (Err f) left answer = (left ≡ None) × AnswersFault options.form source f answer
 AnswersReading options source cert (Ok plan) left answer = AnswersGiven options source cert plan left answer
@@ -255,7 +260,7 @@ IsAskAnswer given options file input left answer =
 
 -- ---- what status 0 means
 
--- the plan before the last line `%%` is safe
+-- the input is a bundle, and the plan before its last line `%%` is safe
 pub record IsSafeBundle (input : List ℕ) : Type 0 where
   pub bundle : Bundle
   pub is_bundle : bundle_of input ≡ Some bundle

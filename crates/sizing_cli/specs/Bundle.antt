@@ -8,7 +8,8 @@ pub record Bundle : Type 0 where
   pub plan : List ℕ
   pub second : List ℕ
 
--- the text after a line `%%` at the beginning of the text; at the input's end that line needs no newline
+-- The rest of a text after its first line, if this line is `%%`. If this line is also the last line of the text, it needs no
+-- newline.
 abbrev pub after_separator : List ℕ → Option (List ℕ)
 after_separator text =
     if starts_with nat_eq text (37 ∷ 37 ∷ 10 ∷ []) then Some (drop 3 text) else (if bytes_eq text (37 ∷ 37 ∷ []) then Some [] else None)
@@ -17,12 +18,14 @@ abbrev pub bundle_here : Option (List ℕ) → Option Bundle
 bundle_here None = None
 bundle_here (Some second) = Some (record { plan = []; second = second })
 
--- the split of a text at its first line, if the text begins at the beginning of a line and its first line is `%%`
+-- The split of a text at its first line, if this line is `%%`. The plan of this split is empty. If the flag is false, the text
+-- does not begin at the beginning of a line, and there is no split.
 abbrev pub split_here : Bool → List ℕ → Option Bundle
 split_here false text = None
 split_here true text = bundle_here (after_separator text)
 
--- the split at a later line takes precedence over one here
+-- The split of a text with first byte b. It is the split `later` of the rest of the text, with b before its plan. If there is
+-- none, it is the split `here` at the text's first line.
 abbrev pub later_or : ℕ → Option Bundle → Option Bundle → Option Bundle
 later_or b (Some later) here = Some (record { plan = b ∷ later.plan; second = later.second })
 later_or b None here = here
@@ -32,17 +35,18 @@ abbrev pub split_from : Bool → List ℕ → Option Bundle
 split_from at_line [] = None
 split_from at_line (b ∷ bs) = later_or b (split_from (b == 10) bs) (split_here at_line (b ∷ bs))
 
--- the bundle that an input is, if it is one
+-- the split of an input at its last line `%%`; None if no line is `%%`
 abbrev pub bundle_of : List ℕ → Option Bundle
 bundle_of input = split_from true input
 
 -- ---- the first line `%%`
--- the split, if one byte comes before the text
+-- the split of a text with first byte b, if the given split is that of the rest of the text
 abbrev pub with_byte : ℕ → Option Bundle → Option Bundle
 with_byte b None = None
 with_byte b (Some bundle) = Some (record { plan = b ∷ bundle.plan; second = bundle.second })
 
--- the split here takes precedence over one at a later line
+-- The split of a text with first byte b. It is the split `here` at the text's first line. If there is none, it is the split
+-- `later` of the rest of the text, with b before its plan.
 abbrev pub here_or : ℕ → Option Bundle → Option Bundle → Option Bundle
 here_or b (Some here) later = Some here
 here_or b None later = with_byte b later
@@ -52,6 +56,6 @@ abbrev pub first_from : Bool → List ℕ → Option Bundle
 first_from at_line [] = None
 first_from at_line (b ∷ bs) = here_or b (split_here at_line (b ∷ bs)) (first_from (b == 10) bs)
 
--- the split of an input at its first line `%%`
+-- the split of an input at its first line `%%`; None if no line is `%%`
 abbrev pub first_bundle_of : List ℕ → Option Bundle
 first_bundle_of input = first_from true input

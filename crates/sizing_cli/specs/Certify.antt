@@ -1,4 +1,5 @@
--- The possible answers of `certify` to an input: a relation, since it does not fix which certificate is found.
+-- The possible answers of `certify` to an input. The definition is a relation, because it does not fix which certificate is
+-- found.
 use Rattle.std.specs.Prelude.{◌≡◌, ◌⊎◌, ◌<◌, ℕ, nat_eq, nat_lt, ◌==◌, ◌||◌, List, [], ◌∷◌, ◌++◌, length, codes, if◌then◌else◌, Some, Result, Ok, Err, IsTrue, MatchBool}
 use Rattle.std.specs.List.{ends_with}
 use Rattle.job_bodies.specs.Plan.{Plan}
@@ -36,7 +37,8 @@ pub record IsYes (plan cert : List ℕ) : Type 0 where
   pub yes : IsTrue verdict.yes
   pub safe : IsSafeToRun plan cert
 
--- the text is these two with a line `%%` between them, it splits into exactly these two, and `check` accepts them
+-- The text is the bundle of a plan's text and a certificate's text, with a line `%%` between them. It splits into exactly these
+-- two texts, and `check` accepts them.
 pub record IsBundleWith (plan cert text : List ℕ) : Type 0 where
   pub whole : text ≡ plan ++ (codes "%%" ++ 10 ∷ cert)
   pub splits : bundle_of text ≡ Some (record { plan = plan; second = cert })
@@ -47,7 +49,7 @@ pub record IsCertLine (text : List ℕ) : Type 0 where
   pub cert : Cert
   pub is_text : text ≡ cert_text cert ++ 10 ∷ []
 
--- the text is such a bundle of the plan's text and of a certificate's line
+-- the text is a bundle (`IsBundleWith`) of the plan's text and the text of a certificate with a newline at its end
 pub record IsCertifiedBundle (plan text : List ℕ) : Type 0 where
   pub cert : Cert
   pub bundle : IsBundleWith plan (cert_text cert ++ 10 ∷ []) text
@@ -66,28 +68,28 @@ pub record IsTooLong (plan : Plan) : Type 0 where
   pub accepts : IsTrue (accepted plan cert)
   pub long : HasLongText cert
 
--- a search for sizes did not find the declared ones, and the steady certificate does not accept the plan
+-- No certificate was found for the plan. A search for sizes found no sizes or other sizes than the declared ones, and the
+-- steady certificate (`steady_cert`) does not accept the plan.
 pub record IsUncertified (plan : Plan) : Type 0 where
   pub sizes : SizesFound
   pub is_open : IsOpen plan sizes
 
--- the possible results of a search for a certificate of the plan: the line of one; or none, and then the search for sizes
--- found other sizes or none; or one that accepts the plan and whose text is too long
+-- The possible results of a search for a certificate of the plan. `Text` is the text of a certificate with a newline. If the
+-- result is `NotFound`, `IsUncertified` holds. If it is `TooLong`, a certificate accepts the plan, but its text is too long.
 abbrev pub IsFoundFor : Plan → CertificateSearch → Type 0
 IsFoundFor plan (Text line) = IsCertLine line.items
 IsFoundFor plan NotFound = IsUncertified plan
 IsFoundFor plan TooLong = IsTooLong plan
 
--- the possible results for a plan's text, or the text's fault
+-- the possible results of a search for the plan that a text describes; if the text has a fault, the result is this fault
 abbrev pub IsSearched : Result Plan PlanFault → Result CertificateSearch PlanFault → Type 0
 IsSearched (Ok plan) (Ok found) = IsFoundFor plan found
 IsSearched (Err fault) (Err reported) = reported ≡ fault
 IsSearched (Ok plan) (Err reported) = ⊥
 IsSearched (Err fault) (Ok found) = ⊥
 
--- the possible answers for a plan's text: a bundle with a certificate; or that the certificate is too long, if it is; or
--- that none was found, and then the steady certificate does not accept the plan and a search for sizes found other sizes or
--- none
+-- The possible answers for a plan's text. The answer can be a bundle with a certificate. It can also say that the certificate's
+-- text is too long (`IsTooLong`), or that no certificate was found (`IsUncertified`).
 abbrev pub AnswersPlan : List ℕ → Plan → Answer → Type 0
 AnswersPlan text plan answer = ((answer ≡ text_too_long) × IsTooLong plan) ⊎ (((answer ≡ none_found) × IsUncertified plan) ⊎ IsCertified text answer)
 

@@ -14,7 +14,7 @@ use Rattle.sizing_cli.specs.Texts.{IsBundleNamed, file_named, name_or_none}
 use Rattle.sizing_cli.specs.declared.fault.CliError.{CliError}
 use Rattle.sizing_cli.specs.declared.fault.CliError.TheVariants.{Words, NoCommand, InputTwice, Bundle, Unread, CertificateNeedsFile, Directory, Occupied, Unwritten, Serve}
 
--- the sink failed, or the certificate's file did, so an answer may have been written
+-- Whether the sink failed or the certificate file could not be written. Only then may something have been written to the sink.
 abbrev pub is_of_sink : CliError → Bool
 is_of_sink (Words error) = false
 is_of_sink NoCommand = false
@@ -40,7 +40,8 @@ is_unwritten (Occupied name) = false
 is_unwritten (Unwritten name) = true
 is_unwritten (Serve fault) = false
 
--- the error is the fault of this number; a file that could not be read or written is another error
+-- Whether the error is the fault with this number. The errors about a file that could not be read or written count as other
+-- errors.
 abbrev pub is_fault : ℕ → CliError → Bool
 is_fault number (Words error) = false
 is_fault number NoCommand = false
@@ -58,7 +59,7 @@ abbrev pub count_in : {T : Type 0} → ℕ → Result T CliError → ℕ
 count_in number (Ok value) = 0
 count_in number (Err error) = if is_fault number error then 1 else 0
 
--- the exit status: 2 for bad arguments and for help, 3 if there is no answer
+-- the exit status: 2 for bad arguments and for help, 3 for any other error
 abbrev pub IsCode : CliError → ℕ → Type 0
 IsCode (Words error) status = ((kind_of error ≡ OutOfMemory) × (status ≡ 3)) ⊎ ((kind_of error ≢ OutOfMemory) × (status ≡ 2))
 IsCode NoCommand status = status ≡ 2
@@ -75,7 +76,7 @@ IsCode (Serve fault) status = status ≡ 3
 abbrev pub IsTwice : Option Text × Option Text → Type 0
 IsTwice (first, second) = (is_some second ≡ true) × ((file_named first ≡ None) × (file_named second ≡ None))
 
--- one of the two texts is in this file
+-- the file with this name is the file of one of the two texts
 abbrev pub IsNamed : Option Text × Option Text → Text → Type 0
 IsNamed (first, second) name = (file_named first ≡ Some name) ⊎ (file_named second ≡ Some name)
 
@@ -83,7 +84,7 @@ IsNamed (first, second) name = (file_named first ≡ Some name) ⊎ (file_named 
 abbrev pub IsToldAs : Option Text × Option Text → Text → Type 0
 IsToldAs (first, second) name = (is_some second ≡ true) × ((name ≡ name_or_none (file_named first)) ⊎ (name ≡ name_or_none (file_named second)))
 
--- reading failed, or memory ran out
+-- whether the fault with this number means that reading failed or that memory ran out
 abbrev pub is_of_reading : ℕ → Bool
 is_of_reading number = number == MEMORY || number == READ_FAILED
 
@@ -126,7 +127,7 @@ IsOfTexts command files (Occupied name) = ⊥
 IsOfTexts command files (Unwritten name) = ⊥
 IsOfTexts command files (Serve fault) = IsTrue (is_known_of command fault.number)
 
--- the certificate could not be written to the named file
+-- the error is that the certificate could not be written to the named file
 abbrev pub IsUnwritten : Option Text → CliError → Type 0
 IsUnwritten named (Words error) = ⊥
 IsUnwritten named NoCommand = ⊥
@@ -139,8 +140,8 @@ IsUnwritten named (Occupied name) = ⊥
 IsUnwritten named (Unwritten name) = named ≡ Some name.now
 IsUnwritten named (Serve fault) = ⊥
 
--- an error `Occupied` is reported only if the file's content is not that of a certificate, and an error `Directory` only if
--- the file is a directory; both as far as files and directories are known
+-- If the error is `Occupied`, a certificate may not replace the content of the file that it names. If the error is `Directory`,
+-- there is a directory with that name. Neither is claimed if the content or the directory is not known.
 abbrev pub IsOccupied : (Text → Option (List ℕ)) → (Text → Option Bool) → CliError → Type 0
 IsOccupied content directory (Words error) = Unit {0}
 IsOccupied content directory NoCommand = Unit {0}
@@ -153,7 +154,7 @@ IsOccupied content directory (Occupied name) = IfSome (content name.now) (λ tex
 IsOccupied content directory (Unwritten name) = Unit {0}
 IsOccupied content directory (Serve fault) = Unit {0}
 
--- an error `Unread` is reported only if the file's content is not known
+-- if the error is `Unread`, the content of the file that it names is not known
 abbrev pub IsUnreadable : (Text → Option (List ℕ)) → CliError → Type 0
 IsUnreadable content (Words error) = Unit {0}
 IsUnreadable content NoCommand = Unit {0}
@@ -166,7 +167,8 @@ IsUnreadable content (Occupied name) = Unit {0}
 IsUnreadable content (Unwritten name) = Unit {0}
 IsUnreadable content (Serve fault) = Unit {0}
 
--- the error that a file of this name has this text, and a certificate may not replace it; or memory ran out
+-- A possible error of the check that a certificate may replace the file `named`, whose content is `text`. Either a certificate
+-- may not replace this content, or memory ran out.
 abbrev pub IsOfText : Text → List ℕ → CliError → Type 0
 IsOfText named text (Words error) = ⊥
 IsOfText named text NoCommand = ⊥
@@ -179,7 +181,8 @@ IsOfText named text (Occupied name) = (name.now ≡ named) × (is_replaceable te
 IsOfText named text (Unwritten name) = ⊥
 IsOfText named text (Serve fault) = fault.number ≡ MEMORY
 
--- a possible error of reading the text of the file of this name that a certificate is to replace, if the file's content is known
+-- A possible error of the check that a certificate may replace the file `named`. The file could not be read, a certificate may
+-- not replace its content, or memory ran out. `content` is the content of the file, if it is known.
 abbrev pub IsOfContent : Option (List ℕ) → Text → CliError → Type 0
 IsOfContent content named (Words error) = ⊥
 IsOfContent content named NoCommand = ⊥
@@ -192,7 +195,7 @@ IsOfContent content named (Occupied name) = (name.now ≡ named) × IfSome conte
 IsOfContent content named (Unwritten name) = ⊥
 IsOfContent content named (Serve fault) = fault.number ≡ MEMORY
 
--- an error `Bundle` is reported only if the text that it names is a bundle, as far as that text is known
+-- If the error is `Bundle`, the text that it names is a bundle. This is not claimed if that text is not known.
 abbrev pub IsBundled : Command → (Text → Option (List ℕ)) → Option (List ℕ) → Option Text × Option Text → CliError → Type 0
 IsBundled command content input files (Words error) = Unit {0}
 IsBundled command content input files NoCommand = Unit {0}
@@ -205,7 +208,7 @@ IsBundled command content input files (Occupied name) = Unit {0}
 IsBundled command content input files (Unwritten name) = Unit {0}
 IsBundled command content input files (Serve fault) = Unit {0}
 
--- the error that the text of this name is a bundle, and it is
+-- the error is `Bundle` with the name of this text, and the text is a bundle
 abbrev pub IsOfBundle : Option Text → List ℕ → CliError → Type 0
 IsOfBundle named text (Words error) = ⊥
 IsOfBundle named text NoCommand = ⊥
@@ -218,7 +221,7 @@ IsOfBundle named text (Occupied name) = ⊥
 IsOfBundle named text (Unwritten name) = ⊥
 IsOfBundle named text (Serve fault) = ⊥
 
--- a possible error of the check that a certificate may be written to that file
+-- a possible error of the check that a certificate may be written to the named file
 abbrev pub IsOfReplacing : Option Text → CliError → Type 0
 IsOfReplacing named (Words error) = ⊥
 IsOfReplacing named NoCommand = ⊥
@@ -242,8 +245,8 @@ IsFaultOf words (Directory name) = certificate_of words ≡ Some name.now
 IsFaultOf words (Occupied name) = certificate_of words ≡ Some name.now
 IsFaultOf words fault = IfSome (command_of words) (λ command. IsOfTexts command (files_of words) fault)
 
--- what was written before the fault: a prefix of an answer if the sink failed, and a whole one if only the certificate's
--- file failed. `file` is the name of the plan's file in messages.
+-- What was written before the error. If the sink failed, this is a prefix of an answer. If the certificate file could not be
+-- written, it is a whole answer. `file` is the name of the plan's file in messages.
 abbrev pub IsWrittenBefore : CliError → Command → Text → List ℕ → Option (List ℕ) → Option (List ℕ) → Type 0
 IsWrittenBefore (Words error) command file input old new = Unit {0}
 IsWrittenBefore NoCommand command file input old new = Unit {0}

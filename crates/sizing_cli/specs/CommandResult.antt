@@ -1,4 +1,4 @@
--- What a command writes, and what it means.
+-- What a command writes, and what its status means.
 use Rattle.std.specs.Prelude.{◌≡◌, ◌≢◌, ◌+◌, ℕ, List, Option, Result, Ok, IfOk, IfErr, IfSome, IsTrue}
 use Rattle.std.specs.Io.KnownBytes.{Appends, Keeps}
 use Rattle.clap.specs.Words.{Text}
@@ -31,7 +31,7 @@ use Rattle.sizing_cli.specs.Ask.{IsAskAnswer, IsSafeAskInput}
 use Rattle.sizing_cli.specs.Conform.{IsConformAnswer, IsConformingInput}
 use Rattle.sizing_cli.specs.Learn.{IsConformingText, IsLearnAnswer}
 
--- The answer is a possible one of the task. Here and below, `file` is the name of the plan's file in messages.
+-- The answer is a possible answer of the task to the input. Here and below, `file` is the name of the plan's file in messages.
 abbrev pub IsTaskAnswer : Task → Text → List ℕ → Answer → Type 0
 IsTaskAnswer (Certify workers) file input answer = IsCertifyAnswer input answer
 IsTaskAnswer (Fit sizes_form) file input answer = IsFitAnswer sizes_form input answer
@@ -39,25 +39,25 @@ IsTaskAnswer (Run rounds) file input answer = answer ≡ run_report rounds input
 IsTaskAnswer (Refute states refute_format) file input answer = IsRefuteAnswer states refute_format input answer
 IsTaskAnswer (Ask given options) file input answer = (left : Option (List ℕ)) × IsAskAnswer given options file input left answer
 
--- the answer is a possible one for an input with a recording
+-- the answer is a possible answer of the command to an input with a recording
 abbrev pub IsRecordingAnswer : RecordingCommand → List ℕ → Answer → Type 0
 IsRecordingAnswer Conform input answer = IsConformAnswer input answer
 IsRecordingAnswer (Learn strict) input answer = IsLearnAnswer strict input answer
 
--- the answer is a possible one of the command
+-- the answer is a possible answer of the command to the input
 abbrev pub IsAnswer : Command → Text → List ℕ → Answer → Type 0
 IsAnswer (Sequential review) file input answer = answer ≡ report review input
 IsAnswer (OnRecording reading) file input answer = IsRecordingAnswer reading input answer
 IsAnswer (OnThreads task) file input answer = IsTaskAnswer task file input answer
 
--- such an answer was written, and the status is its status
+-- a possible answer of the command was written, and `status` is the status of this answer
 pub record WritesAnswer (command : Command) (file : Text) (input : List ℕ) (status : Status) (old new : Option (List ℕ)) : Type 0 where
   pub answer : Answer
   pub is_answer : IsAnswer command file input answer
   pub written : Appends old new answer.text
   pub status_is : status ≡ answer.status
 
--- a prefix of such an answer was written
+-- a proper prefix of a possible answer of the command was written
 pub record WritesPrefix (command : Command) (file : Text) (input : List ℕ) (old new : Option (List ℕ)) : Type 0 where
   pub answer : Answer
   pub is_answer : IsAnswer command file input answer
@@ -69,7 +69,8 @@ pub record WritesCertified (input : List ℕ) (old new : Option (List ℕ)) : Ty
   pub certified : IsCertifiedBundle (whole_lines input) text
   pub written : Appends old new text
 
--- a bundle was written: a plan that differs from the input's only in larger sizes, with a certificate that `check` accepts
+-- A bundle was written, with a certificate that `check` accepts. Its plan differs from the input's plan only in sizes, none of
+-- which is smaller.
 pub record WritesFitted (input : List ℕ) (old new : Option (List ℕ)) : Type 0 where
   pub plan : Plan
   pub is_plan : plan_of input ≡ Ok plan
@@ -89,10 +90,10 @@ pub record WritesLearned (input : List ℕ) (old new : Option (List ℕ)) : Type
   pub learned : IsConformingText input text
   pub written : Appends old new text
 
--- what status 0 means. For `check`, `run`, `ask`, the sizes of `fit` and the story of `refute`: the input's plan is safe.
--- For `certify` and the bundle of `fit`: the plan that was written is safe. For the bundle of `refute`: the plan that was
--- written has a witness. For `conform`: the recording conforms to the input's plan. For `learn`: the recording conforms to
--- the plan that was written.
+-- What status 0 means. For `check`, `run`, `ask`, `fit` without a bundle and `refute` without a bundle, the input's plan is
+-- safe. For `certify` and `fit` with a bundle, the plan that was written is safe. For `refute` with a bundle, the plan that was
+-- written has a witness. For `conform`, the recording conforms to the input's plan. For `learn`, the recording conforms to the
+-- plan that was written. For `replay` and `explain`, nothing is claimed.
 abbrev pub MeansSafe : Command → List ℕ → Option (List ℕ) → Option (List ℕ) → Type 0
 MeansSafe (Sequential Replay) input old new = Unit {0}
 MeansSafe (Sequential Check) input old new = IsSafeInput input
@@ -107,7 +108,8 @@ MeansSafe (OnThreads (Refute states refute_format.Story)) input old new = IsSafe
 MeansSafe (OnThreads (Refute states refute_format.Bundle)) input old new = WritesWitness input old new
 MeansSafe (OnThreads (Ask given options)) input old new = IsSafeAskInput given input
 
--- an answer of `ask` leaves this certificate; nothing is promised for other tasks
+-- For `ask`, the answer is a possible answer, and `left` is the text of the certificate that is returned with it. For other
+-- tasks, nothing is claimed.
 abbrev pub IsTaskAnswerWith : Task → Text → List ℕ → Answer → Option (List ℕ) → Type 0
 IsTaskAnswerWith (Certify workers) file input answer left = Unit {0}
 IsTaskAnswerWith (Fit sizes_form) file input answer left = Unit {0}
@@ -115,14 +117,16 @@ IsTaskAnswerWith (Run rounds) file input answer left = Unit {0}
 IsTaskAnswerWith (Refute states refute_format) file input answer left = Unit {0}
 IsTaskAnswerWith (Ask given options) file input answer left = IsAskAnswer given options file input left answer
 
--- an answer was written that leaves this certificate, and the status is its status
+-- An answer was written, and `status` is the status of this answer. For `ask`, `left` is the text of the certificate that is
+-- returned with it (`IsTaskAnswerWith`).
 pub record TaskWritesWithCertificate (task : Task) (file : Text) (input : List ℕ) (status : Status) (left old new : Option (List ℕ)) : Type 0 where
   pub answer : Answer
   pub is_left : IsTaskAnswerWith task file input answer left
   pub written : Appends old new answer.text
   pub status_is : status ≡ answer.status
 
--- what a command leaves besides its output: for `ask` the certificate that the answer rests on, if the plan is safe
+-- What a command returns besides its output. For `ask`, `left` is the text of the certificate that shows that the plan is safe.
+-- It is None for any other answer, or if the text is too long to be read back. For other commands, nothing is claimed.
 abbrev pub WritesWithCertificate : Command → Text → List ℕ → Status → Option (List ℕ) → Option (List ℕ) → Option (List ℕ) → Type 0
 WritesWithCertificate (Sequential review) file input status left old new = Unit {0}
 WritesWithCertificate (OnRecording reading) file input status left old new = Unit {0}
@@ -130,8 +134,8 @@ WritesWithCertificate (OnThreads task) file input status left old new = TaskWrit
 
 -- ---- whole calls
 
--- a source or a sink before and after a call: the bytes still to be read or already written, if they are known, and the
--- number of failures
+-- A source or a sink before and after a call. The state of a source is the bytes that are still to be read. The state of a sink
+-- is the bytes that are already written. A state is None if it is not known. Failures are counted.
 pub record StreamChange : Type 0 where
   pub before : Option (List ℕ)
   pub after : Option (List ℕ)
@@ -142,28 +146,28 @@ pub record StreamChange : Type 0 where
 abbrev pub stream_change : {X : Type 0} → (X → Option (List ℕ)) → (X → ℕ) → X → X → StreamChange
 stream_change bytes failures old new = record { before = bytes old; after = bytes new; failed_before = failures old; failed_after = failures new }
 
--- a call runs the command on this input and writes the answer to the sink. If the call ends with a fault, it wrote nothing,
--- or after a fault of the sink a prefix of the answer.
+-- A call runs the command on this input and writes the answer to the sink. If the sink fails, the call wrote a prefix of the
+-- answer. After any other fault, it wrote nothing.
 pub record ServesInput (command : Command) (file : Text) (input : List ℕ) (sink : StreamChange) (result : Result Status ServeFault) : Type 0 where
-  -- what was written, and the status, are a possible answer of the command
+  -- what was written and the status belong to a possible answer of the command
   pub answered : IfOk result (λ status. WritesAnswer command file input status sink.before sink.after)
   pub prefix : IfErr result (λ fault. fault.number ≡ WRITE_FAILED → WritesPrefix command file input sink.before sink.after)
   pub nothing : IfErr result (λ fault. fault.number ≢ WRITE_FAILED → Keeps sink.before sink.after)
   pub safe : IfOk result (λ status. status ≡ Done → MeansSafe command input sink.before sink.after)
-  -- only the command's own faults occur, 60 never, and 61 exactly when the sink failed
+  -- The fault is one of the command's own faults. It is never 60. It is 61 exactly when the sink failed.
   pub known : IfErr result (λ fault. IsTrue (is_known_of command fault.number))
   pub unread : IfErr result (λ fault. fault.number ≢ READ_FAILED)
   pub write_failed : sink.failed_after ≡ sink.failed_before + count_of WRITE_FAILED result
 
--- a call reads an input, runs the command on it and writes the answer to the sink. If the call ends with a fault, it wrote
--- nothing, or after a fault of the sink a prefix of the answer.
+-- A call reads an input, runs the command on it and writes the answer to the sink. If the sink fails, the call wrote a prefix
+-- of the answer. After any other fault, it wrote nothing.
 pub record Serves (command : Command) (file : Text) (source sink : StreamChange) (result : Result Status ServeFault) : Type 0 where
-  -- what was written, and the status, are a possible answer of the command to what was read
+  -- what was written and the status belong to a possible answer of the command to the input that was read
   pub answered : IfOk result (λ status. IfSome source.before (λ input. WritesAnswer command file input status sink.before sink.after))
   pub prefix : IfErr result (λ fault. fault.number ≡ WRITE_FAILED → IfSome source.before (λ input. WritesPrefix command file input sink.before sink.after))
   pub nothing : IfErr result (λ fault. fault.number ≢ WRITE_FAILED → Keeps sink.before sink.after)
   pub safe : IfOk result (λ status. status ≡ Done → IfSome source.before (λ input. MeansSafe command input sink.before sink.after))
-  -- only the command's own faults occur, and 60 and 61 exactly when the source and the sink failed
+  -- The fault is one of the command's own faults. It is 60 exactly when the source failed, and 61 exactly when the sink failed.
   pub known : IfErr result (λ fault. IsTrue (is_known_of command fault.number))
   pub read_failed : source.failed_after ≡ source.failed_before + count_of READ_FAILED result
   pub write_failed : sink.failed_after ≡ sink.failed_before + count_of WRITE_FAILED result

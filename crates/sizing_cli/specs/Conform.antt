@@ -1,5 +1,5 @@
--- The possible answers of `conform` to an input: a relation, since it does not fix the order in which paths through a body
--- are tried.
+-- The possible answers of `conform` to an input. The definition is a relation, because it does not fix the order in which paths
+-- through a body are tried.
 use Rattle.std.specs.Prelude.{◌≡◌, ◌==◌, ℕ, Bool, true, false, nat_lt, if◌then◌else◌, List, [], ◌∷◌, ◌++◌, length, flat_map, codes, decimal, Option, Some, None, Result, Ok, Err, MatchBool}
 use Rattle.std.specs.List.{list_all}
 use Rattle.job_bodies.specs.Plan.{Plan, pool_at}
@@ -31,7 +31,7 @@ use Rattle.sizing_cli.specs.Bundle.{Bundle, first_bundle_of}
 use Rattle.sizing_cli.specs.LineEnds.{line_end_hint}
 
 -- ---- the text and the status
--- the answer to a recording with this malformed line
+-- the answer that reports this malformed line of a recording
 abbrev pub bad_recording : List ℕ → RecordingFault → Answer
 bad_recording recording found = fault (head BAD_RECORDING ++ (codes " at " ++ (fault_text found ++ line_end_hint recording found.line)))
 
@@ -67,12 +67,13 @@ answer_of plan recording (Invalid found) = bad_recording recording found
 answer_of plan recording (Compared findings rejections) = findings_answer plan findings.items rejections.items
 
 -- ---- the findings
--- if there are no findings, the recording conforms, and each of its lines that would invalidate this result is a rejection that the plan
--- allows
+-- If there are no findings, the recording conforms to the plan. If a line of the recording would invalidate this result, the
+-- line is then a rejection that the plan allows.
 abbrev pub AreAllFindings : Plan → List ℕ → List Finding → Type 0
 AreAllFindings plan recording findings = findings ≡ [] → Conforms plan (lines_of recording) × HasNoInvalidation plan (lines_of recording)
 
--- either the recording's first malformed line; or, if it has none, all findings, each once, in the order of the lines
+-- The outcome of comparing the recording with the plan. If a line is malformed, it is the first malformed line. Otherwise it is
+-- all findings, each once, in the order of the lines, and the numbers of rejected jobs.
 pub record IsConformance (plan : Plan) (recording : List ℕ) (outcome : Conformance) : Type 0 where
   pub bad : IsFirstFault (lines_read recording) (fault_of outcome)
   pub found : IfCompared outcome (AreFindingsOf plan (lines_of recording))
@@ -98,8 +99,8 @@ AnswersBundle (Some bundle) answer = AnswersReading bundle.second (plan_of bundl
 abbrev pub IsConformAnswer : List ℕ → Answer → Type 0
 IsConformAnswer input answer = MatchBool (nat_lt MAX_RECORDED_BYTES (length input)) (answer ≡ input_too_long) (AnswersBundle (first_bundle_of input) answer)
 
--- what status 0 means: the input is a plan and a recording that conforms to it, and each line of the recording that would invalidate this
--- result is a rejection that the plan allows
+-- What status 0 means. The input is a bundle of a plan and a recording that conforms to it. If a line of the recording would
+-- invalidate this result, the line is a rejection that the plan allows.
 pub record IsConformingInput (input : List ℕ) : Type 0 where
   pub bundle : Bundle
   pub is_bundle : first_bundle_of input ≡ Some bundle

@@ -6,7 +6,8 @@ use Rattle.report.specs.Finding.{IsOpen}
 use Rattle.sizing_cli.specs.declared.certificate.SizesComparison.{SizesComparison}
 use Rattle.sizing_cli.specs.declared.certificate.SizesComparison.TheVariants.{Accepted, Other}
 
--- either their certificate accepts the plan as it is; or they differ, or there are none
+-- The comparison is true of the plan. If it is `Accepted`, its certificate accepts the plan with the declared sizes. If it is
+-- `Other`, a search found no sizes or other sizes than the declared ones (`IsOpen`).
 abbrev pub IsComparison : Plan → SizesComparison → Type 0
 IsComparison plan (Accepted cert) = IsTrue (accepted plan cert)
 IsComparison plan (Other sizes) = IsOpen plan sizes

@@ -1,4 +1,4 @@
--- The possible answers of `fit` to an input: a relation, since it does not fix which sizes are found.
+-- The possible answers of `fit` to an input. The definition is a relation, because it does not fix which sizes are found.
 use Rattle.std.specs.Prelude.{◌≡◌, ◌⊎◌, ◌<◌, ⊤, ℕ, nat_lt, ◌==◌, List, [], ◌∷◌, ◌++◌, length, codes, Result, Ok, Err, IsTrue, MatchBool}
 use Rattle.job_bodies.specs.Plan.{Plan}
 use Rattle.job_bodies.specs.FaultText.{fault_line}
@@ -24,7 +24,8 @@ use Rattle.sizing_cli.specs.declared.status.Status.TheVariants.{Done, Refused}
 use Rattle.sizing_cli.specs.Answer.{Answer, fault, input_too_long, yes_or_no}
 use Rattle.sizing_cli.specs.Certify.{IsBundleWith, HasLongText}
 
--- the answer with the sizes of the fitted plan; its status is a no if a size differs from the plan's
+-- The answer that lists the sizes of `fit`, which is the plan with the sizes that were found. Its status is a no if a size
+-- differs from that of `plan`.
 abbrev pub sizes_answer : Plan → Plan → Answer
 sizes_answer plan fit = record { text = sizes_text plan fit; status = yes_or_no (changes plan fit == 0) }
 
@@ -34,7 +35,7 @@ no_sizes_answer plan cause = record { text = no_sizes_text plan cause; status = 
 abbrev pub text_too_long : Answer
 text_too_long = record { text = codes "no bundle: text too long" ++ 10 ∷ []; status = Refused }
 
--- the lines that report the result of the search
+-- the answer with a line for each pool, or with the reason why no sizes were found
 abbrev pub lines_answer : Plan → SizesFound → Answer
 lines_answer plan (Found fit cert) = sizes_answer plan fit
 lines_answer plan (NotFound cause) = no_sizes_answer plan cause
@@ -45,8 +46,8 @@ pub record HasLongPlanText (plan : Plan) : Type 0 where
   pub is_text : IsPlanText plan text
   pub long : MAX_PLAN_BYTES < length text
 
--- the text is the bundle of a written text of the fitted plan and the text of the certificate. The text of the plan is read as the
--- effective plan of the fitted plan
+-- The text is the bundle of a text of the fitted plan and the text of the certificate. The first of these texts is read as the
+-- effective plan (`effective_plan`) of the fitted plan.
 pub record IsBundleOf (fit : Plan) (cert : Cert) (text : List ℕ) : Type 0 where
   pub fit_text : List ℕ
   pub is_text : IsPlanText fit fit_text
@@ -57,28 +58,28 @@ pub record IsBundled (fit : Plan) (cert : Cert) (answer : Answer) : Type 0 where
   pub bundle : IsBundleOf fit cert answer.text
   pub status : answer.status ≡ Done
 
--- the answers for sizes that were found and their certificate: the bundle, or a report that one of its texts is too long
+-- the answers for sizes that were found: the bundle, or a report that its plan or its certificate is too long
 abbrev pub BundlesSizes : Plan → Cert → Answer → Type 0
 BundlesSizes fit cert answer = ((answer ≡ text_too_long) × (HasLongPlanText fit ⊎ HasLongText cert)) ⊎ IsBundled fit cert answer
 
--- the answers for the result of the search
+-- the answers for the result of a search for sizes
 abbrev pub AnswersFound : SizesForm → Plan → SizesFound → Answer → Type 0
 AnswersFound Sizes plan found answer = answer ≡ lines_answer plan found
 AnswersFound Bundle plan (Found fit cert) answer = BundlesSizes fit cert answer
 AnswersFound Bundle plan (NotFound cause) answer = answer ≡ no_sizes_answer plan cause
 
--- no size changes: some certificate accepts the plan as it is
+-- the sizes that were found are the declared ones, with some certificate
 pub record IsAsDeclared (plan : Plan) (found : SizesFound) : Type 0 where
   pub cert : Cert
   pub is : found ≡ Found plan cert
 
--- if sizes were found, the plan with these sizes is its own effective plan
+-- if sizes were found, the plan with these sizes is its own effective plan (`effective_plan`)
 abbrev pub AreEffective : SizesFound → Type 0
 AreEffective (Found fit cert) = effective_plan fit ≡ fit
 AreEffective (NotFound cause) = ⊤
 
--- the answers for a plan: the result is true of the plan, decides whether there are sizes, and is reported; if the steady
--- certificate accepts the plan, no size changes
+-- The answer reports the result of a search for sizes. The result is true of the plan, and decides whether there are sizes. If
+-- the steady certificate (`steady_cert`) accepts the plan, the sizes that were found are the declared ones.
 pub record AnswersPlan (sizes_form : SizesForm) (plan : Plan) (answer : Answer) : Type 0 where
   pub found : SizesFound
   pub is_found : IsFound plan found
@@ -95,8 +96,8 @@ AnswersReading sizes_form (Ok plan) answer = AnswersPlan sizes_form plan answer
 abbrev pub IsFitAnswer : SizesForm → List ℕ → Answer → Type 0
 IsFitAnswer sizes_form input answer = MatchBool (nat_lt MAX_INPUT_BYTES (length input)) (answer ≡ input_too_long) (AnswersReading sizes_form (plan_of input) answer)
 
--- what status 0 means for a bundle: it has a fitted plan and a certificate, and the sizes of the plan are the least for
--- that certificate
+-- What status 0 means for a bundle. The bundle has a fitted plan and a certificate that `check` accepts. The sizes of the
+-- fitted plan are the least for this certificate (`IsSized`).
 pub record IsFittedBundle (plan : Plan) (text : List ℕ) : Type 0 where
   pub cert : Cert
   pub fit : Plan

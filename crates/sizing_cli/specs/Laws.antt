@@ -8,24 +8,25 @@ use Rattle.sizing_cli.specs.Bundle.{Bundle, bundle_of}
 abbrev pub has_separator : List ℕ → Bool
 has_separator text = list_any (λ line. bytes_eq line (codes "%%")) (slice_split (λ b. b == 10) text)
 
--- no line, or lines that each end with a newline
+-- the text is empty or ends with a newline
 abbrev pub IsWholeLines : List ℕ → Type 0
 IsWholeLines text = (text ≡ []) ⊎ ((front : List ℕ) × (text ≡ front ++ 10 ∷ []))
 
--- the input is the plan's text, a line `%%` and the second part; if the second part is empty, that line needs no newline
+-- The input consists of the plan's text, a line `%%` and the second part. If the second part is empty, the line `%%` needs no
+-- newline.
 abbrev pub IsJoined : List ℕ → Bundle → Type 0
 IsJoined input bundle = (input ≡ bundle.plan ++ (codes "%%" ++ 10 ∷ bundle.second)) ⊎ ((input ≡ bundle.plan ++ codes "%%") × (bundle.second ≡ []))
 
--- the split at the last line `%%`
+-- the bundle is the split of the input at its last line `%%`
 pub record IsSplit (input : List ℕ) (bundle : Bundle) : Type 0 where
   pub plan : IsWholeLines bundle.plan
   pub whole : IsJoined input bundle
   pub last : has_separator bundle.second ≡ false
 
--- an input is a bundle exactly if it is the split at its last line `%%`
+-- `bundle_of` splits an input into a bundle exactly if `IsSplit` says that this is the split at the last line `%%`
 abbrev pub InputsSplitAtTheLastSeparator : Type 0
 InputsSplitAtTheLastSeparator = (input : List ℕ) (bundle : Bundle) → bundle_of input ≡ Some bundle ↔ IsSplit input bundle
 
--- an input is not a bundle exactly if none of its lines is `%%`
+-- `bundle_of` finds no bundle exactly if no line of the input is `%%`
 abbrev pub NoBundleWithoutASeparator : Type 0
 NoBundleWithoutASeparator = (input : List ℕ) → bundle_of input ≡ None ↔ has_separator input ≡ false

@@ -1,4 +1,4 @@
--- The possible answers of `learn` to a recording: a relation, since it does not fix which bodies are found.
+-- The possible answers of `learn` to a recording. The definition is a relation, because it does not fix which bodies are found.
 use Rattle.std.specs.Prelude.{◌≡◌, ◌==◌, ◌⊎◌, ◌&&◌, ℕ, Bool, true, false, if◌then◌else◌, nat_lt, nat_eq, List, [], ◌∷◌, ◌++◌, length, flat_map, codes, decimal, None, Some, Ok, MatchBool}
 use Rattle.std.specs.List.{All, list_any}
 use Rattle.job_bodies.specs.Plan.{Plan, pool_at}
@@ -31,28 +31,28 @@ use Rattle.sizing_cli.specs.Answer.{Answer, input_too_long}
 use Rattle.sizing_cli.specs.Conform.{AreAllFindings, bad_recording}
 
 -- ---- the comments at the head of a plan
--- the number of rounds and jobs that the plan was derived from
+-- the comment with the numbers of rounds and jobs that the plan was derived from
 abbrev pub extent_comment : ℕ → ℕ → List ℕ
 extent_comment rounds jobs = codes "# Learned from a recording. Rounds: " ++ (decimal rounds ++ (codes ". Jobs: " ++ (decimal jobs ++ (codes "." ++ 10 ∷ []))))
 
--- a note on what a recording cannot show
+-- the comment that says what a recording cannot show
 abbrev pub not_taken_comment : List ℕ
 not_taken_comment = codes "# What was not taken is not here: another path, class, kind or pool. Each count is what was seen at once." ++ 10 ∷ []
 
--- the number of unfinished rounds and jobs, if there are any
+-- the comment with the numbers of unfinished rounds and jobs; empty if there are none
 abbrev pub unfinished_comment : ℕ → ℕ → List ℕ
 unfinished_comment rounds jobs =
     if nat_eq rounds 0 && nat_eq jobs 0 then [] else
     (codes "# Not at their ends yet. Rounds: " ++ (decimal rounds ++ (codes ". Jobs: " ++ (decimal jobs ++ (codes ". What they wait for, and what comes behind it, is not here." ++ 10 ∷ [])))))
 
--- the number of gets that timed out or were interrupted, if there are any
+-- the comment with the number of gets that timed out or were interrupted; empty if there are none
 abbrev pub failed_gets_comment : ℕ → List ℕ
 failed_gets_comment gets =
     if nat_eq gets 0 then [] else
     (codes "# Gets that timed out or were interrupted: " ++ (decimal gets ++ (codes ". A body has only those that returned later." ++ 10 ∷ [])))
 
--- the comment for a pool that may reject jobs: the number of jobs that it rejected; if it rejected none, that its queue is a
--- SynchronousQueue
+-- The comment for a pool that may reject jobs. It has the number of jobs that the pool rejected. If the pool rejected none, it
+-- says that the pool has a SynchronousQueue.
 abbrev pub rejection_comment : Plan → PoolRejections → List ℕ
 rejection_comment plan of_pool =
     if of_pool.count == 0
@@ -70,7 +70,7 @@ head_comment seen =
     extent_comment seen.rounds seen.jobs
     ++ (not_taken_comment ++ (unfinished_comment seen.unfinished_rounds seen.unfinished_jobs ++ failed_gets_comment seen.failed_gets))
 
--- the comment for a finding that the recording has and the plan does not contain
+-- the comment for a finding, which the recording shows and the plan does not contain
 abbrev pub comment_line : Plan → Finding → List ℕ
 comment_line plan found = codes "# " ++ finding_line plan found
 
@@ -78,8 +78,9 @@ abbrev pub comments : Plan → List Finding → List ℕ
 comments plan findings = flat_map (comment_line plan) findings
 
 -- ---- the answers
--- the plan's pools and client counts are those of the lines, and these are the numbers of rounds and jobs, of the
--- unfinished ones, and of the gets that failed
+-- `seen` matches the recording's lines. Its plan has their pools, and the counts of clients that they show. Its names of
+-- classes and clients are those of the lines. It also has the numbers of rounds and jobs, of unfinished rounds and jobs, and of
+-- gets that failed.
 pub record IsSeen (lines : List RecordedLine) (seen : InferredPlan) : Type 0 where
   pub pools : seen.plan.pools ≡ recorded_pools lines
   pub counts : AreCounted lines seen.plan.clients
@@ -91,17 +92,18 @@ pub record IsSeen (lines : List RecordedLine) (seen : InferredPlan) : Type 0 whe
   pub unfinished_jobs : seen.unfinished_jobs ≡ unfinished_jobs lines
   pub failed_gets : seen.failed_gets ≡ failed_gets lines
 
--- The text is this plan's. Comments at its head give the extent of the recording, the pools that may reject jobs, and each finding.
+-- The text is this plan's text. Comments at its head give the extent of the recording, the pools that may reject jobs, and each
+-- finding.
 pub record IsTextOf (seen : InferredPlan) (plan : Plan) (rejections : List PoolRejections) (findings : List Finding) (text : List ℕ) : Type 0 where
   pub is_plan : plan_of text ≡ Ok plan
   pub written : List ℕ
   pub is_written : IsPlanText plan written
   pub text_is : text ≡ head_comment seen ++ (rejection_comments plan rejections ++ (comments plan findings ++ 10 ∷ written))
 
--- The text is a plan's. Its pools are those of the recording, and `with_rejecting_pools` says which of them may reject jobs. The count of
--- each kind of client is the largest number of its rounds that were open at once, and at least 1. The jobs and the rounds of the recording
--- follow the plan's bodies, and the plan has enough clients. Each other finding is in a comment at the head of the text, in the order of
--- the recording's lines. If there is none, the recording conforms to the plan.
+-- The text is that of a plan. The plan has the pools of the recording, and `with_rejecting_pools` says which of them may reject
+-- jobs. The count of a client kind is the largest number of its rounds that were open at once, and at least 1. The jobs and the
+-- rounds of the recording follow the plan's bodies, and the plan has enough clients. Any other finding is in a comment at the
+-- head of the text, in the order of the recording's lines. If there are no findings, the recording conforms to the plan.
 pub record IsLearnedText (recording text : List ℕ) : Type 0 where
   pub seen : InferredPlan
   pub is_seen : IsSeen (lines_of recording) seen
@@ -115,16 +117,17 @@ pub record IsLearnedText (recording text : List ℕ) : Type 0 where
   pub conforms : AreAllFindings plan recording findings
   pub is_text : IsTextOf seen plan (rejections_of plan (lines_of recording)) findings text
 
--- The text is a plan's, as above, and the recording conforms to the plan: no comment at its head is about a finding.
+-- The text is that of a learned plan (`IsLearnedText`). The recording conforms to this plan, so there are no findings.
 pub record IsConformingText (recording text : List ℕ) : Type 0 where
   pub learned : IsLearnedText recording text
   pub conforms : learned.findings ≡ []
 
--- the report of `--strict` on a recording that does not conform to the plan derived from it
+-- the text of `learn --strict` for a recording that does not conform to the plan that was derived from it
 abbrev pub differences : Plan → List Finding → List ℕ
 differences plan findings = codes "no plan was written: the recording does not conform to it" ++ 10 ∷ findings_text plan findings
 
--- the answer for a learned plan with this text and these findings; its status is a yes only if there are no findings
+-- The answer for a learned plan with this text and these findings. Its status is a yes only if there are no findings. If there
+-- are findings and the flag (`--strict`) is true, the findings replace the text.
 abbrev pub learned_answer : Bool → List ℕ → Plan → List Finding → Answer
 learned_answer strict text plan [] = record { text = text; status = Done }
 learned_answer false text plan (finding ∷ others) = record { text = text; status = Refused }
@@ -140,8 +143,8 @@ pub record IsLearned (strict : Bool) (recording : List ℕ) (answer : Answer) : 
 abbrev pub not_learned : InferenceLimit → Answer
 not_learned reason = record { text = codes "no plan was learned: " ++ inference_limit_text reason ++ 10 ∷ []; status = Refused }
 
--- the recording is well-formed, and the answer is that no plan was learned, with a reason. The reason is `Text`, `Paths`, or one for which
--- `IsReason` holds. This definition does not say when `Text` or `Paths` is the reason
+-- The recording is well-formed, and the answer is that no plan was learned, with a reason. The reason is `Text`, `Paths`, or
+-- one for which `IsReason` holds. This definition does not say when the reason is `Text` or `Paths`.
 pub record IsNotLearned (recording : List ℕ) (answer : Answer) : Type 0 where
   pub no_fault : IsFirstFault (lines_read recording) None
   pub reason : InferenceLimit

@@ -11,6 +11,7 @@ has_return_at_end (Some line) = ends_with nat_eq line (13 ∷ [])
 abbrev pub ends_with_return : List ℕ → ℕ → Bool
 ends_with_return recording line = has_return_at_end (slice_get (whole_lines recording) (line - 1))
 
--- the end of the message about a malformed line
+-- The end of the message about the malformed line with this number. It is a hint if the line ends with a carriage return, and
+-- otherwise empty.
 abbrev pub line_end_hint : List ℕ → ℕ → List ℕ
 line_end_hint recording line = if ends_with_return recording line then codes "; it ends with a carriage return: convert the file from CRLF to newlines alone" else codes ""

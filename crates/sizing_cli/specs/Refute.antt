@@ -1,4 +1,5 @@
--- The possible answers of `refute` to an input: a relation, since it does not fix which witness is found, or that one is.
+-- The possible answers of `refute` to an input. The definition is a relation, because it does not fix which witness is found,
+-- or whether one is found.
 use Rattle.std.specs.Prelude.{◌≡◌, ◌⊎◌, ◌≤◌, ◌<◌, ◌==◌, ℕ, nat_lt, if◌then◌else◌, List, [], ◌∷◌, ◌++◌, length, codes, Result, Ok, Err, IsTrue, MatchBool}
 use Rattle.std.specs.Fmt.{decimal}
 use Rattle.job_bodies.specs.Plan.{Plan}
@@ -25,13 +26,13 @@ pub record HasCertificate (plan : Plan) : Type 0 where
   pub cert : Cert
   pub accepts : IsTrue (accepted plan cert)
 
--- this is a witness against the plan; if it names jobs, their numbers are in ascending order
+-- The witness is one against the plan. If it names jobs, their numbers are in ascending order.
 abbrev pub IsWitnessOf : Plan → Witness → Type 0
 IsWitnessOf plan witness = IsWitness plan witness.events.items witness.ending
 
 -- ---- the lines if there is no witness, with their statuses
 
--- the status of an answer without a bundle: a no if a bundle was wanted
+-- the status of an answer without a bundle: Refused if a bundle was requested, and otherwise the given status
 abbrev pub without_bundle : RefuteFormat → Status → Status
 without_bundle Story status = status
 without_bundle Bundle status = Refused
@@ -39,14 +40,15 @@ without_bundle Bundle status = Refused
 abbrev pub safe_answer : RefuteFormat → Answer
 safe_answer refute_format = record { text = codes "safe: a certificate was found" ++ 10 ∷ []; status = without_bundle refute_format Done }
 
--- the words after the number of states
+-- the text after the number of states
 abbrev pub were_searched : ℕ → List ℕ
 were_searched states = if states == 1 then codes " state was searched" else codes " states were searched"
 
 abbrev pub not_decided : RefuteFormat → ℕ → Answer
 not_decided refute_format states = record { text = codes "not decided: " ++ (decimal states ++ (were_searched states ++ 10 ∷ [])); status = without_bundle refute_format Undecided }
 
--- neither a certificate nor a witness was found in `searched` states, which are at most `states`
+-- The answer is that neither a certificate nor a witness was found. The answer has the number of states that were searched,
+-- which is at most `states`.
 pub record IsUndecided (states : ℕ) (refute_format : RefuteFormat) (plan : Plan) (answer : Answer) : Type 0 where
   pub uncertified : IsUncertified plan
   pub searched : ℕ
@@ -63,11 +65,12 @@ pub record TellsWitness (plan : Plan) (witness : Witness) (answer : Answer) : Ty
   pub reported : IsDescription plan witness answer.text
   pub status : answer.status ≡ Refused
 
--- the lines of the witness's events
+-- the event lines of the witness
 abbrev pub event_lines_of : Plan → Witness → List ℕ
 event_lines_of plan witness = lines_text plan (witness_lines witness)
 
--- the answer is the plan's text, a line `%%`, and the lines of the events, which are not too long to be read back
+-- The answer is the plan's text, a line `%%`, and the event lines of the witness. The event lines are short enough to be read
+-- back.
 pub record BundlesWitness (text : List ℕ) (plan : Plan) (witness : Witness) (answer : Answer) : Type 0 where
   pub bundle : answer.text ≡ text ++ (codes "%%" ++ 10 ∷ event_lines_of plan witness)
   pub short : length (event_lines_of plan witness) ≤ MAX_EVENT_BYTES
@@ -84,7 +87,8 @@ pub record Refutes (refute_format : RefuteFormat) (text : List ℕ) (plan : Plan
   pub is_witness : IsWitnessOf plan witness
   pub shows : ShowsWitness refute_format text plan witness answer
 
--- the text is the input's plan followed by the events of a witness against it, which are not too long to be read back
+-- The text is the input's plan, a line `%%`, and the event lines of a witness against the plan. The event lines are short
+-- enough to be read back.
 pub record IsWitnessBundle (input text : List ℕ) : Type 0 where
   pub plan : Plan
   pub is_plan : plan_of (whole_lines input) ≡ Ok plan
@@ -95,8 +99,8 @@ pub record IsWitnessBundle (input text : List ℕ) : Type 0 where
 
 -- ---- whole inputs
 
--- the answers for a plan's text if at most `states` states may be searched: that it is safe, if some certificate accepts it;
--- that it is undecided; or a witness
+-- The possible answers for a plan's text, after a search of at most `states` states. The plan is safe because some certificate
+-- accepts it, or it is undecided (`IsUndecided`), or it has a witness (`Refutes`).
 abbrev pub AnswersPlan : ℕ → RefuteFormat → List ℕ → Plan → Answer → Type 0
 AnswersPlan states refute_format text plan answer = ((answer ≡ safe_answer refute_format) × HasCertificate plan) ⊎ (IsUndecided states refute_format plan answer ⊎ Refutes refute_format text plan answer)
 

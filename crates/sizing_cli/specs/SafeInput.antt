@@ -16,7 +16,7 @@ pub record IsSafeInput (input : List ℕ) : Type 0 where
   pub is_bundle : bundle_of input ≡ Some bundle
   pub safe : IsSafeToRun bundle.plan bundle.second
 
--- the input is the text of a plan, and some certificate guarantees its safety
+-- the input is the text of a plan, and some certificate guarantees that this plan is safe
 pub record IsSafePlan (input : List ℕ) : Type 0 where
   pub plan : Plan
   pub is_plan : plan_of input ≡ Ok plan

@@ -26,7 +26,7 @@ abbrev pub has_certificate_keys : Option Data → Bool
 has_certificate_keys (Some value) = has_keys value
 has_certificate_keys None = false
 
--- the bytes are the text of a JSON object with these keys
+-- the bytes are the text of a JSON object with exactly the keys of a certificate
 abbrev pub is_object_text : List ℕ → Bool
 is_object_text bytes = is_utf8 bytes && has_certificate_keys (read bytes)
 
@@ -34,24 +34,25 @@ is_object_text bytes = is_utf8 bytes && has_certificate_keys (read bytes)
 abbrev pub is_certificate : List ℕ → Bool
 is_certificate text = nat_le (length text) MAX_CERT_BYTES && is_object_text text
 
--- a certificate may replace this text: it is empty, or is a certificate itself, of this or another plan
+-- whether a certificate may replace this text: the text is empty, or is itself a certificate, of this or another plan
 abbrev pub is_replaceable : List ℕ → Bool
 is_replaceable text = length text == 0 || is_certificate text
 
--- A certificate may be written under this name: the name is not `-`; if it is known what files exist, there is no directory
--- of that name; and if the file's text is known, a certificate may replace it.
+-- A certificate may be written to the file with this name. The name is not `-`. As far as the directories are known, none has
+-- this name. As far as the content of the file is known, a certificate may replace it.
 pub record IsReplaceableName (content : Text → Option (List ℕ)) (directory : Text → Option Bool) (name : Text) : Type 0 where
   pub file : bytes_eq name (codes "-") ≡ false
   pub no_directory : IfSome (directory name) (λ known. known ≡ false)
   pub text : IfSome (content name) (λ text. is_replaceable text ≡ true)
 
--- if the certificate's file has a name, a certificate may be written under it
+-- if a certificate file is named, a certificate may be written to it
 abbrev pub IsReplaceable : (Text → Option (List ℕ)) → (Text → Option Bool) → Option Text → Type 0
 IsReplaceable content directory named = IfSome named (IsReplaceableName content directory)
 
--- An answer was written. If it rests on a certificate and a file is named for it, the certificate's text was written to
--- that file, or that write failed; nothing else was written to a file. The certificate is missing if the plan is not safe,
--- or if the certificate's text is too long to be read back. A write that failed was one of a certificate.
+-- The writes to files after an answer was written to the sink. `left` is the text of the certificate that the answer is based
+-- on. There is no such text if the plan is not shown to be safe, or if the text is too long to be read back. If there is a text
+-- and a certificate file is named, the only write is that of the text to this file. Otherwise there is no write. `is_done` is
+-- false if the write failed.
 pub record WritesCertificateFile (before after : Option (List FileWrite)) (named : Option Text) (is_done : Bool) (command : Command) (file : Text) (input : List ℕ) (status : Status) (old new : Option (List ℕ)) : Type 0 where
   pub left : Option (List ℕ)
   pub leaves : WritesWithCertificate command file input status left old new

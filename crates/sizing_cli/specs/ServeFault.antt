@@ -12,12 +12,12 @@ use Rattle.support.specs.declared.number.TheConstants.{MEMORY, STRANGE, MIXED, G
 use Rattle.sizing_cli.specs.declared.status.Status.{Status}
 use Rattle.sizing_cli.specs.declared.status.ServeFault.{ServeFault}
 
--- the fault after a failed read of the input
+-- the number of the fault after a failed read of the input
 abbrev pub fault_of_input : InputError → ℕ
 fault_of_input Memory = MEMORY
 fault_of_input Fault = READ_FAILED
 
--- the fault after a failed search
+-- the number of the fault after a failed search
 abbrev pub fault_of_search : SearchFault → ℕ
 fault_of_search search.Memory = MEMORY
 fault_of_search search.Mixed = MIXED
@@ -40,7 +40,7 @@ is_of_search number = number == MEMORY || number == MIXED || number == GATE
 abbrev pub is_of_run : ℕ → Bool
 is_of_run number = number == STRANGE || is_of_search number
 
--- the faults of a task, apart from reading and writing
+-- the faults of a task, except those of reading the input and writing the answer
 abbrev pub is_of_threads : Task → ℕ → Bool
 is_of_threads (Certify workers) number = is_of_search number
 is_of_threads (Fit sizes_form) number = is_of_search number

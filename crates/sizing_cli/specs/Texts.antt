@@ -19,11 +19,12 @@ abbrev pub JoinedTextsSplitAgain : Type 0
 JoinedTextsSplitAgain = (plan second : List ℕ) → has_separator second ≡ false
     → bundle_of (join_texts plan second) ≡ Some (record { plan = whole_lines plan; second = second })
 
--- the part of a text that the command reads, which is enough to detect one that is too long
+-- The part of a text that the command reads. It ends at most one byte after the longest valid input. This byte shows that the
+-- text is too long.
 abbrev pub read_part : Command → List ℕ → List ℕ
 read_part command = take (most_bytes command + 1)
 
--- the text is this input, or the part of it that the command reads
+-- the text is the whole input, or the part of the input that the command reads
 abbrev pub IsReadOf : Command → List ℕ → List ℕ → Type 0
 IsReadOf command text input = (text ≡ input) ⊎ (text ≡ read_part command input)
 
@@ -31,29 +32,29 @@ IsReadOf command text input = (text ≡ input) ⊎ (text ≡ read_part command i
 abbrev pub not_input : Text → Option Text
 not_input name = if bytes_eq name (codes "-") then None else Some name
 
--- the named file, or none for standard input
+-- the named file; None for standard input, which is meant by `-` and by no name
 abbrev pub file_named : Option Text → Option Text
 file_named = option_and_then not_input
 
--- the name of the plan's file in messages
+-- the name that messages use for a text: the name of its file, or `<stdin>`
 abbrev pub name_or_none : Option Text → Text
 name_or_none None = codes "<stdin>"
 name_or_none (Some name) = name
 
--- the name of the plan's file in messages, given the named files: the first file, or `<stdin>`
+-- the name of the plan's file in messages, given the names of the first and the second file
 abbrev pub plan_name : Option Text × Option Text → Text
 plan_name (first, second) = name_or_none (file_named first)
 
--- the text of this file, or of standard input if there is none
+-- the text of the named file, or of standard input if no file is named; None if the text is not known
 abbrev pub text_of : (Text → Option (List ℕ)) → Option (List ℕ) → Option Text → Option (List ℕ)
 text_of files input None = input
 text_of files input (Some name) = files name
 
--- the named text, if it is known
+-- the text of the named file, or of standard input; None if it is not known
 abbrev pub text_named : (Text → Option (List ℕ)) → Option (List ℕ) → Option Text → Option (List ℕ)
 text_named files input name = text_of files input (file_named name)
 
--- the input if no second text is named
+-- the command's input if only one text is named: standard input, or the part of the file that the command reads
 abbrev pub served_of : Command → (Text → Option (List ℕ)) → Option (List ℕ) → Option Text → Option (List ℕ)
 served_of command files input None = input
 served_of command files input (Some name) = option_map (read_part command) (files name)
@@ -62,14 +63,14 @@ abbrev pub both_read_parts : Command → Option (List ℕ) → Option (List ℕ)
 both_read_parts command (Some plan) (Some second) = Some (join_texts (read_part command plan) (read_part command second))
 both_read_parts command _ _ = None
 
--- the command's input, if it is known, from the named files and standard input
+-- the command's input, given the names of the first and the second file; None if it is not known
 abbrev pub input_named : Command → (Text → Option (List ℕ)) → Option (List ℕ) → Option Text × Option Text → Option (List ℕ)
 input_named command files input (first, None) = served_of command files input (file_named first)
 input_named command files input (first, Some second) = both_read_parts command (text_named files input first) (text_named files input (Some second))
 
 -- ---- bundles among the two named texts
 
--- the text is not a bundle, or it is not known
+-- if the text is known, the part of it that the command reads is not a bundle
 abbrev pub IsAlone : Command → Option (List ℕ) → Type 0
 IsAlone command known = IfSome known (λ text. bundle_of (read_part command text) ≡ None)
 
@@ -83,12 +84,13 @@ splits_at_first (OnRecording (Learn strict)) = false
 splits_at_first (Sequential review) = false
 splits_at_first (OnThreads task) = false
 
--- if two texts are named, neither is a bundle; the recording of `conform` may have lines `%%`
+-- If two texts are named, neither is a bundle. Only the recording of `conform` may have lines `%%`.
 abbrev pub AreAlone : Command → (Text → Option (List ℕ)) → Option (List ℕ) → Option Text × Option Text → Type 0
 AreAlone command files input (first, None) = Unit {0}
 AreAlone command files input (first, Some second) = IsAlone command (text_named files input first) × (splits_at_first command ≡ false → IsAlone command (text_named files input (Some second)))
 
--- the one of the two named texts that has this name in messages is a bundle; it is not the recording of `conform`
+-- One of the two named texts has this name in messages and is a bundle, if it is known. This text is not the recording of
+-- `conform`.
 abbrev pub IsBundleNamed : Command → (Text → Option (List ℕ)) → Option (List ℕ) → Option Text × Option Text → Text → Type 0
 IsBundleNamed command files input (first, second) name =
     ((name ≡ name_or_none (file_named first)) × IsBundle command (text_named files input first)) ⊎ ((splits_at_first command ≡ false) × (name ≡ name_or_none (file_named second)) × IsBundle command (text_named files input second))

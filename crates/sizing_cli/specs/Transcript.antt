@@ -1,4 +1,4 @@
--- The answer of a replay: the steps of the written machine from a state, and its waiting sets.
+-- The answer of a replay. It is defined by the steps of the written machine from a state, and by the waiting sets.
 use Rattle.std.specs.Prelude.{ℕ, suc, ◌+◌, Bool, true, false, if◌then◌else◌, List, [], ◌∷◌, count_by, Option, Some, None}
 use Rattle.job_bodies.specs.Plan.{Plan}
 use Rattle.written_machine.specs.declared.event.Outcome.{Outcome}
@@ -19,7 +19,7 @@ abbrev pub is_refusal : Outcome → Bool
 is_refusal (outcome.Refused p) = true
 is_refusal _ = false
 
--- the reply makes the whole answer a no
+-- whether this reply makes the status of the whole answer a no
 abbrev pub is_no : Reply → Bool
 is_no (reply.Performed outcome) = is_refusal outcome
 is_no reply.NotPossible = true
@@ -30,7 +30,7 @@ abbrev pub is_last : Reply → Bool
 is_last reply.NotPossible = true
 is_last _ = false
 
--- the part of the answer for the line of this number
+-- the line with the reply to the event line with this number, and its status
 abbrev pub reply_answer : Plan → ℕ → Reply → Answer
 reply_answer plan number reply = record { text = numbered number (reply_text plan reply); status = if is_no reply then Refused else Done }
 
@@ -50,7 +50,7 @@ count_rejection reply rejected = if is_rejection reply then suc rejected else re
 abbrev pub shown_rejections : Plan → ℕ → Option ℕ
 shown_rejections plan rejected = if may_reject plan then Some rejected else None
 
--- the last line of a replay that ends in state s; `rejected` jobs were rejected
+-- the last line of a replay that ends in state s and in which `rejected` jobs were rejected
 abbrev pub ending : Plan → State → ℕ → Answer
 ending plan s rejected = record { text = summary s.refusals (shown_rejections plan rejected) (unfinished s); status = Done }
 
@@ -64,14 +64,15 @@ abbrev pub reply_to : Plan → State → Line → State × Reply
 reply_to plan s (Perform event) = event_reply s (step plan s event)
 reply_to plan s (Stuck members) = (s, reply.Stuck (is_waiting_set plan s members))
 
--- the answer with this reply, followed by the rest of the replay, or by the last line if no line is replayed after the reply. `rejected`
--- jobs were rejected before the reply
+-- The answer that begins with this reply. If no line is replayed after it, only the last line of the replay follows. Otherwise
+-- `rest` follows. Before the reply, `rejected` jobs were rejected.
 abbrev pub reply_then : Plan → ℕ → ℕ → State × Reply → (State → ℕ → Answer) → Answer
 reply_then plan rejected number x rest =
     let rejected' = count_rejection x.1 rejected in
     followed_by (reply_answer plan number x.1) (if is_last x.1 then ending plan x.0 rejected' else rest x.0 rejected')
 
--- the replay of the lines from state s. The first line has the number `number`, and `rejected` jobs were rejected before it
+-- The replay of the lines from state s. The first of these lines has the number `number`. Before it, `rejected` jobs were
+-- rejected.
 abbrev pub transcript : Plan → State → ℕ → ℕ → List Line → Answer
 transcript plan s rejected number [] = ending plan s rejected
 transcript plan s rejected number (line ∷ lines) = reply_then plan rejected number (reply_to plan s line) (λ s' rejected'. transcript plan s' rejected' (number + 1) lines)

@@ -55,11 +55,11 @@ impl Answer {
         })
     }
 
-    /// Appends the reply to the event line `number`, counted from 1, as a line. Sets the status to
-    /// [`Status::Refused`] in these cases:
+    /// Appends the line with the reply to one event line. `number` is the number of the event line,
+    /// counted from 1. Sets the status to [`Status::Refused`] in these cases:
     ///
     /// - The event was refused or was not possible.
-    /// - The jobs that a `stuck` line names are stuck.
+    /// - The event line is a `stuck` line, and the jobs that it names are stuck.
     pub fn push_reply(
         &mut self,
         plan: &Plan,
@@ -120,15 +120,16 @@ fn limit_words(limit: RunLimit) -> &'static str
     }
 }
 
-/// Returns the answer to event lines of which line number `line`, counted from 1, is malformed.
+/// Returns the answer to event lines with a malformed line. `line` is the number of the first such
+/// line, counted from 1.
 pub fn bad_event(alloc: Global, line: u64) -> Result<Answer, AllocError>
     ensures { IfOk result (λ answer. answer ≡ spec.bad_event line) }
 {
     fault(format!(in alloc; "{} at line {line}", FaultHead(number::BAD_EVENT))?)
 }
 
-/// Returns the answer to a recording with a malformed line, which `found` names. If this line ends
-/// with a carriage return, the answer says so.
+/// Returns the answer to a recording with a malformed line. `found` has the number of this line and
+/// says what is wrong with it. If the line ends with a carriage return, the answer says so.
 pub fn bad_recording(
     alloc: Global,
     recording: &[u8],
@@ -140,14 +141,14 @@ pub fn bad_recording(
     fault(format!(in alloc; "{} at {found}{hint}", FaultHead(number::BAD_RECORDING))?)
 }
 
-/// Returns the answer that reports this fault of a plan's text.
+/// Returns the answer that reports a fault of a plan's text.
 pub fn plan_fault(alloc: Global, plan_fault: PlanFault) -> Result<Answer, AllocError>
     ensures { IfOk result (λ answer. answer ≡ spec.fault (fault_line plan_fault)) }
 {
     fault(format!(in alloc; "{plan_fault}")?)
 }
 
-/// Returns the answer that reports this fault of a certificate's text.
+/// Returns the answer that reports a fault of a certificate's text.
 pub fn cert_fault(alloc: Global, cert_fault: CertFault) -> Result<Answer, AllocError>
     ensures { IfOk result (λ answer. answer ≡ spec.fault (head cert_fault.number)) }
 {

@@ -26,27 +26,28 @@ use std::thread::Threads;
 /// Runs the command that the arguments name, and writes its answer to the sink. The first argument
 /// is the program's name.
 ///
-/// The arguments name at most two files. A text is read from the file of this name in `files`. It
-/// is read from `input`, the standard input, if no file is named or the name is `-`. If one file is
-/// named, it holds the whole input of the command. If two files are named, the first holds the
-/// plan. The second holds the text that follows the line `%%` in a single input.
+/// The arguments name at most two files of `files`. If they name one file, it contains the whole
+/// input of the command. If they name two files, the first contains the plan. The second contains
+/// the text that follows the line `%%` in a whole input. The name `-` means `input`, the standard
+/// input. If no file is named, the whole input is read from `input`.
 ///
-/// The arguments can also name a file for the certificate that an answer is based on. The
-/// certificate is then written to this file after the answer. It is not written if the answer is
-/// based on no certificate, or if the certificate's text is too long to be read back.
+/// The arguments can also name a certificate file. If the answer is based on a certificate, the
+/// certificate is written to this file after the answer. It is not written if its text is too long
+/// to be read back.
 ///
-/// The certificate's file may not exist yet, or may be a regular file that is empty or holds a JSON
-/// object with the keys of a certificate. The call fails before it reads the input in these cases:
+/// The certificate file need not exist. A regular file is replaced only if it is empty or contains
+/// a JSON object with the keys of a certificate. The call fails before it reads the input in these
+/// cases:
 ///
-/// - A regular file of this name holds another text or cannot be read.
-/// - The name is `-`, or is the name of a directory.
+/// - The certificate file is a regular file that has other content or cannot be read.
+/// - The name of the certificate file is `-`, or is the name of a directory.
 ///
 /// # Errors
 ///
 /// Returns the [`CliError`] of the first failure. How much was written depends on the failure:
 ///
 /// - If the sink failed, a prefix of the answer was written.
-/// - If the certificate's file could not be written, the whole answer was written.
+/// - If the certificate file could not be written, the whole answer was written.
 /// - After any other failure, nothing was written.
 #[tactic(auto, using(crate::proofs::SavedTexts::no_writes, crate::proofs::SavedTexts::texts_untouched, crate::proofs::SavedTexts::calm_untouched))]
 pub fn serve_words<'a, R: Threads + Wait + Sync, F: TextFiles, S: Source, K: Sink>(
@@ -57,7 +58,7 @@ pub fn serve_words<'a, R: Threads + Wait + Sync, F: TextFiles, S: Source, K: Sin
     input: &mut S,
     sink: &mut K,
 ) -> Result<Status, CliError<'a>>
-    // What was written, and the status, are a possible answer of the named command to the named
+    // What was written and the status belong to a possible answer of the named command to the named
     // texts.
     ensures named { IfOk result (λ _.
         (is_some (command_of (map (λ word. word.now) words.now)) ≡ true)
@@ -82,7 +83,8 @@ pub fn serve_words<'a, R: Threads + Wait + Sync, F: TextFiles, S: Source, K: Sin
         MeansSafe command text (K.written sink.old)
         (K.written sink.new)))) }
 
-    // The certificate that the answer rests on, if there is one, is all that is written to files.
+    // Nothing is written to files except the certificate that the answer is based on, if there is
+    // one.
     ensures kept { IfOk result (λ status.
         IfSome
         (command_of (map (λ word. word.now) words.now))
@@ -139,8 +141,8 @@ pub fn serve_words<'a, R: Threads + Wait + Sync, F: TextFiles, S: Source, K: Sin
     ensures nothing { IfErr result
         (λ fault. is_of_sink fault ≡ false → Keeps (K.written sink.old) (K.written sink.new)) }
 
-    // If the sink failed, a prefix of such an answer was written; if the certificate's file failed,
-    // the whole answer.
+    // If the sink failed, a prefix of a possible answer was written. If the certificate file could
+    // not be written, the whole answer was written.
     ensures before { IfErr result (λ fault.
         IfSome
         (command_of (map (λ word. word.now) words.now))
@@ -161,8 +163,10 @@ pub fn serve_words<'a, R: Threads + Wait + Sync, F: TextFiles, S: Source, K: Sin
     Ok(status)
 }
 
-/// Runs the command of the parsed arguments, and writes its answer to the sink. Sets `found` in the
-/// same way as [`serve_named`](crate::serve_named) sets `certificate`.
+/// Runs the command of the parsed arguments, and writes its answer to the sink. After an answer of
+/// `ask`, `found` is the text of the certificate that the answer is based on. It is `None` in the
+/// cases that [`serve_named`](crate::serve_named) lists. Any other command leaves `found`
+/// unchanged.
 fn serve_parsed<'a, R: Threads + Wait + Sync, F: TextFiles, S: Source, K: Sink>(
     rt: &R,
     alloc: Global,

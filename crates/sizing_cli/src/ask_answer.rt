@@ -44,9 +44,9 @@ impl AskOutput {
     }
 }
 
-/// Returns the answer whether the plan in `input` is safe. `given` says whether the input is a
-/// plan's text or a bundle of a plan and a certificate. Messages use `file` as the name of the
-/// plan's file.
+/// Decides whether the plan in `input` is safe, and returns the answer. `given` says whether the
+/// input is a plan's text or a bundle of a plan and a certificate. Messages use `file` as the name
+/// of the plan's file.
 ///
 /// # Errors
 ///
@@ -165,7 +165,8 @@ fn ask_with<R: Threads + Wait + Sync>(
     }
 }
 
-/// Returns the answer of `ask` for a plan. The certificate, if one is given, has the plan's shape.
+/// Returns the answer of `ask` for a plan. `cert` is the given certificate, if there is one, after
+/// its text was parsed for this plan.
 fn ask_found<R: Threads + Wait + Sync>(
     rt: &R,
     alloc: Global,

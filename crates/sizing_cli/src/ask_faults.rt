@@ -19,8 +19,8 @@ use report::{
 use std::alloc::{AllocError, Global};
 use support::number::{CERT_TOO_LONG, NOT_JSON, VERSION, WEIGHT_TOO_LARGE};
 
-/// Returns the answer to a plan's text with the first fault `fault`. Messages use `file` as the
-/// name of the plan's file.
+/// Returns the answer that reports the faults of a plan's text. `fault` is the first of these
+/// faults. Messages use `file` as the name of the plan's file.
 pub(crate) fn faults_answer(
     alloc: Global,
     form: Form,
@@ -90,8 +90,8 @@ pub(crate) fn cert_fault_answer(
     Ok(bad_text(text))
 }
 
-/// Returns the text of a certificate's fault in the output format `form`. `words` is the message of
-/// the fault. For [`Form::Dot`], the text is the same as for [`Form::Words`].
+/// Returns the text that reports a certificate's fault in the output format `form`. `words` is the
+/// message of the fault. For [`Form::Dot`], the text is the same as for [`Form::Words`].
 fn cert_fault_text(
     alloc: Global,
     form: Form,
@@ -112,7 +112,7 @@ fn cert_fault_text(
     }
 }
 
-/// Returns a line with the message `words` and the number of the fault.
+/// Returns a line with the message `words` and the fault number `number`.
 fn numbered(alloc: Global, words: &str, number: u8) -> Result<String, AllocError>
     ensures { IfOk result (λ text. string_bytes text ≡ words.now ++ spec.fault_number number) }
 {

@@ -17,8 +17,8 @@ pub struct Bundle<'a> {
 /// Splits an input at its last line `%%`. If this line is the last line of the input, it may have
 /// no newline. Returns `None` if no line is `%%`.
 ///
-/// The function examines the lines that contain a `%` from the last to the first, each once, until
-/// a line is `%%`.
+/// The search starts at the end of the input. It skips lines without a `%`, and examines each other
+/// line once.
 pub fn bundle_of(input: &[u8]) -> Option<Bundle<'_>>
     ensures { option_map (λ bundle. record { plan = bundle.plan.now; second = bundle.second.now })
         result
@@ -37,10 +37,11 @@ pub fn bundle_of(input: &[u8]) -> Option<Bundle<'_>>
     }
 }
 
-/// Splits an input at its first line `%%`, which needs no newline if it ends the input. Returns
-/// `None` if no line is `%%`.
+/// Splits an input at its first line `%%`. If this line is the last line of the input, it may have
+/// no newline. Returns `None` if no line is `%%`.
 ///
-/// No text of a plan has such a line. So if the second part has one, a fault can name it there.
+/// A plan's text has no line `%%`. So any further line `%%` is in the second part, where a fault
+/// can report its line number.
 pub fn first_bundle_of(input: &[u8]) -> Option<Bundle<'_>>
     ensures { option_map (λ bundle. record { plan = bundle.plan.now; second = bundle.second.now })
         result

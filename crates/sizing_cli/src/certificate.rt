@@ -20,18 +20,21 @@ use std::alloc::{AllocError, Global};
 use std::sync::Wait;
 use std::thread::Threads;
 
-/// The maximum number of threads of a search or a check, if the command has no option that sets it.
+/// The maximum number of threads of a search or a check, for a command without an option that sets
+/// it.
 pub(crate) const WORKERS: usize = DEFAULT_WORKERS as usize;
 
-/// The number of pools for each search thread. With fewer pools for each, a further thread would
-/// save too little time for the memory that it needs.
+/// The number of pools of the plan for each thread of a search. A thread for fewer pools would save
+/// too little time for the memory that it needs.
 const POOLS_OF_A_WORKER: usize = 16;
 
 /// Returns a certificate that accepts the plan, or `None` if two searches find none:
 ///
-/// - The first search is for a certificate, in at most `workers` threads.
-/// - The second search is for sizes. If the certificate of these sizes also accepts the declared
-///   sizes, it is the result. So `certify` finds a certificate if `fit` changes no size.
+/// - The first search looks for a certificate, in at most `workers` threads.
+/// - The second search looks for sizes and a certificate that accepts them. This certificate is the
+///   result if it also accepts the declared sizes.
+///
+/// Because of the second search, `certify` finds a certificate if `fit` changes no size.
 ///
 /// # Errors
 ///
@@ -85,8 +88,8 @@ fn certificate_of_sizes(alloc: Global, plan: &Plan) -> Result<Option<Cert>, Allo
 pub(crate) enum SizesComparison {
     /// A certificate that accepts the plan with its declared sizes.
     Accepted(Cert),
-    /// The sizes that were found, with a certificate that does not accept the declared sizes. If no
-    /// sizes were found, the reason why.
+    /// Any other result of the search: either sizes with a certificate that does not accept the
+    /// declared sizes, or the reason why no sizes were found.
     Other(SizesFound),
 }
 

@@ -15,11 +15,11 @@ use std::sync::Wait;
 use std::thread::Threads;
 use support::number::{GATE, MEMORY};
 
-/// Returns the bundle of a plan's text and a certificate's text, or `None` if it fails one of these
-/// tests:
+/// Returns the bundle of a plan's text and a certificate's text. Returns `None` if the bundle fails
+/// one of these tests:
 ///
-/// - It splits into the same two texts again.
-/// - `check`, which runs in at most `workers` threads, accepts it.
+/// - The bundle splits into the same two texts again.
+/// - `check` accepts the bundle. The check runs in at most `workers` threads.
 ///
 /// # Errors
 ///
@@ -58,8 +58,8 @@ fn join_texts(plan: Vec<u8>, cert: Vec<u8>) -> Result<Vec<u8>, AllocError>
     Ok(text)
 }
 
-/// Returns true if two conditions hold: the text is a bundle with a plan of `plan_len` bytes, and
-/// `check` accepts the two parts of the bundle.
+/// Returns true if the text is a bundle with a plan of `plan_len` bytes, and `check` accepts this
+/// bundle.
 fn is_certified<R: Threads + Wait + Sync>(
     rt: &R,
     alloc: Global,

@@ -147,7 +147,7 @@ fn bundle<R: Threads + Wait + Sync>(
             bytes,
             status: Status::Done,
         }),
-        // The check on threads contradicts the search, which a check on one thread cannot do.
+        // The check on threads contradicts the search. A check on one thread cannot contradict it.
         None => Err(ServeFault { number: MIXED }),
     }
 }

@@ -13,9 +13,9 @@ use conformance::{Conformance, Finding, PoolRejections, conform, push_findings};
 use job_bodies::{MAX_RECORDED_BYTES, Plan};
 use std::alloc::{AllocError, Global};
 
-/// Returns how the recording differs from the plan. The input is a bundle of a plan and a
-/// recording, split at its first line `%%`. If it has a fault, the answer is that fault. So a line
-/// `%%` of the recording is a malformed line, and the answer names its number.
+/// Compares a recording with a plan, and returns the answer with the differences. The input is a
+/// bundle of the plan and the recording, split at its first line `%%`. Any further line `%%` is a
+/// malformed line of the recording. If the input has a fault, the answer is that fault.
 ///
 /// # Errors
 ///
@@ -69,8 +69,8 @@ fn findings_answer(
     Ok(Answer { text, status })
 }
 
-/// Appends a line for each pool with rejections that the plan allows. The line has the number of
-/// jobs that the pool rejected in this way.
+/// Appends a line for each pool that rejected jobs as the plan allows. The line has the number of
+/// these jobs.
 fn push_rejections(
     text: &mut String,
     plan: &Plan,

@@ -126,7 +126,7 @@ pub(crate) fn write_answer<R: Threads + Wait + Sync, K: Sink>(
     }
 }
 
-/// Runs the task on this input, which may use threads, and writes the answer to the sink.
+/// Runs the task on this input, and writes the answer to the sink. The task may use threads.
 fn write_task<R: Threads + Wait + Sync, K: Sink>(
     rt: &R,
     alloc: Global,
@@ -177,7 +177,7 @@ fn answer_on_threads<R: Threads + Wait + Sync>(
     }
 }
 
-/// Runs `ask`, and sets `certificate` as [`serve_named`] does.
+/// Runs `ask` and returns its output. Sets `certificate` as [`serve_named`] does.
 fn answer_question<R: Threads + Wait + Sync>(
     rt: &R,
     alloc: Global,

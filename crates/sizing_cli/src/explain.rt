@@ -12,9 +12,9 @@ use job_bodies::Plan;
 use refusal_notes::push_explanation;
 use std::alloc::{AllocError, Global};
 
-/// Returns the answer of `explain`. It has each condition of the certificate that fails, with the
-/// two numbers that the condition compares, and then the number of failed conditions. If the
-/// certificate's text has a fault, the answer is only this fault.
+/// Returns the answer of `explain`. It lists each condition of the certificate that fails, with the
+/// two numbers that the condition compares. The last line has the number of these conditions. If
+/// the certificate's text has a fault, the answer is only this fault.
 pub fn explain(alloc: Global, plan: &Plan, cert: &[u8]) -> Result<Answer, AllocError>
     ensures { IfOk result (λ answer. answer ≡ spec.explain plan.now cert.now) }
 {

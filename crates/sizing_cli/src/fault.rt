@@ -30,7 +30,7 @@ pub enum CliError<'a> {
     /// Two texts are given, and one of them is itself a bundle of two texts. The field is the file
     /// name of this text, or `<stdin>`.
     Bundle(&'a str),
-    /// The file of this name could not be read: fault 60.
+    /// The file of this name could not be read. This is fault 60.
     Unread(&'a str),
     /// The certificate's file is named `-`, which is not the name of a file.
     CertificateNeedsFile,

@@ -25,13 +25,12 @@ use std::thread::Threads;
 /// The maximum number of states that a search for a witness visits.
 const STATES: usize = DEFAULT_STATES as usize;
 
-/// Returns the finding whether a plan is safe, and whether the given certificate is stale, which
-/// means that it does not accept the plan.
+/// Decides whether a plan is safe. Returns the finding, and whether the given certificate is stale.
+/// A certificate is stale if it does not accept the plan.
 ///
 /// 1. If a certificate is given and accepts the plan, the plan is safe.
 /// 2. Otherwise, the plan is safe if a search finds a certificate.
-/// 3. Otherwise, searches for a witness, which shows that the plan is not safe, and for other
-///    sizes.
+/// 3. Otherwise, searches for other sizes and for a witness, which shows that the plan is not safe.
 ///
 /// # Errors
 ///
@@ -88,8 +87,8 @@ fn search_finding<R: Threads + Wait + Sync>(
     }
 }
 
-/// Returns the finding for a plan for which a search found no certificate. Searches for a witness
-/// and for other sizes.
+/// Returns the finding if a search found no certificate for the plan. Searches for a witness and
+/// for other sizes.
 fn without_certificate(alloc: Global, plan: &Plan) -> Result<PlanFinding, AllocError>
     requires { accepted plan.now (steady_cert plan.now) ≡ false }
     ensures { IfOk result (IsFinding plan.now) }
@@ -102,9 +101,9 @@ fn without_certificate(alloc: Global, plan: &Plan) -> Result<PlanFinding, AllocE
     }
 }
 
-/// Returns the finding for a plan for which a search found no witness. `sizes` are the sizes that
-/// another search found. The plan is safe if the certificate of these sizes also accepts the
-/// declared sizes. Otherwise the plan is undecided.
+/// Returns the finding if no certificate and no witness were found. `sizes` is the result of a
+/// search for sizes. The plan is safe if the certificate of the sizes that were found also accepts
+/// the declared sizes. Otherwise the plan is undecided.
 fn without_witness(alloc: Global, plan: &Plan, sizes: SizesFound) -> Result<PlanFinding, AllocError>
     requires known { IsKnown plan.now sizes }
     requires not_steady { accepted plan.now (steady_cert plan.now) ≡ false }
@@ -116,8 +115,9 @@ fn without_witness(alloc: Global, plan: &Plan, sizes: SizesFound) -> Result<Plan
     }
 }
 
-/// Returns the finding that the plan is safe by this certificate. For each pool, the finding has
-/// the number of events after which the pool rejects a job, if a search found such events.
+/// Returns the finding that the plan is safe by this certificate. For each pool, the finding also
+/// has the number of events after which the pool rejects a job. This number is missing if a search
+/// found no such events.
 fn safe_finding(alloc: Global, plan: &Plan, cert: Cert) -> Result<PlanFinding, AllocError>
     requires { IsTrue (accepted plan.now cert) }
     ensures finding { IfOk result (IsFinding plan.now) }

@@ -32,11 +32,10 @@ use std::alloc::{AllocError, Global};
 
 /// Returns the answer for this finding.
 ///
-/// - `lowered` has the plan with its maximums lowered to the core sizes, except in pools whose core
-///   threads may time out, and a certificate that accepts this plan. It is `None` without such a
-///   certificate.
+/// - `lowered` is the plan with lowered maximums, and a certificate that accepts it (see
+///   [`LoweredPlan`]). It is `None` if there is no such certificate.
 /// - `file` is the name that messages use for the plan's file.
-/// - `is_stale` says whether a certificate was given that does not accept the plan.
+/// - `is_stale` is true if a certificate was given that does not accept the plan.
 pub(crate) fn answer_of(
     alloc: Global,
     options: AskOptions,
@@ -103,8 +102,8 @@ fn plan_warnings(
     }
 }
 
-/// Returns the warnings about a plan that a certificate accepts even with its maximums lowered.
-/// `lowered` has the same meaning as in [`answer_of`].
+/// Returns the warnings about a plan that has a lowered plan. `lowered` is the lowered plan, and a
+/// certificate that accepts it.
 fn lowered_warnings(
     alloc: Global,
     text: &[u8],
@@ -137,9 +136,10 @@ fn declared_warnings(
     Ok(warnings)
 }
 
-/// Returns, for each pool, a queue capacity that the certificate proves to be enough, or `None` if
-/// it proves none. The certificate is that of the plan or, if there is none, that of the sizes that
-/// were found. The list is empty if there is no certificate.
+/// Returns, for each pool, a queue capacity that a certificate proves to be enough, or `None` if it
+/// proves none. The certificate of a safe plan is the one that shows its safety. For any other
+/// plan, it is the certificate of the sizes that were found. If no sizes were found, the list is
+/// empty.
 fn needed_of(
     alloc: Global,
     plan: &Plan,
@@ -164,7 +164,7 @@ fn needed_by_sizes(alloc: Global, sizes: &SizesFound) -> Result<Vec<Option<u64>>
     }
 }
 
-/// Appends a warning that the given certificate does not accept the plan, if `is_stale`.
+/// If `is_stale` is true, appends the warning that the given certificate does not accept the plan.
 fn with_stale(
     alloc: Global,
     mut warnings: Vec<Warning>,

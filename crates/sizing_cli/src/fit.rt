@@ -28,9 +28,9 @@ use std::sync::Wait;
 use std::thread::Threads;
 use support::number::MIXED;
 
-/// Searches for sizes that a certificate accepts. The input is a plan's text. Returns the sizes as
-/// lines, or as the bundle of the certificate and the plan with these sizes. Returns the reason if
-/// no sizes are found, or if the bundle would be too long.
+/// Searches for sizes that a certificate accepts, and returns the answer. The input is a plan's
+/// text. The answer has the sizes as lines, or as the bundle of the plan with these sizes and the
+/// certificate. If no sizes are found or the bundle would be too long, the answer has the reason.
 ///
 /// # Errors
 ///
@@ -71,8 +71,8 @@ fn fit_plan<R: Threads + Wait + Sync>(
     answer_of_sizes(rt, alloc, sizes_form, plan, &found)
 }
 
-/// Returns the answer for the result of a search for sizes. It is the sizes as lines, or the
-/// bundle, or the reason why there is neither.
+/// Returns the answer for the result of a search for sizes. The answer has the sizes, as lines or
+/// as a bundle, or the reason why it has none.
 ///
 /// # Errors
 ///
@@ -94,8 +94,8 @@ pub fn answer_of_sizes<R: Threads + Wait + Sync>(
     }
 }
 
-/// Searches for sizes that a certificate accepts. If a search finds a certificate for the plan's
-/// own sizes, returns these sizes.
+/// Searches for sizes that a certificate accepts. Returns the declared sizes if a first search
+/// finds a certificate that accepts them.
 fn sizes_of<R: Threads + Wait + Sync>(
     rt: &R,
     alloc: Global,
@@ -111,8 +111,8 @@ fn sizes_of<R: Threads + Wait + Sync>(
     Ok(search_sizes(alloc, plan, first)?)
 }
 
-/// Returns the answer with the sizes that were found, as lines, or with the reason why no sizes
-/// were found.
+/// Returns the answer with a line for each pool, which has the sizes that were found. If no sizes
+/// were found, the answer has the reason.
 fn lines_of(alloc: Global, plan: &Plan, found: &SizesFound) -> Result<Answer, AllocError>
     ensures { IfOk result (λ answer. answer ≡ spec.lines_answer plan.now found.now) }
 {
@@ -122,9 +122,9 @@ fn lines_of(alloc: Global, plan: &Plan, found: &SizesFound) -> Result<Answer, Al
     }
 }
 
-/// Returns the answer that lists the sizes of `fit`, which is `plan` with the sizes that were
-/// found. The status is [`Status::Done`] if all sizes of `fit` are the declared ones, and otherwise
-/// [`Status::Refused`].
+/// Returns the answer that lists sizes. `fit` is the plan with the sizes that were found, and
+/// `plan` is the plan with the declared sizes. The status is [`Status::Done`] if no size differs,
+/// and otherwise [`Status::Refused`].
 fn sizes(alloc: Global, plan: &Plan, fit: &Plan) -> Result<Answer, AllocError>
     ensures { IfOk result (λ answer. answer ≡ spec.sizes_answer plan.now fit.now) }
 {
@@ -165,9 +165,9 @@ fn bundle<R: Threads + Wait + Sync>(
     }
 }
 
-/// Returns the bundle of `fit`, the plan with the sizes that were found, and of `cert`, its
-/// certificate. If one of the two texts would be too long to be read back, returns an answer that
-/// says only this.
+/// Returns the bundle of `fit` and `cert`. `fit` is the plan with the sizes that were found, and
+/// `cert` is the certificate that accepts it. If one of the two texts would be too long to be read
+/// back, returns an answer that says only this.
 fn bundle_of_sizes<R: Threads + Wait + Sync>(
     rt: &R,
     alloc: Global,
@@ -191,7 +191,7 @@ fn bundle_of_sizes<R: Threads + Wait + Sync>(
             bytes,
             status: Status::Done,
         }),
-        // The check on threads contradicts the search, which a check on one thread cannot do.
+        // The check on threads contradicts the search. A check on one thread cannot contradict it.
         None => Err(ServeFault { number: MIXED }),
     }
 }

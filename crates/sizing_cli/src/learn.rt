@@ -45,9 +45,10 @@ pub fn learn_report(alloc: Global, strict: bool, input: &[u8]) -> Result<Answer,
     learn_from_all(alloc, strict, input)
 }
 
-/// Derives the bodies from the start of the recording, and returns the answer with these bodies.
-/// Returns `None` if no bodies are found or if they do not explain the whole recording. If the
-/// recording is malformed, the answer is its fault.
+/// Derives the bodies from the start of the recording, which takes less time than the whole
+/// recording. Returns the answer for the plan with these bodies. Returns `None` if no bodies are
+/// found, or if the whole recording does not follow them. If the recording is malformed, the answer
+/// is its fault.
 fn learn_from_start(
     alloc: Global,
     strict: bool,
@@ -80,12 +81,14 @@ fn learn_from_all(alloc: Global, strict: bool, recording: &[u8]) -> Result<Answe
 /// Returns the answer for the derived plan, in which each pool that rejects jobs in the recording
 /// may reject jobs. The answer is one of these:
 ///
-/// - a message that the text of the plan would be too long, if this is so;
+/// - a message that the text of the plan would be too long;
 /// - the list of differences, if `strict` is true and the recording does not conform to the plan;
-/// - otherwise the text of the plan, after comments that list what the recording shows beyond it.
+/// - otherwise the text of the plan, after comments that list what else the recording shows.
 ///
-/// Returns `None` if the plan does not explain the recording, because a job or a round follows no
-/// body or is undecided, or because there are too many rounds of a client kind.
+/// Returns `None` if the plan does not explain the recording, which happens in these cases:
+///
+/// - A job or a round follows no body, or it is undecided whether it follows one.
+/// - A client kind has more rounds than the plan allows.
 fn plan_answer(
     alloc: Global,
     strict: bool,
@@ -116,8 +119,8 @@ fn plan_answer(
     }
 }
 
-/// Returns the text of the plan, with comments at its head that list what the recording shows
-/// beyond the plan. Returns `None` if the text is too long, or if parsing it does not give this
+/// Returns the text of the plan. Comments at its head list what the recording shows and the plan
+/// does not contain. Returns `None` if the text is too long, or if parsing it does not give this
 /// plan.
 fn commented_plan(
     alloc: Global,
@@ -142,7 +145,8 @@ fn commented_plan(
     }
 }
 
-/// Returns true if these conditions hold:
+/// Checks that `text` describes the same plan as `written`, the text without the comments. Returns
+/// true if these conditions hold:
 ///
 /// - `text` parses as a plan.
 /// - [`write_plan`] writes this plan as `written`.
@@ -231,7 +235,7 @@ fn push_failed_gets(text: &mut String, gets: usize) -> Result<(), AllocError>
 }
 
 /// Appends a comment for each pool that may reject jobs. The comment has the number of jobs that
-/// the pool rejected. If the pool rejected no jobs, it says instead that the pool has a
+/// the pool rejected. If this number is 0, the comment says instead that the pool has a
 /// `SynchronousQueue`.
 fn push_rejection_comments(
     text: &mut String,
@@ -290,9 +294,10 @@ fn push_comment(text: &mut String, plan: &Plan, finding: &Finding) -> Result<(),
     text.push('\n')
 }
 
-/// Returns the answer for a learned plan with the text `text`. If there are findings, the answer is
-/// no. If there are findings and `strict` is true, the answer has the findings in place of the
-/// plan.
+/// Returns the answer for a learned plan with the text `text`. `findings` are the differences
+/// between the recording and the plan. If there are none, the answer is `text` with the status
+/// [`Status::Done`]. Otherwise the status is [`Status::Refused`], and `strict` selects the text:
+/// the list of findings if it is true, and `text` if it is false.
 fn learned_answer(
     alloc: Global,
     strict: bool,
@@ -320,8 +325,8 @@ fn learned_answer(
     })
 }
 
-/// Returns the text that is written in place of a derived plan to which the recording does not
-/// conform. The text has a line for each finding.
+/// Returns the text that `--strict` writes in place of the derived plan if the recording does not
+/// conform to it. The text has a first line that says so, and then a line for each finding.
 fn differences(alloc: Global, plan: &Plan, findings: &[Finding]) -> Result<String, AllocError>
     ensures { IfOk result (λ text. string_bytes text ≡ spec.differences plan.now findings.now) }
 {
@@ -339,8 +344,9 @@ fn are_of_actors(findings: &[Finding]) -> bool
     findings.iter().any(|finding| is_of_actors(finding))
 }
 
-/// Returns true if the finding is about the label or the path of a job or round, or about the
-/// number of rounds of a client kind.
+/// Returns true if the finding shows that a derived plan does not explain the recording. Such a
+/// finding is about the label or the path of a job or round, or about the number of rounds of a
+/// client kind.
 fn is_of_actors(finding: &Finding) -> bool
     ensures { result ≡ is_of_actors finding.now }
 {

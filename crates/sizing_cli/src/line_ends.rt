@@ -1,4 +1,4 @@
-//! The hint about a malformed line of a recording that ends with a carriage return.
+//! The hint for the message about a malformed line that ends with a carriage return.
 
 ghost use Rattle.std.specs.Prelude.{◌≡◌, ◌-◌, ◌∷◌, [], MatchOption, option_map, slice_get};
 ghost use Rattle.recordings.specs.WholeLines.{whole_lines};
@@ -6,9 +6,9 @@ ghost use Rattle.sizing_cli.specs.LineEnds as spec;
 
 use memchr::memchr;
 
-/// Returns the end of the message about a malformed line. `line` is the number of this line,
-/// counted from 1. The end of the message says what to do if the line ends with a carriage return.
-/// For any other line, it is empty.
+/// Returns the hint to append to the message about a malformed line. If the line ends with a
+/// carriage return, the hint says how to convert the recording. For any other line, the hint is
+/// empty. `line` is the number of the line, counted from 1.
 pub(crate) fn line_end_hint(recording: &[u8], line: usize) -> &'static str
     ensures { result.now ≡ spec.line_end_hint recording.now line }
 {

@@ -1,5 +1,5 @@
-//! The plan with each maximum lowered to the core size of its pool, unless core threads of the pool
-//! may time out.
+//! The lowered plan, in which the maximum of each pool is its core size. A pool whose core threads
+//! may time out keeps its maximum.
 
 ghost use Rattle.std.specs.Prelude.{IfOk, IfErr, IfSome, IsTrue};
 ghost use Rattle.sizing_cli.specs.Ask as spec;
@@ -17,25 +17,26 @@ use std::alloc::Global;
 use std::sync::Wait;
 use std::thread::Threads;
 
-/// A plan with each maximum lowered to the core size of its pool, unless core threads of the pool
-/// may time out, and a certificate that accepts this plan.
+/// A lowered plan, and a certificate that accepts it. In a lowered plan, the maximum of each pool
+/// is its core size. Only a pool whose core threads may time out keeps its maximum.
 #[derive(Drop)]
 pub(crate) struct LoweredPlan {
     pub(crate) plan: Plan,
     pub(crate) cert: Cert,
 }
 
-/// Searches for a certificate of the lowered plan, which is the plan with each maximum lowered to
-/// the core size of its pool. The maximum of a pool whose core threads may time out stays unchanged,
-/// because such a pool can start threads above its core size even if its queue is never full.
-/// Returns `None` if the search finds no certificate.
+/// Searches for a certificate of the lowered plan (see [`LoweredPlan`]). Returns `None` if the
+/// search finds no certificate.
+///
+/// A pool whose core threads may time out keeps its maximum, because it can start threads above its
+/// core size even if its queue is never full.
 ///
 /// Returns `None` without a search if one of these holds:
 ///
-/// - No maximum that would be lowered is above the core size of its pool.
-/// - A pool whose maximum is above its core size may reject jobs.
-/// - `finding` already says whether the plan is safe. A plan that is not safe needs no search: both
-///   plans behave alike until the lowered plan refuses a submit, so it is not safe either.
+/// - The lowered plan would have the same maximums.
+/// - A pool whose maximum would be lowered may reject jobs.
+/// - `finding` already says whether the plan is safe. If the plan is not safe, the lowered plan is
+///   not safe either: both plans behave alike until the lowered plan refuses a submit.
 ///
 /// # Errors
 ///

@@ -23,7 +23,7 @@ pub(crate) const STANDARD_INPUT: &str = "-";
 /// The name that messages use for a text that is not read from a file.
 pub(crate) const NO_FILE: &str = "<stdin>";
 
-/// Reads the input of the command, which is one text, or two texts that are joined.
+/// Reads the input of the command. This is one text, or two texts that are joined by a line `%%`.
 pub(crate) fn read_texts<'a, F: TextFiles, S: Source>(
     alloc: Global,
     cli: Cli<'a>,
@@ -52,9 +52,9 @@ pub(crate) fn read_texts<'a, F: TextFiles, S: Source>(
     }
 }
 
-/// Reads the two texts of the command, and joins them with a line `%%` so that the result splits
-/// into the same two texts again. So a text that has a line `%%` itself is an error, except the
-/// recording of `conform`: this command splits at the first such line.
+/// Reads the two texts of the command, and joins them with a line `%%`. The result must split into
+/// the same two texts again, so neither text may have a line `%%` itself. Only the recording of
+/// `conform` may have such lines, because `conform` splits its input at the first one.
 fn read_both<'a, F: TextFiles, S: Source>(
     alloc: Global,
     command: Command,
@@ -126,8 +126,8 @@ fn read_pair<'a, F: TextFiles, S: Source>(
     }
 }
 
-/// Returns an error if `text` is itself a bundle. `text` is one of a command's two texts, and the
-/// error contains `name`, the name of its file.
+/// Returns an error if `text` is itself a bundle. `text` is one of the two texts of a command, and
+/// `name` is the name of its file. The error contains this name.
 fn ensure_alone<'a>(name: Option<&'a str>, text: &[u8]) -> Result<(), CliError<'a>>
     ensures alone { IfOk result (λ _. bundle_of text.now ≡ None) }
     ensures bundle { IfErr result (IsOfBundle (option_map (λ name. name.now) name.entry) text.now) }

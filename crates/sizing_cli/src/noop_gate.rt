@@ -1,12 +1,12 @@
-//! The gate that the program uses. A gate is a hook that runs, searches and checks on threads call.
-//! This gate never blocks.
+//! The gate of the program, which never blocks. A gate is a hook. A run calls it from its threads,
+//! and a search or a check calls it before each pool.
 
 use cert_check::PoolGate;
 use locked_runner::{Actor, Gate, GateFault};
 
-/// A gate that does nothing. A search or a check calls the gate before each pool, and this gate
-/// never stops it. A run calls the gate to do the declared work, which takes no time with this
-/// gate.
+/// A gate that does nothing. A search or a check asks the gate before each pool whether it may
+/// continue, and this gate always permits it. A run calls the gate to do the declared work, which
+/// takes no time with this gate.
 pub struct NoopGate;
 
 impl PoolGate for NoopGate {

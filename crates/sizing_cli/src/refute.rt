@@ -1,5 +1,6 @@
-//! The `refute` command. It searches for a witness, which is a list of events after which a submit
-//! is refused or jobs wait only for each other, and writes the witness as a story or as a bundle.
+//! The `refute` command: searches for a witness against a plan, and writes it as a story or as a
+//! bundle. A witness is a list of events after which a submit is refused or jobs wait only for each
+//! other.
 
 ghost use Rattle.std.specs.Prelude.{◌≡◌, ◌++◌, ◌∷◌, IfOk, IfErr, IfSome, IfNone, IsTrue, codes};
 ghost use Rattle.sizing_cli.specs.Certify.{IsUncertified};
@@ -202,8 +203,8 @@ fn events_too_long(alloc: Global) -> Result<Answer, AllocError>
     Answer::no(alloc, "no bundle: too many events\n")
 }
 
-/// Returns the status of an answer that has no bundle. It is `Refused` if a bundle was requested,
-/// and `status` otherwise.
+/// Returns the status of an answer without a bundle. If a bundle was requested, this is
+/// [`Status::Refused`]. Otherwise it is `status`.
 fn without_bundle(refute_format: RefuteFormat, status: Status) -> Status
     ensures { result ≡ spec.without_bundle refute_format status }
 {

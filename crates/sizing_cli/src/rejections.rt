@@ -1,4 +1,5 @@
-//! The search for events after which a pool that may reject jobs rejects one.
+//! The search for events after which a pool rejects a job. A pool rejects jobs only if the plan
+//! allows it.
 
 ghost use Rattle.std.specs.Prelude.{IfOk, IfSome};
 ghost use Rattle.report.specs.Finding.{RejectsAfter, AreRejections};
@@ -8,12 +9,12 @@ use counterexample::find_rejection;
 use job_bodies::Plan;
 use std::alloc::{AllocError, Global};
 
-/// The maximum number of states that the search for a rejection by one pool visits.
+/// The maximum number of states that the search visits for each pool.
 const STATES: usize = 100_000;
 
 /// Returns, for each pool of the certificate, the number of events after which the pool rejects a
-/// job, or `None` if no such events are found. Does not search if the certificate has a bound for
-/// the pool: if the certificate accepts the plan, this pool never rejects a job.
+/// job. The number is `None` if no such events are found. A pool for which the certificate has a
+/// bound is not searched: if the certificate accepts the plan, this pool never rejects a job.
 #[tactic(auto, using(crate::proofs::RejectionLists::one_more))]
 pub(crate) fn rejections_of(
     alloc: Global,
@@ -31,8 +32,9 @@ pub(crate) fn rejections_of(
     Ok(found)
 }
 
-/// Returns the number of events after which the pool rejects a job. Returns `None` if the pool has
-/// a bound, or if the search finds no such events.
+/// Returns the number of events after which the pool rejects a job. `part` is the part of the
+/// certificate for this pool. Returns `None` if `part` has a bound, or if the search finds no such
+/// events.
 fn rejection_of(
     alloc: Global,
     plan: &Plan,

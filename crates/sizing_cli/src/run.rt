@@ -19,10 +19,10 @@ use std::thread::Threads;
 use support::ReadError;
 use support::number::RUN_TOO_LARGE;
 
-/// Runs the plan of a bundle, which also has a certificate, and returns the answer. In the run,
-/// each repeating client passes through its body `rounds` times. The answer is one of these:
+/// Runs the plan of a bundle with the bundle's certificate, and returns the answer. Each repeating
+/// client performs its body `rounds` times. The answer is one of these:
 ///
-/// - the counts of the completed run;
+/// - the numbers of jobs and of units of work, if the run completes;
 /// - a no, if the certificate does not accept the plan;
 /// - a fault, if the input has a fault or the run would be too large.
 ///

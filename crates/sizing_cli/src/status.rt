@@ -63,9 +63,10 @@ impl Status {
 /// The fault of a command that gave no complete answer. A command ends with one of these numbers:
 ///
 /// - 20 (`Memory`): memory ran out, or a thread could not be started.
-/// - 41 (`Strange`): a run ended with this fault.
-/// - 42 (`Mixed`): a run or a search ended with this fault, or a check contradicts a search.
-/// - 43 (`Gate`): a run, a search or a check on threads ended with this fault.
+/// - 41 (`Strange`): a run ended with this fault (see [`RunFault`](locked_runner::RunFault)).
+/// - 42 (`Mixed`): a run or a search ended with this fault (see also [`SearchFault`]), or a check
+///   contradicts a search.
+/// - 43 (`Gate`): the gate stopped a search or a check, or failed in a run.
 /// - 60 (`ReadFailed`): the source failed.
 /// - 61 (`WriteFailed`): the sink failed.
 ///

@@ -29,8 +29,8 @@ pub trait TextFiles {
         ensures unread { IfErr result (λ error. error ≡ InputError.Fault → content self.now name.now ≡ None) };
 
     /// Reads the first `limit` bytes of a regular file, or the whole file if it is shorter. Returns
-    /// `None` if there is no file of this name, or if the file is not a regular file, such as a
-    /// pipe or a terminal.
+    /// `None` if there is no regular file of this name. For example, a pipe or a terminal is not a
+    /// regular file.
     ///
     /// # Errors
     ///

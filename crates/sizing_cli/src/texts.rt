@@ -13,7 +13,8 @@ use plan_text::read_plan;
 use std::alloc::{AllocError, Global};
 use support::number::MEMORY;
 
-/// Returns the plan that the text describes, or the text's first fault if the text has a fault.
+/// Returns the plan that the text describes. If the text has a fault, returns its first fault
+/// instead.
 ///
 /// # Errors
 ///
@@ -29,8 +30,8 @@ pub(crate) fn plan_in(alloc: Global, text: &[u8]) -> Result<Result<Plan, PlanFau
     }
 }
 
-/// Returns the certificate for the plan that the text describes, or the text's first fault if the
-/// text has a fault.
+/// Parses the text of a certificate for this plan, and returns the certificate. If the text has a
+/// fault, returns its first fault instead.
 ///
 /// # Errors
 ///

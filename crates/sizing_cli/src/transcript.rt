@@ -19,8 +19,8 @@ use std::alloc::{AllocError, Global};
 use support::Counter;
 
 /// Replays the event lines from the plan's start state, and returns the answer with the replies.
-/// The first impossible event gets the last reply. The lines after this event are parsed, but not
-/// replayed.
+/// The replay stops at the first impossible event, whose reply is the last one. The lines after
+/// this event are still parsed.
 ///
 /// If a line is malformed, the answer reports only the first malformed line, without any replies.
 /// So the answer is known only after all lines are read.
@@ -37,8 +37,8 @@ pub fn replay_lines(alloc: Global, plan: &Plan, lines: EventLines<'_>) -> Result
     }
 }
 
-/// Appends the replies to the event lines, up to and including the first impossible event. Adds the
-/// number of jobs that pools rejected to `rejected`. Returns the number of the first malformed
+/// Appends the replies to the event lines, up to and including the first impossible event. Adds to
+/// `rejected` the number of jobs that pools rejected. Returns the number of the first malformed
 /// line, counted from 1, or `None` if no line is malformed.
 fn push_replies(
     alloc: Global,
@@ -121,9 +121,9 @@ fn is_rejection(reply: Reply) -> bool
     matches!(reply, Reply::Performed(Outcome::Rejected(_, _)))
 }
 
-/// Appends the last line, and returns the answer. The last line has the number of refused submits
-/// and the number of unfinished jobs. If a pool of the plan may reject jobs, the last line also has
-/// the number of rejected jobs.
+/// Appends the last line, and returns the answer. The last line has the numbers of refused submits
+/// and of unfinished jobs. If a pool of the plan may reject jobs, the last line also has the number
+/// of rejected jobs.
 fn finish(
     mut answer: Answer,
     plan: &Plan,

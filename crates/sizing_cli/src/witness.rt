@@ -10,8 +10,8 @@ use least_vectors::{Levels, pool_bound};
 use std::alloc::{AllocError, Global};
 use weights::{Bound, Vector};
 
-/// The result of a search for a witness, which is a list of events that shows that a plan is not
-/// safe.
+/// The result of a search for a witness. A witness is a list of events that shows that a plan is
+/// not safe.
 #[derive(Drop)]
 pub(crate) struct WitnessSearch {
     pub(crate) witness: Option<Witness>,
@@ -58,9 +58,10 @@ fn confirm(
     confirmed(alloc, plan, found.events, members, &standing)
 }
 
-/// Returns, for each pool in plan order, the standing vector that a search finds, or a vector
-/// without weights if it finds none. If a class submits itself, the list is empty. A standing
-/// vector can prove that the pool never has more threads than its core size.
+/// Returns the standing vector of each pool, in plan order. A standing vector can prove that a pool
+/// never has more threads than its core size. If the search finds none for a pool, the pool has a
+/// vector without weights. If a class submits itself, directly or through other classes, the list
+/// is empty.
 fn standing_vectors(alloc: Global, plan: &Plan) -> Result<Vec<Vector>, AllocError> {
     let mut vectors = Vec::new(alloc);
     let Some(levels) = Levels::of(alloc, plan)? else {
@@ -76,7 +77,8 @@ fn standing_vectors(alloc: Global, plan: &Plan) -> Result<Vec<Vector>, AllocErro
     Ok(vectors)
 }
 
-/// Returns the vector of a standing bound. For any other bound, returns a vector without weights.
+/// Returns the vector of `bound` if this is a standing bound. Otherwise, returns a vector without
+/// weights.
 fn standing_vector(alloc: Global, bound: Bound) -> Vector {
     match bound {
         Bound::Standing(vector) => vector,
