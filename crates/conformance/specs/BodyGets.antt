@@ -32,7 +32,7 @@ abbrev pub is_get_of : ℕ → Option BodyGet → Bool
 is_get_of class None = false
 is_get_of class (Some get) = get.class == class
 
--- The body may pass the action after the number of open jobs of the class has become `count`. `before` says whether it might
+-- The body may pass the action after the number of open jobs of the class has become `count`. `before` says whether it could
 -- pass the action before that.
 abbrev pub pass_after : ℕ → ℕ → Option BodyGet → Bool → Bool
 pass_after class count None before = before

@@ -26,7 +26,8 @@ use Rattle.conformance.specs.Represents.{AreTablesOf}
 use Rattle.conformance.specs.ClassifiedActor.{IsCorrectResult, IsOnceEach, actor_kind_of, bodies_of, is_reported}
 use Rattle.conformance.specs.ActorTables.{in_table, classes_in, AreClassesIn, AreUnambiguousIn, AreAllIn, AreOnce, ReplacesClasses, AreSettledBefore, IsUnsettledAt}
 
--- `members` are the classes of the label's family, or the client kinds for a round, with a body that the steps match.
+-- `members` has exactly the members of the label's family with a body that the steps match. These are classes for a job, and
+-- client kinds for a round.
 abbrev pub AreMembersOf : Plan → RecordedActor → List ℕ → List ℕ → PathState → List PathStep → List ℕ → Type 0
 AreMembersOf plan (Job job) label pool path_state steps members = AreExactly (IsClassOf plan label pool path_state steps) members
 AreMembersOf plan (Round round) label pool path_state steps members = AreExactly (IsKindOf plan label path_state steps) members

@@ -90,7 +90,7 @@ number_of (finding.TooMany excess) = excess.kind
 number_of (finding.ForeignGet get name job) = 0
 number_of (finding.Invalidation invalidation name) = 0
 
--- The sort key of a finding. It orders by place, then by rank, which is below 8, and then by number, which is cut to at most
+-- The sort key of a finding. It orders findings by place, then by rank, and then by number. A number above 2^60 - 1 counts as
 -- 2^60 - 1.
 abbrev pub sort_key : Finding → ℕ
 sort_key found = place_of found * 18446744073709551616 + rank_of found * 1152921504606846976 + min (number_of found) 1152921504606846975

@@ -180,8 +180,8 @@ PathsAreFollowed = (plan : Plan) (cert : Cert) (actor : Parent) (kind : ActorKin
 abbrev pub IsReachedByChoices : Plan → JavaState → Type 0
 IsReachedByChoices plan s = (choices : List Choice) × ChoicesReach plan choices s
 
--- All states of a run that follows a path are reachable. This holds after choices of others, after actions that the actor
--- passes, and after a submit.
+-- If a run that follows a path starts in a reachable state, all its states are reachable. These are the states after choices
+-- of others, after actions that the actor passes, and after a submit.
 pub record StaysReachable (plan : Plan) (actor : Parent) : Type 0 where
   pub others : (s s' : JavaState) → OthersAct plan actor s s' → IsReachedByChoices plan s → IsReachedByChoices plan s'
   pub passes : (body : List Action) (jobs : List MachineJob) (i j : ℕ) (s s' : JavaState) → Passes plan actor body jobs i s j s' → IsReachedByChoices plan s → IsReachedByChoices plan s'

@@ -31,7 +31,7 @@ abbrev pub get_text : List ℕ → List ℕ → List ℕ
 get_text class pool = codes " got " ++ class ++ codes " of pool " ++ pool
 
 -- ---- why it deviates
--- The text that the body has no such step. `step` is `submit` or `get`.
+-- The text that says that the body has no such step. `step` is `submit` or `get`.
 abbrev pub missing_text : List ℕ → List ℕ
 missing_text step = codes "; its body has no such " ++ step
 

@@ -71,8 +71,8 @@ abbrev pub has_other_handler : (HandlerKind → Bool) → List ℕ → RecordedL
 has_other_handler is_kind name (Pool one sizes) = bytes_eq one name && not (is_kind sizes.handler)
 has_other_handler is_kind name line = false
 
--- The handler is of this kind in each `pool` line of the pool. If the handler changed, it is uncertain at each refusal,
--- because a line reports a change only after the change.
+-- The handler is of this kind in each `pool` line of the pool. A line reports a change of the handler only after the change.
+-- So if the handler changed, the handler at a refusal is uncertain.
 unfoldable pub has_handler : List RecordedLine → (HandlerKind → Bool) → List ℕ → Bool
 has_handler lines is_kind name = not (list_any (has_other_handler is_kind name) lines)
 
@@ -123,8 +123,9 @@ unfoldable pub submit_pool : List RecordedLine → ℕ → Option (List ℕ)
 submit_pool lines job = slice_get (filter_map (pool_by job) lines) 0
 
 -- ---- the rule for a pool
--- The rule for a pool, by four facts. `aborts` and `caller_runs` say whether this is the handler. `closes` says whether the
--- pool is shut down. `drops` says whether the handler is `discard` and no body gets a job of the pool.
+-- The rule for a pool, by four facts. `aborts` and `caller_runs` say whether the handler is `abort` or `caller_runs`.
+-- `closes` says whether the pool is shut down. `drops` says whether the handler is `discard` and no body gets a job of the
+-- pool.
 abbrev pub rule_by : Bool → Bool → Bool → Bool → RejectionRule
 rule_by aborts caller_runs closes drops = if aborts then rule.Always else (if caller_runs then rule.IfCallerRuns closes else (if drops then rule.Always else rule.Never))
 

@@ -104,8 +104,8 @@ fn blocking_at(way: Way, is_submit: bool) -> Option<BodyGet>
     }
 }
 
-/// Returns the [`Way`] that also has the next action. `get` is this action, or `None` if the action
-/// is no get. `passes` says whether the body may pass the get.
+/// Returns `way` extended by the next action. `get` is this action, or `None` if the action is no
+/// get. `passes` says whether the body may pass the get.
 fn way_after(way: Way, passes: bool, get: Option<BodyGet>) -> Way
     ensures { result ≡ spec.way_after way passes get }
 {

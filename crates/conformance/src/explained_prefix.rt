@@ -15,7 +15,7 @@ pub struct ExplainedPrefix {
     /// cases:
     ///
     /// - The next step is a get.
-    /// - The body has no such submit left.
+    /// - The next step is a submit, but the body has no such submit left.
     /// - The prefix is the whole path.
     pub excess: Option<OpenExcess>,
     /// The job that the actor should have got before its end, as the index of its submit in the

@@ -9,8 +9,8 @@ use crate::unplanned::NotPlanned;
 use crate::{Difference, PoolDeviation, RoundExcess};
 use recordings::{ForeignGet, Invalidation, RecordedActor};
 
-/// The factor of the line in a sort key, which is 2^64. The lower 64 bits of a sort key are a rank
-/// of 4 bits and a number of 60 bits.
+/// The factor of the line number in a sort key: 2^64. The lower 64 bits of a sort key are a rank of
+/// 4 bits and a number of 60 bits.
 const RANKS: u128 = 1 << 64;
 
 const NUMBERS: u128 = 1 << 60;

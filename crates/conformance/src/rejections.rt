@@ -56,7 +56,7 @@ impl Rejections {
         }
     }
 
-    // Reads line `number`. `facts` is what the whole recording says of its refusals.
+    // Reads line `number`. `facts` has the facts from the whole recording.
     fn take(
         &mut self,
         plan: &Plan,

@@ -75,7 +75,7 @@ pub(crate) fn close_row(row: &mut [bool], passes: &[bool])
     }
 }
 
-/// Updates `passes` after the path has changed the number of its open jobs of the class to `count`.
+/// Updates `passes` for a new number of open jobs: the path has `count` open jobs of the class.
 /// `passes` says for each action whether the body may pass the action. The body may pass a get of
 /// the class if `count` is at most the get's limit.
 pub(crate) fn update_passes(

@@ -150,9 +150,9 @@ impl WalkState {
         }
     }
 
-    /// Returns the job that the actor should have got before its end. This is the first open job of
-    /// the path that has the class of the first get that the body cannot pass. Returns `None` if
-    /// the body can be at its end.
+    /// Returns the job that the actor should have got before its end. Consider the first get that
+    /// the body cannot pass. The result is the first open job of the path that has the class of
+    /// this get. Returns `None` if the body can be at its end.
     pub(crate) fn missing_job(&self, body: &[Action], gets: &[Option<BodyGet>]) -> Option<usize>
         requires gets { AreGets body.now gets.now }
         requires tables { spec.HasTables body.now self.now }
@@ -189,8 +189,8 @@ impl WalkState {
         Ok(())
     }
 
-    /// Updates the state for a get of the path. `job` is the index at which the path submits the
-    /// job that it gets. If this job is not open, the body can be at no index afterwards.
+    /// Updates the state for a get of a job. `job` is the index of the job's submit in the path. If
+    /// the job is not open, the body can be at no index afterwards.
     fn get(&mut self, kind: ActorKind, body: &[Action], gets: &[Option<BodyGet>], job: usize)
         requires gets { AreGets body.now gets.now }
         requires tables { spec.HasTables body.now self.old }
