@@ -26,6 +26,7 @@ abbrev pub classes_in : ClassTable → ℕ → Option JobClasses
 classes_in table job = value_at table.jobs job
 
 -- ---- changes of an actor
+-- The actor without its submitter. This is stored for a refused job.
 abbrev pub without_submitter : UnsettledActor → UnsettledActor
 without_submitter kept = record kept { submitter = None }
 
@@ -35,7 +36,7 @@ with_ended_path ended_path kept = record kept { ended_path = Some ended_path }
 abbrev pub with_known : ℕ → UnsettledActor → UnsettledActor
 with_known known kept = record kept { ended_path = option_map (λ (ended_path : EndedPath). record ended_path { known = known }) kept.ended_path }
 
--- An open actor with this label is inserted.
+-- `new` is `old` with an open actor inserted. The actor has this label, pool and submitter.
 pub record InsertsActor (old : ActorTable) (actor : RecordedActor) (label pool : List ℕ) (submitter : Option RecordedActor) (new : ActorTable) : Type 0 where
   pub kept : UnsettledActor
   pub label_is : string_bytes kept.label ≡ label
@@ -50,11 +51,11 @@ is_job (Job job) = 1
 is_job (Round round) = 0
 
 -- ---- settled jobs
--- The stored classes of each job are those that it can belong to, if they are decided.
+-- If the stored classes of a job are decided, they are the classes that the job can belong to.
 abbrev pub AreClassesIn : Plan → List RecordedLine → ClassTable → Type 0
 AreClassesIn plan lines table = (job : ℕ) (known : JobClasses) → classes_in table job ≡ Some known → IsTrue known.is_decided → AreClassesOf plan lines job known.classes.items
 
--- Each job of the table is settled, and its classes are those that it can belong to.
+-- Each job of the table is settled. If its stored classes are decided, they are the classes that the job can belong to.
 pub record AreKnown (plan : Plan) (lines : List RecordedLine) (table : ClassTable) : Type 0 where
   pub settled : (job : ℕ) (known : JobClasses) → classes_in table job ≡ Some known → IsSettled lines (Job job)
   pub classes : AreClassesIn plan lines table
@@ -88,17 +89,18 @@ is_unsettled table (Some step) = not (is_settled_step table step)
 abbrev pub IsUnsettledAt : ClassTable → List RecordedStep → ℕ → Type 0
 IsUnsettledAt table path place = is_unsettled table (slice_get path place) ≡ true
 
--- The jobs that the path submits are removed.
+-- `new` is `old` without the jobs that the path submits.
 abbrev pub AreRemoved : ClassTable → List RecordedStep → ClassTable → Type 0
 AreRemoved old path new = (one : ℕ) → classes_in new one ≡ (if list_any (submits one) path then None else classes_in old one)
 
--- The classes of the actor are stored, if it is a job with a submitter.
+-- If the actor is a job with a submitter, its classes are stored. All other jobs of `old` stay in the table.
 pub record Keeps (old : ClassTable) (actor : RecordedActor) (submitter : Option RecordedActor) (classes : List ℕ) (is_decided : Bool) (new : ClassTable) : Type 0 where
   pub known : (job : ℕ) (known : JobClasses) → classes_in new job ≡ Some known → (classes_in old job ≡ Some known) ⊎ ((actor ≡ Job job) × (known.classes.items ≡ classes) × (known.is_decided ≡ is_decided))
   pub there : (job : ℕ) (by : RecordedActor) → actor ≡ Job job → submitter ≡ Some by → is_some (classes_in new job) ≡ true
   pub stay : (job : ℕ) → is_some (classes_in old job) ≡ true → is_some (classes_in new job) ≡ true
 
--- The same, with the jobs of the path removed.
+-- If the actor is a job with a submitter, its classes are stored. The jobs that the path submits may be removed. All other
+-- jobs of `old` stay in the table.
 pub record ReplacesClasses (old : ClassTable) (path : List RecordedStep) (actor : RecordedActor) (submitter : Option RecordedActor) (classes : List ℕ) (is_decided : Bool) (new : ClassTable) : Type 0 where
   pub known : (job : ℕ) (known : JobClasses) → classes_in new job ≡ Some known → (classes_in old job ≡ Some known) ⊎ ((actor ≡ Job job) × (known.classes.items ≡ classes) × (known.is_decided ≡ is_decided))
   pub there : (job : ℕ) (by : RecordedActor) → actor ≡ Job job → submitter ≡ Some by → is_some (classes_in new job) ≡ true

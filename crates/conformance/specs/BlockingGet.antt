@@ -1,4 +1,4 @@
--- The get that keeps a body from its next submit of a class.
+-- The get that keeps a body from its next submit of a class, or from its end.
 use Rattle.std.specs.Prelude.{◌≡◌, ◌≤◌, ◌<◌, ℕ, suc, Bool, true, false, ◌==◌, ◌&&◌, nat_lt, if◌then◌else◌, List, Option, Some, None, slice_get, slice_index_or}
 use Rattle.job_bodies.specs.declared.action.Action.{Action}
 use Rattle.conformance.specs.declared.body_gets.BodyGet.{BodyGet}
@@ -12,13 +12,13 @@ may_pass None passes = true
 may_pass (Some get) passes = passes
 
 -- ---- the way to a later index
--- The last index below `n` at which the body can be. `row` says for each index whether it can be there.
+-- `reached` is the last index below `n` at which the body can be. `row` says for each index whether the body can be there.
 pub record IsLastReached (row : List Bool) (n reached : ℕ) : Type 0 where
   pub before : reached < n
   pub at : slice_index_or row reached false ≡ true
   pub last : (index : ℕ) → reached < index → index < n → slice_index_or row index false ≡ false
 
--- The body may pass each action from this index to `m`.
+-- The body may pass each action from index `reached` up to, but not including, index `m`.
 abbrev pub IsFreeFrom : List Bool → List (Option BodyGet) → ℕ → ℕ → Type 0
 IsFreeFrom passes gets reached m = (index : ℕ) → reached ≤ index → index < m → may_pass (slice_index_or gets index None) (slice_index_or passes index false) ≡ true
 
@@ -27,8 +27,8 @@ pub record IsFree (row passes : List Bool) (gets : List (Option BodyGet)) (n m :
   pub from : IsLastReached row n reached
   pub free : IsFreeFrom passes gets reached m
 
--- `stop` is the first get below `m` that the body may not pass. Of the gets of its class at or after it, `get` leaves the
--- fewest jobs open.
+-- The body cannot reach index `m` from the last index below `n` where it can be. On the way, `stop` is the first get that the
+-- body may not pass. Among this get and the later gets of its class below `m`, `get` has the smallest limit.
 pub record IsBlocked (row passes : List Bool) (gets : List (Option BodyGet)) (n m : ℕ) (get : BodyGet) : Type 0 where
   pub reached : ℕ
   pub from : IsLastReached row n reached
@@ -47,12 +47,12 @@ pub record IsBlocked (row passes : List Bool) (gets : List (Option BodyGet)) (n 
   pub place_is : slice_index_or gets place None ≡ Some get
 
 -- ---- the next submit
--- The body can reach each submit of the class below `end` that comes after an index where it can be.
+-- The body can reach each submit of the class below `end` that is at or after an index where the body can be.
 abbrev pub AreReached : List Bool → List Bool → List (Option BodyGet) → List Action → ℕ → ℕ → Type 0
 AreReached row passes gets body class end = (submit index : ℕ) → submit < end → is_submit_of class (slice_get body submit) ≡ true
     → index ≤ submit → slice_index_or row index false ≡ true → IsFree row passes gets (suc submit) submit
 
--- The get keeps the body from the first submit of the class that it cannot reach.
+-- `get` keeps the body from a submit of the class. It is the first submit of the class that the body cannot reach.
 pub record IsBlockingGet (row passes : List Bool) (gets : List (Option BodyGet)) (body : List Action) (class : ℕ) (get : BodyGet) : Type 0 where
   pub submit : ℕ
   pub is_submit : is_submit_of class (slice_get body submit) ≡ true
@@ -64,12 +64,13 @@ IsBlocking row passes gets body class None = (end : ℕ) → AreReached row pass
 IsBlocking row passes gets body class (Some get) = IsBlockingGet row passes gets body class get
 
 -- ---- the end of the body
--- The get keeps the body from its end, or the body can reach its end if it can be anywhere.
+-- If there is a get, it keeps the body from its end. If there is none, the body can reach its end, or it can be at no index.
 abbrev pub IsBlockingEnd : List Bool → List Bool → List (Option BodyGet) → ℕ → Option BodyGet → Type 0
 IsBlockingEnd row passes gets end None = (index : ℕ) → index ≤ end → slice_index_or row index false ≡ true → IsFree row passes gets (suc end) end
 IsBlockingEnd row passes gets end (Some get) = IsBlocked row passes gets (suc end) end get
 
 -- ---- the way to and over one index, as the functions of `blocking_get.rt` compute it
+-- The way to an index. It is free if the body can be at the index, and otherwise it is the way `before` the index.
 abbrev pub way_at : Way → Bool → Way
 way_at before is_at = if is_at then way.Free else before
 

@@ -18,8 +18,8 @@ use Rattle.conformance.specs.PathState.{has_ended, path_state_of}
 use Rattle.conformance.specs.Label.{label_of, kind_of}
 
 mutual
-  -- The classes that the job can belong to: those of its family whose body its path matches. Each job that it submitted may
-  -- have any class that that job can belong to.
+  -- The classes that the job can belong to. These are the classes of its family with a body that the path of the job matches.
+  -- In this match, each job of the path may have any of the classes that it can belong to itself.
   pub data AreClassesOf (plan : Plan) (lines : List RecordedLine) : ℕ → List ℕ → Type 0 where
     by_path : (job : ℕ) (class pool : List ℕ) (steps : List PathStep) (classes : List ℕ)
         → label_of lines job ≡ Some (class, pool)
@@ -27,7 +27,7 @@ mutual
         → AreExactly (IsClassOf plan class pool (path_state_of lines (Job job)) steps) classes
         → AreClassesOf plan lines job classes
 
-  -- The path, each submit with the classes that its job can belong to.
+  -- The steps of the path. Each submit has the classes that its job can belong to.
   pub data AreStepsOf (plan : Plan) (lines : List RecordedLine) : List RecordedStep → List PathStep → Type 0 where
     none : AreStepsOf plan lines [] []
     submit : (job : ℕ) (classes : Vec ℕ Global) (path : List RecordedStep) (steps : List PathStep)
@@ -38,7 +38,7 @@ mutual
         → AreStepsOf plan lines path steps
         → AreStepsOf plan lines (recorded.Gets place ∷ path) (step.Gets place ∷ steps)
 
--- The kinds that the round can belong to.
+-- The client kinds that the round can belong to: those of its family with a body that the path of the round matches.
 pub record AreKindsOf (plan : Plan) (lines : List RecordedLine) (round : ℕ) (kinds : List ℕ) : Type 0 where
   pub kind : List ℕ
   pub steps : List PathStep
@@ -46,8 +46,8 @@ pub record AreKindsOf (plan : Plan) (lines : List RecordedLine) (round : ℕ) (k
   pub path : AreStepsOf plan lines (path_of lines (Round round)) steps
   pub exact : AreExactly (IsKindOf plan kind (path_state_of lines (Round round)) steps) kinds
 
--- The actor has ended, and so have all jobs of its path, and those of their paths, and so on. Later lines do not change its
--- classes.
+-- The actor is settled: it has ended, and each job of its path is settled. Later lines do not change the classes of the
+-- actor.
 pub data IsSettled (lines : List RecordedLine) : RecordedActor → Type 0 where
   settled : (actor : RecordedActor)
       → has_ended lines actor ≡ true

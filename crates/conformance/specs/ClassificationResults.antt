@@ -1,4 +1,4 @@
--- When an actor is classified, and the results for several actors in order.
+-- When an actor is ready to be classified, and the results of classifying one or more actors.
 use Rattle.std.specs.Prelude.{◌≡◌, ◌≤◌, ◌<◌, ◌⊎◌, ℕ, Bool, true, false, List, [], ◌∷◌, ◌++◌, length, is_some, string_bytes, IsTrue, All, Option, Some, None}
 use Rattle.std.specs.Option.{option_and_then}
 use Rattle.std.specs.List.{list_any}
@@ -26,12 +26,13 @@ use Rattle.conformance.specs.Represents.{AreTablesOf}
 use Rattle.conformance.specs.ClassifiedActor.{IsCorrectResult, IsOnceEach, actor_kind_of, bodies_of, is_reported}
 use Rattle.conformance.specs.ActorTables.{in_table, classes_in, AreClassesIn, AreUnambiguousIn, AreAllIn, AreOnce, ReplacesClasses, AreSettledBefore, IsUnsettledAt}
 
--- The classes of a job or the kinds of a round, by its label and steps.
+-- `members` has exactly the members of the label's family with a body that the steps match. These are classes for a job, and
+-- client kinds for a round.
 abbrev pub AreMembersOf : Plan → RecordedActor → List ℕ → List ℕ → PathState → List PathStep → List ℕ → Type 0
 AreMembersOf plan (Job job) label pool path_state steps members = AreExactly (IsClassOf plan label pool path_state steps) members
 AreMembersOf plan (Round round) label pool path_state steps members = AreExactly (IsKindOf plan label path_state steps) members
 
--- The family is correct for the steps.
+-- `family` is a correct result of matching the steps against the family of the label.
 pub record IsFamilyOf (plan : Plan) (actor : RecordedActor) (label pool : List ℕ) (path_state : PathState) (steps : List PathStep) (family : FamilyMatch) : Type 0 where
   pub members : IsTrue family.is_decided → AreMembersOf plan actor label pool path_state steps family.members.items
   pub explained : IsTrue family.is_decided → IsMostExplained (actor_kind_of actor) (bodies_of plan actor label pool) steps family.explained
@@ -39,7 +40,7 @@ pub record IsFamilyOf (plan : Plan) (actor : RecordedActor) (label pool : List �
   pub few : (job : ℕ) → actor ≡ Job job → length family.members.items ≤ length (class_family plan label pool)
   pub ascending : IsStrictlyIncreasing family.members.items
 
--- The actor that may become settled next.
+-- The submitter of a job, which may become settled when the job does. There is none for a round.
 abbrev pub submitter_of : RecordedActor → Option RecordedActor → Option RecordedActor
 submitter_of (Job job) submitter = submitter
 submitter_of (Round round) submitter = None
@@ -47,7 +48,8 @@ submitter_of (Round round) submitter = None
 abbrev pub ended_path_of : ActorTable → RecordedActor → Option EndedPath
 ended_path_of actors actor = option_and_then (λ (kept : UnsettledActor). kept.ended_path) (in_table actors actor)
 
--- `known` is the index of the first submit of an unsettled job in the actor's path. `is_ready` is true if there is none.
+-- `known` is the index of the first submit of an unsettled job in the path of the ended actor. If there is no such submit,
+-- `is_ready` is true.
 pub record IsProgressOf (actors : ActorTable) (table : ClassTable) (actor : RecordedActor) (known : ℕ) (is_ready : Bool) : Type 0 where
   pub ended_path : EndedPath
   pub is : ended_path_of actors actor ≡ Some ended_path
@@ -66,7 +68,8 @@ pub record IsReady (actors : ActorTable) (table : ClassTable) (actor : RecordedA
   pub settled : (job : ℕ) → list_any (submits job) ended_path.path.items ≡ true → is_some (classes_in table job) ≡ true
 
 -- ---- the result for one actor
--- The members and the explained length of a path, by the classes of its jobs.
+-- `family` has the members and the longest explained prefix for the path of the actor. Each job in the path has the classes
+-- that it can belong to.
 pub record IsFamilyBy (plan : Plan) (lines : List RecordedLine) (actor : RecordedActor) (label pool : List ℕ) (actor_path : ActorPath) (family : FamilyMatch) : Type 0 where
   pub steps : List PathStep
   pub path : AreStepsOf plan lines actor_path.path.items steps
@@ -76,7 +79,8 @@ pub record IsFamilyBy (plan : Plan) (lines : List RecordedLine) (actor : Recorde
 abbrev pub classified_as : RecordedActor → String Global → String Global → ActorPath → FamilyMatch → ClassifiedActor
 classified_as actor label pool actor_path family = record { actor = actor; label = label; pool = pool; path = actor_path.path; family = family }
 
--- The list is extended by the result for this actor, and the table is updated.
+-- The results `new` are `old` and one result for this actor. The table of classes changes from `before` to `later` as in
+-- `ReplacesClasses`.
 pub record AddsResult (plan : Plan) (actor : RecordedActor) (submitter : Option RecordedActor) (label pool : String Global) (actor_path : ActorPath) (before later : ClassTable) (old new : List ClassifiedActor) : Type 0 where
   pub family : FamilyMatch
   pub after : new ≡ old ++ classified_as actor label pool actor_path family ∷ []
@@ -87,7 +91,8 @@ pub record AddsResult (plan : Plan) (actor : RecordedActor) (submitter : Option 
   pub ascending : IsStrictlyIncreasing family.members.items
 
 -- ---- the results for several actors
--- The list is extended by the results for the actors that were removed from the table, and each satisfies `IsSo`.
+-- The results `new` are `old` and one result for each actor that is in the table `before` but not in the table `later`. Each
+-- of these results satisfies `IsSo`.
 pub record AddsResults (IsSo : ClassifiedActor → Type 0) (before later : ActorTable) (old new : List ClassifiedActor) : Type 0 where
   pub more : List ClassifiedActor
   pub after : new ≡ old ++ more
@@ -98,12 +103,13 @@ pub record AddsResults (IsSo : ClassifiedActor → Type 0) (before later : Actor
   pub each : (actor : RecordedActor) → is_some (in_table before actor) ≡ true → (is_some (in_table later actor) ≡ true) ⊎ (list_any (is_reported actor) more ≡ true)
   pub fewer : (actor : RecordedActor) → is_some (in_table later actor) ≡ true → is_some (in_table before actor) ≡ true
 
--- The result for a settled actor is correct.
+-- The actor is settled, and its result is correct.
 pub record IsSettledResult (plan : Plan) (lines : List RecordedLine) (one : ClassifiedActor) : Type 0 where
   pub reported : IsCorrectResult plan lines one
   pub settled : IsSettled lines one.actor
 
--- Some actors were classified and removed, and the tables have the others.
+-- A step of the classification. It removes some settled actors from the table, and appends their results to the list. The
+-- tables `later` and `known` have the other actors. `next` may still be in the table although it waits for no job.
 pub record IsStep (plan : Plan) (lines : List RecordedLine) (before later : ActorTable) (known : ClassTable) (next : Option RecordedActor) (old new : List ClassifiedActor) : Type 0 where
   pub kept : AreTablesOf plan lines later known next
   pub decided : HasNoFamilies plan → AreUnambiguousIn known

@@ -21,7 +21,7 @@ use Rattle.conformance.specs.Label.{HasLabel}
 use Rattle.conformance.specs.Classes.{AreClassesOf, AreStepsOf, AreKindsOf, IsSettled}
 
 -- ---- one actor
--- The classes that the job can belong to, or the kinds of the round.
+-- The numbers are those of the classes that the job can belong to, or of the client kinds that the round can belong to.
 abbrev pub CanBe : Plan → List RecordedLine → RecordedActor → List ℕ → Type 0
 CanBe plan lines (Job job) classes = AreClassesOf plan lines job classes
 CanBe plan lines (Round round) kinds = AreKindsOf plan lines round kinds
@@ -30,13 +30,13 @@ abbrev pub actor_kind_of : RecordedActor → ActorKind
 actor_kind_of (Job job) = actor_kind.Job
 actor_kind_of (Round round) = actor_kind.Round
 
--- The bodies of the family of a job or a round.
+-- The bodies of the family of this label, for a job or for a round.
 abbrev pub bodies_of : Plan → RecordedActor → List ℕ → List ℕ → List (List Action)
 bodies_of plan (Job job) label pool = class_bodies plan label pool
 bodies_of plan (Round round) label pool = client_bodies plan label
 
--- The longest prefix of the path that a body explains, and the reason why it is not longer. Each job that the actor submitted
--- may have any class that that job can belong to.
+-- The result has the longest prefix of the path that a body of the family explains, and the reason why the prefix is not
+-- longer. Each job of the path may have any of the classes that it can belong to itself.
 pub record IsExplained (plan : Plan) (lines : List RecordedLine) (reported : ClassifiedActor) : Type 0 where
   pub steps : List PathStep
   pub path : AreStepsOf plan lines (path_of lines reported.actor) steps
@@ -52,10 +52,11 @@ pub record IsCorrectResult (plan : Plan) (lines : List RecordedLine) (reported :
   pub decided : HasNoFamilies plan → IsTrue reported.family.is_decided
 
 -- ---- all actors
+-- The result is the result for this actor.
 abbrev pub is_reported : RecordedActor → ClassifiedActor → Bool
 is_reported actor reported = is_same_actor reported.actor actor
 
--- No actor occurs twice.
+-- The list has at most one result for each actor.
 abbrev pub IsOnceEach : List ClassifiedActor → Type 0
 IsOnceEach reported = (actor : RecordedActor) → count_by (is_reported actor) reported ≤ 1
 
@@ -77,7 +78,8 @@ pub record AreAllResultsOf (plan : Plan) (lines : List RecordedLine) (all : List
   pub each : (actor : RecordedActor) → list_any (is_reported actor) all ≡ is_recorded lines actor
 
 -- ---- one more line
--- The list is extended by the results for all actors that become settled with the last line.
+-- The results `new` are `old` and the results for all actors that become settled with the last line. These actors are settled
+-- by the lines `later`, but not by the lines `before`.
 pub record AddsSettled (plan : Plan) (before later : List RecordedLine) (old new : List ClassifiedActor) : Type 0 where
   pub more : List ClassifiedActor
   pub after : new ≡ old ++ more

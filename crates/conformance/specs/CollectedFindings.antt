@@ -27,13 +27,14 @@ use Rattle.conformance.specs.JobSet.{has_job}
 use Rattle.conformance.specs.LineQuery.{IsLabelOf, IsPoolOf}
 use Rattle.conformance.specs.declared.line_query.LineQuery.TheVariants as line_query
 
--- The list is extended by elements that satisfy `IsSo`.
+-- The list `new` is `old`, followed by findings that satisfy `IsSo`.
 pub record Adds (old : List Finding) (IsSo : List Finding → Type 0) (new : List Finding) : Type 0 where
   pub more : List Finding
   pub after : new ≡ old ++ more
   pub so : IsSo more
 
 -- ---- actors
+-- The finding describes the path mismatch of this actor.
 pub data IsMismatchFinding (plan : Plan) (lines : List RecordedLine) (is_classless : ℕ → Bool) (reported : ClassifiedActor) : Finding → Type 0 where
   mismatches : (number : Option ℕ) (mismatch : PathMismatch) → IsDescriptionOf plan lines is_classless reported number mismatch → IsMismatchFinding plan lines is_classless reported (finding.PathMismatch number mismatch)
 
@@ -44,12 +45,13 @@ abbrev pub not_decided : ClassifiedActor → Finding
 not_decided reported = finding.NotDecided reported.actor (record { name = reported.label; pool = reported.pool })
 
 -- ---- notes
+-- The list has a finding for the foreign get, if there is one. A foreign get is a get of a job that another actor submitted.
 pub data AreForeign (lines : List RecordedLine) : Option ForeignGet → List Finding → Type 0 where
   none : AreForeign lines None []
   one : (get : ForeignGet) (label job : ActorLabel) → IsLabelOf lines get.actor (string_bytes label.name) (string_bytes label.pool) → IsLabelOfJob lines get.job job
       → AreForeign lines (Some get) (finding.ForeignGet get label job ∷ [])
 
--- The event invalidates the result even if the actor's path matches a body.
+-- The event invalidates a SAFE answer even if the path of the actor matches a body.
 abbrev pub is_path_independent_event : InvalidatingEvent → Bool
 is_path_independent_event (event.TimedOut actor job) = false
 is_path_independent_event (event.Interrupted actor job) = false
@@ -59,22 +61,25 @@ abbrev pub is_refusal : InvalidatingEvent → Bool
 is_refusal (event.Refused actor job) = true
 is_refusal event = false
 
--- The event invalidates the result even if the actor's path matches a body. If `without_refusals` is true, it is also not a refusal.
+-- The event becomes a finding: it invalidates a SAFE answer whatever the paths are and, if `without_refusals` is true, it is
+-- no refusal.
 abbrev pub is_counted : Bool → Invalidation → Bool
 is_counted without_refusals invalidation = not (without_refusals && is_refusal invalidation.event) && is_path_independent_event invalidation.event
 
--- The first refusal that the plan does not allow, if some pool of the plan may reject jobs.
+-- The first refusal that the plan does not allow. It is `None` if no pool of the plan may reject jobs.
 abbrev pub first_refusal_in : Option Rejections → Option Invalidation
 first_refusal_in None = None
 first_refusal_in (Some rejections) = rejections.first_refusal
 
--- The first event of each type that invalidates the result even if the actor's path matches a body. If some pool of the plan may reject
--- jobs, the list has no rejection that the plan allows, and the first other refusal is its last element.
+-- The events that become findings: the first event of each type that invalidates a SAFE answer, whatever the paths are. If
+-- some pool of the plan may reject jobs, the only refusal among them is the first one that the plan does not allow. It is the
+-- last element of the list.
 abbrev pub counted_with : Option Rejections → List RecordedLine → List Invalidation
 counted_with rejections lines = filter (is_counted (is_some rejections)) (invalidations_of lines) ++ option_to_list (first_refusal_in rejections)
 
--- The class and the pool of the job of the event. For a call of `invokeAny`, the label of the actor and the pool of the call; for
--- jobs without lines, their pool alone.
+-- The class and the pool that a message names for the event. For most events, these are the class and the pool of the job.
+-- For a call of `invokeAny`, they are the class or kind of the caller and the pool of the first such call. For jobs that no
+-- line submits, the class is empty, and the pool is that of the first line that reports such jobs.
 abbrev pub IsSubject : List RecordedLine → InvalidatingEvent → List ℕ → List ℕ → Type 0
 IsSubject lines (event.Refused actor job) name pool = IsLabelOf lines (Job job) name pool
 IsSubject lines (event.TimedOut actor job) name pool = IsLabelOf lines (Job job) name pool
@@ -92,13 +97,13 @@ abbrev pub AreInvalidationsOf : List RecordedLine → List Invalidation → List
 AreInvalidationsOf lines invalidations found = AllZip (IsInvalidationFinding lines) invalidations found
 
 -- ---- all
--- The list is extended by the actors whose path matches no body, and by those for which this is undecided.
+-- The list `new` is `old`, followed by the actors whose path matches no body, and by those for which this is undecided.
 pub record AddsActorSurvey (plan : Plan) (lines : List RecordedLine) (verdicts : Verdicts) (old new : List Finding) : Type 0 where
   pub mismatches : List Finding
   pub mismatches_so : AreMismatchesOf plan lines (has_job verdicts.classless) verdicts.mismatches.actors.items mismatches
   pub after : new ≡ old ++ mismatches ++ map not_decided verdicts.undecided.actors.items
 
--- The list is extended by the first get of another actor's job, and by the first line of each invalidating event type.
+-- The list `new` is `old`, followed by the first foreign get, and by the first event of each type that becomes a finding.
 pub record AddsNotes (lines : List RecordedLine) (rejections : Option Rejections) (old new : List Finding) : Type 0 where
   pub foreign : List Finding
   pub foreign_so : AreForeign lines (first_foreign_get lines) foreign
@@ -111,7 +116,7 @@ abbrev pub all_findings : List PoolDeviation → List NotPlanned → List Findin
 all_findings deviations labels mismatched undecided excesses gets invalidations =
     map finding.Pool deviations ++ map finding.NotPlanned labels ++ mismatched ++ map not_decided undecided ++ map finding.TooMany excesses ++ gets ++ invalidations
 
--- The findings of a survey whose notes are those of `lines`.
+-- `found` has the findings of the survey and of `excesses`. The foreign get and the invalidating events are those of `lines`.
 pub record AreCollected (plan : Plan) (lines : List RecordedLine) (survey : Survey) (excesses : List RoundExcess) (rejections : Option Rejections) (found : List Finding) : Type 0 where
   pub mismatches : List Finding
   pub foreign : List Finding

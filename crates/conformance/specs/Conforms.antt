@@ -13,19 +13,19 @@ use Rattle.conformance.specs.ComparisonLaws.{IsPlannedPool}
 use Rattle.conformance.specs.RejectionRule.{is_allowed_rejection}
 
 -- ---- conforming
--- There are classes of the plan that the job can belong to.
+-- The job can belong to at least one class of the plan.
 pub record IsOfAClass (plan : Plan) (lines : List RecordedLine) (job : ℕ) : Type 0 where
   pub classes : List ℕ
   pub exact : AreClassesOf plan lines job classes
   pub some : 0 < length classes
 
--- There are client kinds that the round can belong to.
+-- The round can belong to at least one client kind of the plan.
 pub record IsOfAKind (plan : Plan) (lines : List RecordedLine) (round : ℕ) : Type 0 where
   pub kinds : List ℕ
   pub exact : AreKindsOf plan lines round kinds
   pub some : 0 < length kinds
 
--- `kinds` gives the round a kind that it can belong to.
+-- The kind of the round in the list `kinds` is one that the round can belong to.
 pub record HasItsKind (plan : Plan) (lines : List RecordedLine) (kinds : List (Option ℕ)) (round : ℕ) : Type 0 where
   pub kind : ℕ
   pub can_be : List ℕ
@@ -33,20 +33,21 @@ pub record HasItsKind (plan : Plan) (lines : List RecordedLine) (kinds : List (O
   pub among : Contains can_be kind
   pub is : rounds.kind_of kinds round ≡ Some kind
 
--- Each round can be assigned a kind that it can belong to, such that after each line no kind has more rounds than the plan
--- allows.
+-- The rounds can be assigned to client kinds. Each round is assigned to a kind that it can belong to, and after each line no
+-- kind has more rounds than the plan allows.
 pub record AreEnoughClients (plan : Plan) (lines : List RecordedLine) : Type 0 where
   pub kinds : List (Option ℕ)
   pub each : (round : ℕ) → is_begun lines round ≡ true → HasItsKind plan lines kinds round
   pub within : (before after : List RecordedLine) → lines ≡ before ++ after → (kind : ℕ) → kind < length plan.clients → IsWithinPlan (rounds.rounds_of plan kinds before kind)
 
--- The paths of all jobs and rounds match their bodies, and there are enough clients.
+-- All jobs and rounds behave as planned: each path matches a body, and no client kind has more rounds than the plan allows.
 pub record DoAsPlanned (plan : Plan) (lines : List RecordedLine) : Type 0 where
   pub jobs : (job : ℕ) → is_submitted lines job ≡ true → IsOfAClass plan lines job
   pub rounds : (round : ℕ) → is_begun lines round ≡ true → IsOfAKind plan lines round
   pub clients : AreEnoughClients plan lines
 
--- Each `pool` line has the plan's sizes, and the first one of a pool also has the number of threads that the plan prestarts.
+-- The service conforms to the plan in these lines. Each `pool` line is as planned. If the recording ends with `end`, each
+-- pool of the plan has a line. All jobs and rounds behave as planned, and there is no foreign get.
 pub record Conforms (plan : Plan) (lines : List RecordedLine) : Type 0 where
   pub pools : (before after : List RecordedLine) (name : List ℕ) (sizes : PoolSizes) → before ++ Pool name sizes ∷ after ≡ lines → IsPlannedPool plan (not (has_pool before name)) name sizes
   pub recorded : is_closed lines ≡ true → (pool : ℕ) → pool < length plan.pools → has_pool lines (pool_at plan pool).name ≡ true
@@ -54,6 +55,7 @@ pub record Conforms (plan : Plan) (lines : List RecordedLine) : Type 0 where
   pub gets : first_foreign_get lines ≡ None
 
 -- ---- events that invalidate a SAFE answer, whatever the paths are
+-- The line records such an event.
 abbrev pub invalidates : RecordedLine → Bool
 invalidates (Refused actor job) = true
 invalidates (Cancels actor job) = true
@@ -63,7 +65,7 @@ invalidates (JobThrew job) = true
 invalidates (Unseen pool jobs) = true
 invalidates line = false
 
--- Each line that invalidates a SAFE answer is a rejection that the plan allows. If no pool of the plan may reject jobs, there is no such
--- line.
+-- Each line that would invalidate a SAFE answer is a rejection that the plan allows. So if no pool of the plan may reject
+-- jobs, there is no such line.
 abbrev pub HasNoInvalidation : Plan → List RecordedLine → Type 0
 HasNoInvalidation plan lines = (before after : List RecordedLine) (line : RecordedLine) → before ++ line ∷ after ≡ lines → invalidates line ≡ true → is_allowed_rejection plan lines before line ≡ true

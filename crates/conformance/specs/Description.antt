@@ -29,11 +29,12 @@ use Rattle.conformance.specs.LineQuery.{IsFirstLine, IsLabelOf}
 use Rattle.conformance.specs.FailedGets.{failed_gets}
 
 -- ---- one step of a path
+-- The get of the job that the step submits, or `None` if the step is a get.
 abbrev pub got_by : RecordedStep → Option JobStep
 got_by (recorded.Submits job) = Some (step.Gets job)
 got_by (recorded.Gets place) = None
 
--- The get of the job that the submit at this index made.
+-- The get of the job that the path submits at index `submit`.
 abbrev pub got_at : List RecordedStep → ℕ → Option JobStep
 got_at path submit = option_and_then got_by (slice_get path submit)
 
@@ -45,7 +46,7 @@ job_step_of path (recorded.Gets submit) = got_at path submit
 abbrev pub step_at : List RecordedStep → ℕ → Option JobStep
 step_at path place = option_and_then (job_step_of path) (slice_get path place)
 
--- The line of the step or, without a step, that of the actor's end.
+-- The condition for the line of the step. If there is no step, it is the condition for the line that ends the actor.
 abbrev pub line_query_of : RecordedActor → Option JobStep → LineQuery
 line_query_of actor None = line_query.Last actor
 line_query_of actor (Some (step.Submits job)) = line_query.Submit job
@@ -57,7 +58,7 @@ step_before path zero = None
 step_before path (suc place) = step_at path place
 
 -- ---- open jobs
--- The job of the entry of a path, if it is a submit and no step gets its job.
+-- The job that this step submits, if the path does not get it. Otherwise the list is empty. `place` is the index of the step.
 abbrev pub open_job_at : List RecordedStep → ℕ × RecordedStep → List ℕ
 open_job_at path (place, recorded.Submits job) = if list_any (is_get_of place) path then [] else job ∷ []
 open_job_at path (place, recorded.Gets submit) = []
@@ -77,13 +78,14 @@ submitted_by (recorded.Gets place) = None
 abbrev pub submitted_job : List RecordedStep → ℕ → Option ℕ
 submitted_job path submit = option_and_then submitted_by (slice_get path submit)
 
--- The job that the actor should have got before its end: that of the submit at the given index or, without one, the first open job.
+-- The job that the actor should have got before its end. If an index is given, it is the job that the path submits at this
+-- index. Otherwise it is the first open job.
 abbrev pub missing_job : List RecordedStep → Option ℕ → Option ℕ
 missing_job path None = first_open path
 missing_job path (Some submit) = submitted_job path submit
 
 -- ---- what is reported
--- The step, with the class that the submit of its job names.
+-- The named step is the given step, with the class in the `submit` line of its job.
 pub data IsNamedStep (lines : List RecordedLine) : JobStep → NamedStep → Type 0 where
   submitted : (job : ℕ) (class : String Global) (pool : List ℕ) → IsLabelOf lines (Job job) (string_bytes class) pool → IsNamedStep lines (step.Submits job) (named.Submits class)
   got : (job : ℕ) (class : String Global) (pool : List ℕ) → IsLabelOf lines (Job job) (string_bytes class) pool → IsNamedStep lines (step.Gets job) (named.Gets class)
@@ -92,28 +94,31 @@ pub data IsNamed (lines : List RecordedLine) : Option JobStep → Option NamedSt
   nothing : IsNamed lines None None
   something : (did : JobStep) (name : NamedStep) → IsNamedStep lines did name → IsNamed lines (Some did) (Some name)
 
--- The label of the job, by its submit.
+-- `label` has the class and the pool in the `submit` line of the job.
 abbrev pub IsLabelOfJob : List RecordedLine → ℕ → ActorLabel → Type 0
 IsLabelOfJob lines job label = IsLabelOf lines (Job job) (string_bytes label.name) (string_bytes label.pool)
 
--- A submit of a job whose own path matches a class.
+-- The deviation for a submit of a job whose own path may match a class. `excess` has the open jobs that block the submit, or
+-- is `None` if the body has no such submit left.
 abbrev pub submit_of_body : ActorLabel → Option OpenExcess → DeviatingStep
 submit_of_body label None = mismatch.Submits label
 submit_of_body label (Some excess) = mismatch.SubmitsWhileOpen label excess
 
--- A submit of a job whose own path matches no class is reported as such: either the plan has classes of its label, or it has none.
+-- The deviation for a submit. If the job's own path matches no class, the deviation says this, and whether the plan has a
+-- class of the job's label. Otherwise it is that of `submit_of_body`.
 abbrev pub deviating_submit : Bool → Bool → ℕ → ActorLabel → Option OpenExcess → DeviatingStep
 deviating_submit is_classless is_planned job label excess =
     if not is_classless then submit_of_body label excess
     else (if is_planned then mismatch.SubmitsMismatched job label else mismatch.SubmitsUnplanned job label)
 
--- The end of an actor. If it should have got a job, with the label of that job, and with the number of gets of that job by the
--- actor that timed out or were interrupted.
+-- The deviation for an actor that ended too early. If the actor should have got a job, the deviation has this job, its label,
+-- and how often a get of the job by the actor timed out or was interrupted.
 pub data IsDeviatingEnd (lines : List RecordedLine) (actor : RecordedActor) : Option ℕ → DeviatingStep → Type 0 where
   closed : IsDeviatingEnd lines actor None mismatch.Ends
   while_open : (job : ℕ) (label : ActorLabel) → IsLabelOfJob lines job label → IsDeviatingEnd lines actor (Some job) (mismatch.EndsOpen job label (failed_gets lines actor job))
 
--- The first deviating step: the actor's end, with the job that it should have got if there is one; a submit; or a get.
+-- The first step that no body explains: a submit or a get. If there is no such step, it is the actor's end, with the job that
+-- the actor should have got, if there is one.
 pub data IsDeviatingStep (plan : Plan) (lines : List RecordedLine) (is_classless : ℕ → Bool) (actor : RecordedActor) (path : List RecordedStep) (explained : ExplainedPrefix) : Option JobStep → DeviatingStep → Type 0 where
   ends : (found : DeviatingStep) → IsDeviatingEnd lines actor (missing_job path explained.missing) found → IsDeviatingStep plan lines is_classless actor path explained None found
   submits : (job : ℕ) (label : ActorLabel) → IsLabelOfJob lines job label
@@ -123,8 +128,8 @@ pub data IsDeviatingStep (plan : Plan) (lines : List RecordedLine) (is_classless
 abbrev pub number_seen : Option (ℕ × RecordedLine) → Option ℕ
 number_seen found = option_map (λ (number, line). number) found
 
--- The description of an actor: its label, the step after the longest prefix of its path that a body explains, the line of
--- that step, and the last step of the prefix.
+-- `found` describes the path mismatch of an actor: its label, the first step that no body explains, and the step before it.
+-- `number` is the number of the line of the first step that no body explains.
 pub record IsDescriptionOf (plan : Plan) (lines : List RecordedLine) (is_classless : ℕ → Bool) (reported : ClassifiedActor) (number : Option ℕ) (found : PathMismatch) : Type 0 where
   pub actor_is : found.actor ≡ reported.actor
   pub label_is : string_bytes found.label.name ≡ string_bytes reported.label

@@ -6,7 +6,7 @@ use Rattle.recordings.specs.LineText.{queue_word}
 use Rattle.conformance.specs.declared.difference.Difference.{Difference}
 use Rattle.conformance.specs.declared.difference.Difference.TheVariants.{Core, Max, BoundedMax, KindOfQueue, Capacity, BoundedQueue, CoreTimeout, NoCoreTimeout, Prestarted}
 
--- The text has no pool name and no newline.
+-- The text of a difference, such as `max 20, plan 10`. It has no pool name and no newline.
 abbrev pub difference_text : Difference → List ℕ
 difference_text (Core recorded planned) = codes "core " ++ decimal recorded ++ codes ", plan " ++ decimal planned
 difference_text (Max recorded planned) = codes "max " ++ decimal recorded ++ codes ", plan " ++ decimal planned
@@ -19,6 +19,7 @@ difference_text NoCoreTimeout = codes "core threads never time out, plan core_ti
 difference_text (Prestarted recorded planned) = decimal recorded ++ codes " threads prestarted, plan " ++ decimal planned
 
 -- ---- equality
+-- The two queues are of the same kind.
 abbrev pub is_same_kind : QueueKind → QueueKind → Bool
 is_same_kind queue.Array queue.Array = true
 is_same_kind queue.Linked queue.Linked = true

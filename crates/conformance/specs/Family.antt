@@ -8,25 +8,26 @@ use Rattle.line_words.specs.Number.{number_of}
 use Rattle.job_bodies.specs.Plan.{Plan, pool_at, class_at, client_at}
 
 -- ---- names
--- Empty, or `_` and a number from 2 on.
+-- The text is empty, or it is `_` and a number that is at least 2.
 abbrev pub is_family_end : List ℕ → Bool
 is_family_end [] = true
 is_family_end (byte ∷ digits) = byte == 95 && option_map_or (nat_le 2) (number_of digits) false
 
--- The name is the label followed by nothing, or by `_` and a number from 2 on.
+-- The name is of the family of the label: it is the label, or the label followed by `_` and a number that is at least 2.
 unfoldable pub is_of_family : List ℕ → List ℕ → Bool
 is_of_family label name = bytes_eq (take (length label) name) label && is_family_end (drop (length label) name)
 
--- The same, without a parser: the name is the label, or the label, `_` and a number from 2 on.
+-- The name is of the family of the label, stated without a parser. The name is the label, or the label, `_` and the decimal
+-- digits of a number from 2 to `MAX_LINE_NUMBER`.
 abbrev pub IsOfFamily : List ℕ → List ℕ → Type 0
 IsOfFamily label name = (name ≡ label) ⊎ ((n : ℕ) × (2 ≤ n) × (n ≤ MAX_LINE_NUMBER) × (name ≡ label ++ codes "_" ++ decimal n))
 
 -- ---- classes and client kinds
--- The class has a name of the family, and its pool has this name.
+-- The name of the class is of the family of the label, and its pool has the name `pool`.
 abbrev pub is_class_in_family : Plan → List ℕ → List ℕ → ℕ → Bool
 is_class_in_family plan label pool class = is_of_family label (class_at plan class).name && bytes_eq (pool_at plan (class_at plan class).pool).name pool
 
--- The client kind has a name of the family.
+-- The name of the client kind is of the family of the label.
 abbrev pub is_client_in_family : Plan → List ℕ → ℕ → Bool
 is_client_in_family plan label client = is_of_family label (client_at plan client).name
 

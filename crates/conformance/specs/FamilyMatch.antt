@@ -15,6 +15,7 @@ use Rattle.conformance.specs.OpenExcess.{IsReason}
 use Rattle.conformance.specs.MissingJob.{IsMissing}
 
 -- ---- one class, or one client kind
+-- The body of the class with this number.
 abbrev pub class_body : Plan → ℕ → List Action
 class_body plan class = (class_at plan class).body
 
@@ -36,32 +37,33 @@ abbrev pub AreExactly : (ℕ → Type 0) → List ℕ → Type 0
 AreExactly IsOne numbers = (n : ℕ) → Contains numbers n ↔ IsOne n
 
 -- ---- all bodies of a family
+-- The bodies of the classes that jobs of this label in this pool may belong to.
 abbrev pub class_bodies : Plan → List ℕ → List ℕ → List (List Action)
 class_bodies plan label pool = map (class_body plan) (class_family plan label pool)
 
 abbrev pub client_bodies : Plan → List ℕ → List (List Action)
 client_bodies plan label = map (client_body plan) (client_family plan label)
 
--- The body explains this prefix of the path, with the reason why it does not explain the next step, and the job that is
--- missing at the end, if one is given.
+-- The body explains this prefix of the path. `explained.excess` is the reason why it does not explain the next step. If
+-- `explained.missing` is a job, the actor should have got this job before its end.
 abbrev pub Explains : ActorKind → List PathStep → ExplainedPrefix → List Action → Type 0
 Explains kind path explained body = IsPathOf kind Prefix body (take explained.length path) × IsReason kind body path explained.length explained.excess × IsMissing kind body path explained.length explained.missing
 
--- If the body explains this many steps of the path, it has no such submit left for the next step.
+-- If the body explains the first `steps` steps of the path, it has no submit left for the next step.
 abbrev pub HasNoSubmitLeft : ActorKind → List PathStep → ℕ → List Action → Type 0
 HasNoSubmitLeft kind path steps body = IsPathOf kind Prefix body (take steps path) → IsReason kind body path steps None
 
--- `explained` is the longest prefix of the path that begins a path of one of these bodies, with the reason why the next step
--- does not extend it. If several bodies explain it, the reason is that of one of them. It has no steps if there are no bodies.
+-- `explained` is the longest prefix of the path that one of these bodies explains. It has the reason why one of the bodies
+-- that explain it does not explain the next step. If there are no bodies, the prefix is empty.
 pub record IsMostExplained (kind : ActorKind) (bodies : List (List Action)) (path : List PathStep) (explained : ExplainedPrefix) : Type 0 where
   pub within : explained.length ≤ length path
   pub front : 0 < length bodies → Any (Explains kind path explained) bodies
   pub longest : (more : ℕ) → explained.length < more → more ≤ length path → All (λ body. ¬ IsPathOf kind Prefix body (take more path)) bodies
-  -- The reason is `None` only if no body that explains as much has such a submit left.
+  -- The excess is `None` only if no body that explains the prefix has a submit left for the next step.
   pub without : explained.excess ≡ None → All (HasNoSubmitLeft kind path explained.length) bodies
   pub none : length bodies ≡ 0 → explained ≡ record { length = 0; excess = None; missing = None }
 
--- Each job of the path can belong to at most one class.
+-- If the step is a submit, its job can belong to at most one class.
 abbrev pub HasAtMostOneClass : PathStep → Type 0
 HasAtMostOneClass (step.Submits classes) = length classes.items ≤ 1
 HasAtMostOneClass (step.Gets place) = ⊤

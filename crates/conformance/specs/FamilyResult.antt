@@ -10,7 +10,8 @@ use Rattle.conformance.specs.PathMatch.{IsUnambiguous}
 use Rattle.conformance.specs.declared.family_match.FamilyMatch.{FamilyMatch}
 use Rattle.conformance.specs.FamilyMatch.{IsMostExplained, AreOneClassEach}
 
--- The members, the explained prefix and the flag are correct after these numbers, each with its body, were matched.
+-- The result of matching the path against the bodies of the classes or client kinds in `matched` is correct. It has the
+-- members of the family, the longest explained prefix, and the flag `is_decided`.
 pub record IsCorrectResult (kind : ActorKind) (body_of : ℕ → List Action) (path_state : PathState) (path : List PathStep) (matched : List ℕ) (members : List ℕ) (longest : ExplainedPrefix) (is_decided : Bool) : Type 0 where
   pub sound : All (λ n. Contains matched n × IsPathOf kind path_state (body_of n) path) members
   pub complete : IsTrue is_decided → All (λ n. IsPathOf kind path_state (body_of n) path → Contains members n) matched
@@ -20,6 +21,7 @@ pub record IsCorrectResult (kind : ActorKind) (body_of : ℕ → List Action) (p
   pub few : length members ≤ length matched
   pub ascending : AllPairs (λ m n. m < n) matched → AllPairs (λ m n. m < n) members
 
--- The same for a `FamilyMatch`.
+-- The `FamilyMatch` is the correct result of matching the path against the bodies of the classes or client kinds in
+-- `matched`.
 abbrev pub IsCorrectMatch : FamilyMatch → ActorKind → (ℕ → List Action) → PathState → List PathStep → List ℕ → Type 0
 IsCorrectMatch reported kind body_of path_state path matched = IsCorrectResult kind body_of path_state path matched reported.members.items reported.explained reported.is_decided

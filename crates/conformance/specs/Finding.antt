@@ -1,4 +1,4 @@
--- The lines of findings.
+-- The line of a finding, and its sort key.
 use Rattle.std.specs.Prelude.{ℕ, ◌+◌, ◌*◌, min, Option, Some, None}
 use Rattle.conformance.specs.declared.pool_comparison.PoolDeviation.{PoolDeviation}
 use Rattle.conformance.specs.declared.pool_comparison.PoolDeviation.TheVariants as pool
@@ -30,7 +30,7 @@ line_of (finding.TooMany excess) = Some excess.line
 line_of (finding.ForeignGet get name job) = Some get.line
 line_of (finding.Invalidation invalidation name) = Some invalidation.line
 
--- A number above every line number.
+-- The place of the findings that have no line: 2^64 - 1, which is above every line number.
 abbrev pub last_place : ℕ
 last_place = 18446744073709551615
 
@@ -38,12 +38,13 @@ abbrev pub place : Option ℕ → ℕ
 place None = last_place
 place (Some line) = line
 
--- Findings without a line come last.
+-- The place of a finding in the order by lines. Findings without a line come last.
 abbrev pub place_of : Finding → ℕ
 place_of found = place (line_of found)
 
 -- ---- the findings of one line
--- Pools come first, then labels, paths, numbers of rounds, gets and events.
+-- The rank of an undecided actor. Ranks order the findings of one line: pools, labels, path mismatches, undecided jobs,
+-- undecided rounds, numbers of rounds, foreign gets, events.
 abbrev pub undecided_rank : RecordedActor → ℕ
 undecided_rank (Job job) = 3
 undecided_rank (Round round) = 4
@@ -77,8 +78,9 @@ abbrev pub actor_number : RecordedActor → ℕ
 actor_number (Job job) = job
 actor_number (Round round) = round
 
--- The differences of one pool are in the order of its line, missing pools and kinds in the order of the plan, and actors for
--- which something is undecided in the order of their numbers.
+-- The number that orders findings of the same line and rank. For a difference of a pool, it is the number of the setting. For
+-- a missing pool, an undecided actor or a client kind with too many rounds, it is the number of the pool, actor or kind.
+-- Otherwise it is 0.
 abbrev pub number_of : Finding → ℕ
 number_of (finding.Pool deviation) = pool_number deviation
 number_of (finding.NotPlanned name) = 0
@@ -88,6 +90,7 @@ number_of (finding.TooMany excess) = excess.kind
 number_of (finding.ForeignGet get name job) = 0
 number_of (finding.Invalidation invalidation name) = 0
 
--- The sort key of a finding: its line, then its rank below 8, then its number below 2 ^ 60.
+-- The sort key of a finding. It orders findings by place, then by rank, and then by number. A number above 2^60 - 1 counts as
+-- 2^60 - 1.
 abbrev pub sort_key : Finding → ℕ
 sort_key found = place_of found * 18446744073709551616 + rank_of found * 1152921504606846976 + min (number_of found) 1152921504606846975

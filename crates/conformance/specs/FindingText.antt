@@ -21,12 +21,13 @@ use Rattle.conformance.specs.declared.unplanned.NotPlanned.TheVariants as label
 use Rattle.conformance.specs.Finding.{line_of}
 use Rattle.conformance.specs.PathMismatch.{actor_text, job_text, mismatch_text}
 
--- The line number, if there is one.
+-- The start of a finding's text, such as `line 3: `. It is empty if the finding has no line.
 abbrev pub line_text : Option ℕ → List ℕ
 line_text None = []
 line_text (Some line) = codes "line " ++ decimal line ++ codes ": "
 
 -- ---- each kind of finding, without its line number
+-- A difference of a pool, such as `pool db: max 20, plan 10`.
 abbrev pub pool_difference_text : List ℕ → Difference → List ℕ
 pool_difference_text name difference = codes "pool " ++ name ++ codes ": " ++ difference_text difference
 
@@ -60,12 +61,12 @@ label_text actor name = actor_text actor (string_bytes name.name) (string_bytes 
 abbrev pub foreign_get_text : ForeignGet → ActorLabel → ActorLabel → List ℕ
 foreign_get_text get name job = ((label_text get.actor name ++ codes " got ") ++ job_text get.job (string_bytes job.name) (string_bytes job.pool)) ++ codes ", which it did not submit"
 
--- An actor with its class or kind alone.
+-- An actor with its class or kind and without a pool, such as `job 44 of class order`.
 abbrev pub short_actor_text : RecordedActor → List ℕ → List ℕ
 short_actor_text (Job job) name = codes "job " ++ decimal job ++ codes " of class " ++ name
 short_actor_text (Round round) name = codes "round " ++ decimal round ++ codes " of kind " ++ name
 
--- The text of an event, with the class and the pool of its job.
+-- The text of an event. `name` and `pool` are the class and the pool that the message names.
 abbrev pub event_text : InvalidatingEvent → List ℕ → List ℕ → List ℕ
 event_text (event.Refused actor job) name pool = job_text job name pool ++ codes " was refused"
 event_text (event.TimedOut actor job) name pool = (codes "a get of " ++ job_text job name pool) ++ codes " timed out"

@@ -33,7 +33,7 @@ is_of_actors (finding.Pool deviation) = false
 is_of_actors (finding.ForeignGet get label job) = false
 is_of_actors (finding.Invalidation invalidation label) = false
 
--- It is undecided whether the path of an actor matches a body.
+-- The finding says that it is undecided whether the path of an actor matches a body.
 abbrev pub is_not_decided : Finding → Bool
 is_not_decided (finding.NotDecided actor label) = true
 is_not_decided (finding.NotPlanned label) = false
@@ -43,20 +43,25 @@ is_not_decided (finding.Pool deviation) = false
 is_not_decided (finding.ForeignGet get label job) = false
 is_not_decided (finding.Invalidation invalidation label) = false
 
--- The first event of each type that invalidates a SAFE answer, whatever the paths are. If some pool of the plan may reject jobs, the list
--- has no rejection that the plan allows, and the first other refusal is its last element.
+-- The events that become findings: the first event of each type that invalidates a SAFE answer, whatever the paths are. If
+-- some pool of the plan may reject jobs, the only refusal among them is the first one that the plan does not allow. It is the
+-- last element of the list.
 abbrev pub counted_invalidations : Plan → List RecordedLine → List Invalidation
 counted_invalidations plan lines = filter (is_counted (has_rejecting_pool plan)) (invalidations_of lines) ++ (if has_rejecting_pool plan then option_to_list (first_refusal plan lines) else [])
 
--- The job is one of the classified jobs whose path matches no class.
+-- The path of this job matches no class, according to the classified actors.
 abbrev pub is_classless_in : List ClassifiedActor → ℕ → Bool
 is_classless_in reported job = list_any (is_classless_job job) reported
 
--- Every difference from the plan and every invalidating event, each once, and nothing else: each way in which a pool
--- differs, with the first line that shows it; each pool that the recording lacks; each label that is not in the plan; for
--- each label of the plan, the first actor whose path matches no body and the first one for which this is undecided; the
--- first line at which each kind has too many rounds; the first get of another actor's job; and the first line of each event
--- type that invalidates a SAFE answer, other than the rejections that the plan allows.
+-- The findings are exactly these, each once:
+--
+-- - each difference between a recorded pool and the plan, with the first line that shows it;
+-- - each pool of the plan that the recording lacks, if the recording ends with `end`;
+-- - each label that is not in the plan;
+-- - for each label of the plan, the first actor whose path matches no body, and the first one for which this is undecided;
+-- - for each client kind, the first line at which the kind has too many rounds;
+-- - the first get of a job that another actor submitted and has not got yet;
+-- - the first event of each type that invalidates a SAFE answer, other than the rejections that the plan allows.
 pub record AreFindingsOf (plan : Plan) (lines : List RecordedLine) (findings : List Finding) : Type 0 where
   pub reported : List ClassifiedActor
   pub all_reported : AreAllResultsOf plan lines reported

@@ -9,21 +9,21 @@ use Rattle.conformance.specs.declared.rejection_rule.RejectionRule.TheVariants.{
 use Rattle.conformance.specs.PoolComparison.{has_name}
 use Rattle.conformance.specs.RejectionRule.{is_abort, is_caller_runs, is_discard, has_other_handler, shuts, rule_of}
 
--- For each of the handlers `abort`, `caller_runs` and `discard`, the state has the pools with another handler in some line. It also has the
--- pools that are shut down.
+-- The state has four sets of pools from these lines. For each of the handlers `abort`, `caller_runs` and `discard`, it has
+-- the pools with a line that names another handler. It also has the pools that are shut down.
 pub record AreHandlersOf (lines : List RecordedLine) (handlers : Handlers) : Type 0 where
   pub not_abort : (pool : List ℕ) → has_name handlers.not_abort pool ≡ list_any (has_other_handler is_abort pool) lines
   pub not_caller_runs : (pool : List ℕ) → has_name handlers.not_caller_runs pool ≡ list_any (has_other_handler is_caller_runs pool) lines
   pub not_discard : (pool : List ℕ) → has_name handlers.not_discard pool ≡ list_any (has_other_handler is_discard pool) lines
   pub shut : (pool : List ℕ) → has_name handlers.shut pool ≡ list_any (shuts pool) lines
 
--- The effect of a line on the state.
+-- `new` is the state `old` after one more line.
 pub record NotesLine (old : Handlers) (line : RecordedLine) (new : Handlers) : Type 0 where
   pub not_abort : (pool : List ℕ) → has_name new.not_abort pool ≡ (has_name old.not_abort pool || has_other_handler is_abort pool line)
   pub not_caller_runs : (pool : List ℕ) → has_name new.not_caller_runs pool ≡ (has_name old.not_caller_runs pool || has_other_handler is_caller_runs pool line)
   pub not_discard : (pool : List ℕ) → has_name new.not_discard pool ≡ (has_name old.not_discard pool || has_other_handler is_discard pool line)
   pub shut : (pool : List ℕ) → has_name new.shut pool ≡ (has_name old.shut pool || shuts pool line)
 
--- The list has the rule of each pool of the plan.
+-- The list has the rejection rule of each pool of the plan, in the order of the plan.
 abbrev pub AreRules : Plan → List RecordedLine → List RejectionRule → Type 0
 AreRules plan lines rules = (pool : ℕ) → slice_index_or rules pool Never ≡ rule_of plan lines pool

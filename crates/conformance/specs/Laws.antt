@@ -26,7 +26,7 @@ ClassesStay = (plan : Plan) (before more : List RecordedLine) (job : ℕ) (class
 abbrev pub KindsStay : Type 0
 KindsStay = (plan : Plan) (before more : List RecordedLine) (round : ℕ) (kinds : List ℕ) → KeepsRules (before ++ more) → IsSettled before (Round round) → AreKindsOf plan before round kinds → AreKindsOf plan (before ++ more) round kinds
 
--- The lines determine the classes that a job can belong to, and the kinds of a round.
+-- The lines determine the classes that a job can belong to, and the client kinds that a round can belong to.
 abbrev pub ClassesAreDetermined : Type 0
 ClassesAreDetermined = (plan : Plan) (lines : List RecordedLine) (job : ℕ) (one other : List ℕ) → AreClassesOf plan lines job one → AreClassesOf plan lines job other → (class : ℕ) → Contains one class ↔ Contains other class
 

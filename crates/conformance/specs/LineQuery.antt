@@ -14,7 +14,7 @@ use Rattle.conformance.specs.declared.line_query.LineQuery.TheVariants as line_q
 abbrev pub is_same_actor : RecordedActor → RecordedActor → Bool
 is_same_actor one other = parts.is_same_actor one other
 
--- The last line of the actor.
+-- The line ends this actor.
 abbrev pub is_last : RecordedActor → RecordedLine → Bool
 is_last (Job job) line = finishes_job job line
 is_last (Round round) line = ends_round round line
@@ -35,7 +35,7 @@ is_match (line_query.Last actor) line = is_last actor line
 is_match line_query.InvokesAny line = is_any line
 is_match line_query.Unseen line = is_unseen line
 
--- The condition that the line meets, if any.
+-- The condition that the line meets, or `None` if it meets none.
 abbrev pub query_of : RecordedLine → Option LineQuery
 query_of (Submits actor job class pool) = Some (line_query.Submit job)
 query_of (RoundBegins round kind) = Some (line_query.Begin round)
@@ -52,25 +52,25 @@ abbrev pub label_line : RecordedActor → LineQuery
 label_line (Job job) = line_query.Submit job
 label_line (Round round) = line_query.Begin round
 
--- The class of a job, or the kind of a round.
+-- The class in a `submit` line, or the client kind in a `begin` line. It is empty for any other line.
 abbrev pub label_in : RecordedLine → List ℕ
 label_in (Submits actor job class pool) = class
 label_in (RoundBegins round kind) = kind
 label_in line = []
 
--- The pool that a line names, if it submits a job, calls `invokeAny` or reports jobs without lines.
+-- The pool in a `submit`, `any` or `unseen` line. It is empty for any other line.
 abbrev pub pool_in : RecordedLine → List ℕ
 pool_in (Submits actor job class pool) = pool
 pool_in (InvokesAny actor pool) = pool
 pool_in (Unseen pool jobs) = pool
 pool_in line = []
 
--- A line with its number.
+-- The found line with its number. The program's `Line` is converted to a `RecordedLine`.
 abbrev pub found_seen : Option (ℕ × Line) → Option (ℕ × RecordedLine)
 found_seen None = None
 found_seen (Some (number, line)) = Some (number, line_view line)
 
--- The line with this number, from 1.
+-- The lines have this line at this number. Lines are numbered from 1.
 abbrev pub IsLine : List RecordedLine → ℕ → RecordedLine → Type 0
 IsLine lines number line = (i : ℕ) × (number ≡ i + 1) × (slice_get lines i ≡ Some line)
 
@@ -87,25 +87,25 @@ abbrev pub IsFirstLine : List RecordedLine → LineQuery → Option (ℕ × Reco
 IsFirstLine lines query None = list_any (is_match query) lines ≡ false
 IsFirstLine lines query (Some (number, line)) = IsFirstAt lines query number line
 
--- The label that a line gives an actor, if there is a line.
+-- The class or the client kind in the found line, or an empty name if no line was found.
 abbrev pub label_seen : Option (ℕ × RecordedLine) → List ℕ
 label_seen None = []
 label_seen (Some (number, line)) = label_in line
 
--- The pool that a line names, if there is a line.
+-- The pool in the found line, or an empty name if no line was found.
 abbrev pub pool_seen : Option (ℕ × RecordedLine) → List ℕ
 pool_seen None = []
 pool_seen (Some (number, line)) = pool_in line
 
--- The label of the actor, by its submit or its begin: the class and the pool of a job, or the kind of a round. Both are empty
--- if there is no such line.
+-- `label` and `pool` are the class and the pool in the `submit` line of a job. For a round, `label` is the client kind in its
+-- `begin` line, and `pool` is empty. Both are empty if there is no such line.
 pub record IsLabelOf (lines : List RecordedLine) (actor : RecordedActor) (label pool : List ℕ) : Type 0 where
   pub found : Option (ℕ × RecordedLine)
   pub first : IsFirstLine lines (label_line actor) found
   pub label_is : label ≡ label_seen found
   pub pool_is : pool ≡ pool_seen found
 
--- The pool that the first line which meets the condition names. It is empty if there is no such line.
+-- `pool` is the pool in the first line that meets the condition. It is empty if there is no such line.
 pub record IsPoolOf (lines : List RecordedLine) (query : LineQuery) (pool : List ℕ) : Type 0 where
   pub found : Option (ℕ × RecordedLine)
   pub first : IsFirstLine lines query found

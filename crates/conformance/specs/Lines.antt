@@ -3,7 +3,7 @@ use Rattle.std.specs.Prelude.{ℕ, List, Option}
 use Rattle.std.specs.List.{filter_map}
 use Rattle.recordings.specs.RecordingLine.{RecordedLine, lines_read}
 
--- The lines that have one of the forms.
+-- The lines without the malformed ones, which are `None`.
 abbrev pub with_form : List (Option RecordedLine) → List RecordedLine
 with_form lines = filter_map (λ line. line) lines
 

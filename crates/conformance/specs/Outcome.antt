@@ -23,7 +23,6 @@ abbrev pub IfCounted : Conformance → (List PoolRejections → Type 0) → Type
 IfCounted (Invalid fault) P = ⊤
 IfCounted (Compared findings rejections) P = P rejections.items
 
--- The findings are in the order of their lines, those without a line last. Those of one line are in the order of their types,
--- and those of one type in the order of their numbers.
+-- The findings are ordered by line, then by type, and then by number. Findings without a line come last.
 abbrev pub AreInOrder : List Finding → Type 0
 AreInOrder findings = IsNonDecreasingBy sort_key findings

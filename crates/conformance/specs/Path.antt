@@ -14,14 +14,15 @@ use Rattle.conformance.specs.declared.step.PathState.TheVariants as path_state
 use Rattle.conformance.specs.PathStep.{submits}
 
 -- ---- the open jobs of a body
--- A job is open after its submit and before its get.
+-- The submits whose jobs are open in the body after the action at this index. `jobs` has those that are open before the
+-- action.
 abbrev pub open_after_action : Option Action → ℕ → List ℕ → List ℕ
 open_after_action None index jobs = jobs
 open_after_action (Some (action.Work units)) index jobs = jobs
 open_after_action (Some (action.Submit class)) index jobs = jobs ++ index ∷ []
 open_after_action (Some (action.Get submit)) index jobs = filter (λ other. not (other == submit)) jobs
 
--- The submits whose jobs are open before an index of the body.
+-- The submits whose jobs are open before an index of the body. A job is open after its submit and before its get.
 abbrev pub open_in_body : List Action → ℕ → List ℕ
 open_in_body body zero = []
 open_in_body body (suc index) = open_after_action (slice_get body index) index (open_in_body body index)
@@ -31,11 +32,11 @@ abbrev pub count_in_body : ℕ → List Action → ℕ → ℕ
 count_in_body class body index = count_by (λ submit. submitted_class body submit == class) (open_in_body body index)
 
 -- ---- the open jobs of a path
--- An open job has the index of its submit in the path, and its class.
+-- The number of these open jobs of a path that have the class.
 abbrev pub count_in : ℕ → List OpenJob → ℕ
 count_in class jobs = count_by (λ one. one.class == class) jobs
 
--- The class of the job, if it is open.
+-- The class of the job that the path submits at this index, or `None` if the job is not open.
 abbrev pub open_class : ℕ → List OpenJob → Option ℕ
 open_class job [] = None
 open_class job (one ∷ others) = if one.job == job then Some one.class else open_class job others
@@ -45,7 +46,7 @@ without job [] = []
 without job (one ∷ others) = if one.job == job then others else one ∷ without job others
 
 -- ---- walks
--- For each class, at most as many of these jobs are open as in the body before an index.
+-- For each class, the list has at most as many jobs as are open in the body before the index.
 abbrev pub IsWithin : List OpenJob → List Action → ℕ → Type 0
 IsWithin jobs body index = (class : ℕ) → count_in class jobs ≤ count_in_body class body index
 
@@ -63,9 +64,9 @@ abbrev pub MayGet : ActorKind → List Action → ℕ → ℕ → Type 0
 MayGet actor_kind.Job body index class = HasGetFrom body index class
 MayGet actor_kind.Round body index class = ⊤
 
--- The body and the path can be walked together up to these indices, each in its own order, so that these jobs of the path are
--- open then, each of the class with which it was submitted, and at each moment at most as many jobs of each class are open in
--- the path as in the body.
+-- The body and the path can be walked together up to these indices, each in its own order. Then exactly the jobs in the list
+-- are open in the path. Each has the class with which it was submitted. At each moment, for each class, the path has at most
+-- as many open jobs as the body.
 pub data Walks (kind : ActorKind) (body : List Action) (path : List PathStep) : ℕ → ℕ → List OpenJob → Type 0 where
   starts : Walks kind body path 0 0 []
   -- The body moves alone: it works, it submits a job that the path skips, or it gets a job.
@@ -73,7 +74,7 @@ pub data Walks (kind : ActorKind) (body : List Action) (path : List PathStep) : 
       → slice_get body q ≡ Some action
       → IsWithin jobs body (suc q)
       → Walks kind body path (suc q) p jobs
-  -- Both submit a job of one class.
+  -- The body and the path both submit a job of the same class.
   both_submit : {q p : ℕ} {jobs : List OpenJob} (step : PathStep) (class : ℕ) → Walks kind body path q p jobs
       → slice_get body q ≡ Some (action.Submit class)
       → slice_get path p ≡ Some step
@@ -89,13 +90,14 @@ pub data Walks (kind : ActorKind) (body : List Action) (path : List PathStep) : 
       → Walks kind body path q (suc p) (without job jobs)
 
 -- ---- paths
--- The path of an actor matches the body if the two can be walked together: both to their ends, or, if the actor may continue,
--- the path to its end.
+-- The path matches the body: the two can be walked together to the end of the path. If the path is whole, the walk also
+-- reaches the end of the body.
 abbrev pub IsPathOf : ActorKind → PathState → List Action → List PathStep → Type 0
 IsPathOf kind path_state.Whole body path = (jobs : List OpenJob) × Walks kind body path (length body) (length path) jobs
 IsPathOf kind path_state.Prefix body path = (index : ℕ) × (jobs : List OpenJob) × Walks kind body path index (length path) jobs
 
 -- ---- ambiguous jobs
+-- The action is a submit of the class.
 abbrev pub is_submit_of : ℕ → Option Action → Bool
 is_submit_of class (Some (action.Submit other)) = other == class
 is_submit_of class _ = false

@@ -1,4 +1,4 @@
--- Results of matching.
+-- The results of matching a path against a body.
 use Rattle.std.specs.Prelude.{◌≡◌, ◌≤◌, ◌<◌, ◌==◌, ◌||◌, ◌&&◌, ℕ, true, nat_lt, is_none, is_some, if◌then◌else◌, List, ⊤, length, take, All}
 use Rattle.job_bodies.specs.declared.action.Action.{Action}
 use Rattle.conformance.specs.declared.step.ActorKind.{ActorKind}
@@ -28,23 +28,23 @@ IfDeviates Undecided P = ⊤
 abbrev pub OnDeviates : PathMatch → Type 0 → Type 0
 OnDeviates path_match P = IfDeviates path_match (λ explained. P)
 
--- `explained` is the longest prefix of the path that begins a path of the body, with the reason why the next step does not
--- extend it, or the job that is missing at the end of the path.
+-- `explained` is the longest prefix of the path that the body explains. It also has the reason why the body does not explain
+-- the next step, or the job that the actor should have got before its end.
 pub record IsExplained (kind : ActorKind) (body : List Action) (path : List PathStep) (explained : ExplainedPrefix) : Type 0 where
   pub within : explained.length ≤ length path
   pub front : IsPathOf kind Prefix body (take explained.length path)
   pub longest : (more : ℕ) → explained.length < more → more ≤ length path → ¬ IsPathOf kind Prefix body (take more path)
   pub reason : IsReason kind body path explained.length explained.excess
   pub missing : IsMissing kind body path explained.length explained.missing
-  -- If the prefix is the whole path, a job is missing.
+  -- If the prefix is the whole path, there is a job that the actor should have got.
   pub named : explained.length ≡ length path → is_some explained.missing ≡ true
 
--- The longer of two prefixes. If their lengths are the same, it is the first one if that has open jobs, and otherwise the second
--- one.
+-- The longer of two prefixes. If both have the same length, it is the first one if its `excess` is not `None`, and otherwise
+-- the second one.
 abbrev pub longer : ExplainedPrefix → ExplainedPrefix → ExplainedPrefix
 longer one other = if nat_lt one.length other.length || ((one.length == other.length) && is_none one.excess) then other else one
 
--- The result says whether the path matches the body.
+-- The result is not `Undecided`: it says whether the path matches the body.
 abbrev pub IsDecided : PathMatch → Type 0
 IsDecided Fits = ⊤
 IsDecided (Deviates explained) = ⊤
@@ -54,7 +54,7 @@ IsDecided Undecided = ⊥
 abbrev pub IsUnambiguous : List Action → List PathStep → Type 0
 IsUnambiguous body path = All (HasOneClass body) path
 
--- The result is correct for the path and the body.
+-- The result of matching the path against the body is correct.
 abbrev pub IsMatch : ActorKind → PathState → List Action → List PathStep → PathMatch → Type 0
 IsMatch kind path_state body path Fits = IsPathOf kind path_state body path
 IsMatch kind path_state body path (Deviates explained) = (¬ IsPathOf kind path_state body path) × IsExplained kind body path explained

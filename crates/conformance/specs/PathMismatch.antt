@@ -1,4 +1,4 @@
--- The description of an actor whose path matches no body of the plan.
+-- The text about an actor whose path matches no body of the plan.
 use Rattle.std.specs.Prelude.{ℕ, ◌==◌, nat_lt, if◌then◌else◌, ◌++◌, List, [], codes, decimal, string_bytes, Option, Some, None}
 use Rattle.job_bodies.specs.Plan.{Plan, class_at}
 use Rattle.recordings.specs.declared.recording_line.RecordedActor.{RecordedActor}
@@ -10,19 +10,20 @@ use Rattle.conformance.specs.declared.mismatch.DeviatingStep.TheVariants as step
 use Rattle.conformance.specs.declared.mismatch.NamedStep.{NamedStep}
 use Rattle.conformance.specs.declared.mismatch.NamedStep.TheVariants.{Submits, Gets}
 
--- A job with its class and pool.
+-- The text of a job with its class and pool, such as `job 44 of class order in pool web`.
 abbrev pub job_text : ℕ → List ℕ → List ℕ → List ℕ
 job_text job class pool = codes "job " ++ decimal job ++ codes " of class " ++ class ++ codes " in pool " ++ pool
 
 abbrev pub round_text : ℕ → List ℕ → List ℕ
 round_text round kind = codes "round " ++ decimal round ++ codes " of kind " ++ kind
 
--- An actor with its label.
+-- The text of an actor with its label, such as `round 3 of kind visitor`.
 abbrev pub actor_text : RecordedActor → List ℕ → List ℕ → List ℕ
 actor_text (Job job) label pool = job_text job label pool
 actor_text (Round round) label pool = round_text round label
 
 -- ---- what it did
+-- The text of a submit, such as ` submitted price to pool database`.
 abbrev pub submit_text : List ℕ → List ℕ → List ℕ
 submit_text class pool = codes " submitted " ++ class ++ codes " to pool " ++ pool
 
@@ -30,6 +31,7 @@ abbrev pub get_text : List ℕ → List ℕ → List ℕ
 get_text class pool = codes " got " ++ class ++ codes " of pool " ++ pool
 
 -- ---- why it deviates
+-- The text that says that the body has no such step. `step` is `submit` or `get`.
 abbrev pub missing_text : List ℕ → List ℕ
 missing_text step = codes "; its body has no such " ++ step
 
@@ -54,7 +56,7 @@ end_reason = codes "; its body has a get before its end"
 abbrev pub without_get_text : ℕ → List ℕ → List ℕ → List ℕ
 without_get_text job class pool = codes " ended without a get of job " ++ (decimal job ++ (codes " of class " ++ (class ++ (codes " in pool " ++ pool))))
 
--- The number of gets that timed out or were interrupted, if there are several.
+-- The text of the number of gets that timed out or were interrupted. It is empty if there are fewer than two.
 abbrev pub failed_gets_text : ℕ → List ℕ
 failed_gets_text gets = if nat_lt gets 2 then [] else codes ", after " ++ decimal gets ++ codes " gets of it that timed out or were interrupted"
 
@@ -78,7 +80,7 @@ position_text (Some (Gets class)) = codes " after get " ++ string_bytes class
 abbrev pub too_many_text : Plan → Option NamedStep → OpenExcess → List ℕ
 too_many_text plan after excess = (codes ";" ++ position_text after) ++ excess_text plan excess
 
--- The first deviating step.
+-- The text of the first step that no body explains. `after` is the step before it.
 abbrev pub deviating_step_text : Plan → DeviatingStep → Option NamedStep → List ℕ
 deviating_step_text plan (step.Submits label) after = (submit_text (string_bytes label.name) (string_bytes label.pool) ++ missing_text (codes "submit")) ++ position_text after
 deviating_step_text plan (step.SubmitsWhileOpen label excess) after = submit_text (string_bytes label.name) (string_bytes label.pool) ++ too_many_text plan after excess

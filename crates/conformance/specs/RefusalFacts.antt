@@ -1,4 +1,4 @@
--- The facts about the refusals of a whole recording.
+-- The facts from a whole recording that decide which refusals are allowed.
 use Rattle.std.specs.Prelude.{◌≡◌, ℕ, List, slice_index_or}
 use Rattle.job_bodies.specs.Plan.{Plan}
 use Rattle.recordings.specs.LineSteps.{is_refused}
@@ -10,7 +10,7 @@ use Rattle.conformance.specs.Handlers.{AreRules}
 use Rattle.conformance.specs.JobSet.{has_job}
 use Rattle.conformance.specs.RefusedJobs.{AreFactsOf}
 
--- The rules and the refused jobs are those of the recording.
+-- The rejection rules and the facts about the refused jobs are those of the lines.
 pub record AreFactsFor (plan : Plan) (lines : List RecordedLine) (facts : RefusalFacts) : Type 0 where
   pub rules : AreRules plan lines facts.rules.items
   pub jobs : AreFactsOf plan lines facts.jobs

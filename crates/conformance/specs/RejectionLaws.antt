@@ -14,11 +14,11 @@ RejectionsNeedTheKey = (plan : Plan) (lines before : List RecordedLine) (line : 
 abbrev pub UnboundedPoolsRejectNothing : Type 0
 UnboundedPoolsRejectNothing = (plan : Plan) (lines before : List RecordedLine) (line : RecordedLine) (pool : ℕ) → pool_of_rejection plan lines before line ≡ Some pool → (pool_at plan pool).unbounded ≡ false
 
--- A pool with an unbounded queue does not get the key `may_reject`, whatever it refuses in the recording, unless its `queue` is 0. (A
--- plan's text gives such a pool a `queue` of 1,000,000.)
+-- The recording does not give the key `may_reject` to a pool with an unbounded queue, unless its `queue` is 0. (A plan's text
+-- gives such a pool a `queue` of 1,000,000.)
 abbrev pub UnboundedPoolsGetNoKey : Type 0
 UnboundedPoolsGetNoKey = (plan : Plan) (lines : List RecordedLine) (pool : ℕ) → (pool_at plan pool).unbounded ≡ true → (pool_at plan pool).queue ≢ 0 → (pool_at (with_rejecting_pools plan lines) pool).may_reject ≡ false
 
--- If no pool may reject jobs and `HasNoInvalidation` holds, no line of the recording invalidates a SAFE answer.
+-- If no pool of the plan may reject jobs, and `HasNoInvalidation` holds, no line of the recording invalidates a SAFE answer.
 abbrev pub WithoutTheKeyAllCount : Type 0
 WithoutTheKeyAllCount = (plan : Plan) (lines : List RecordedLine) → has_rejecting_pool plan ≡ false → HasNoInvalidation plan lines → (line : RecordedLine) → Contains lines line → invalidates line ≡ false

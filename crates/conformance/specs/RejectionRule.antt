@@ -21,11 +21,11 @@ use Rattle.conformance.specs.declared.rejection_rule.RejectionRule.{RejectionRul
 use Rattle.conformance.specs.declared.rejection_rule.RejectionRule.TheVariants as rule
 
 -- ---- the plan
--- The pool of the job that the submit at this index of the body submits.
+-- The pool of the class that the body submits at index `submit`.
 abbrev pub pool_of_submit : Plan → List Action → ℕ → ℕ
 pool_of_submit plan body submit = (class_at plan (submitted_class body submit)).pool
 
--- A get of a job of the pool, in this body.
+-- The action of this body is a get of a job of the pool.
 abbrev pub is_get_from : Plan → ℕ → List Action → Action → Bool
 is_get_from plan pool body (Get submit) = pool_of_submit plan body submit == pool
 is_get_from plan pool body action = false
@@ -42,6 +42,7 @@ unfoldable pub has_rejecting_pool : Plan → Bool
 has_rejecting_pool plan = list_any (λ (pool : plans.Pool). pool.may_reject) plan.pools
 
 -- ---- the handler of a pool
+-- The handler throws an exception.
 abbrev pub is_abort : HandlerKind → Bool
 is_abort handler.Abort = true
 is_abort handler.CallerRuns = false
@@ -56,7 +57,8 @@ is_caller_runs handler.Discard = false
 is_caller_runs handler.DiscardOldest = false
 is_caller_runs handler.Other = false
 
--- The handler drops the new job without an exception. One that drops the oldest job of the queue instead accepts the new one.
+-- The handler drops the new job without an exception. A handler that drops the oldest job of the queue instead accepts the
+-- new job.
 abbrev pub is_discard : HandlerKind → Bool
 is_discard handler.Abort = false
 is_discard handler.CallerRuns = false
@@ -69,12 +71,13 @@ abbrev pub has_other_handler : (HandlerKind → Bool) → List ℕ → RecordedL
 has_other_handler is_kind name (Pool one sizes) = bytes_eq one name && not (is_kind sizes.handler)
 has_other_handler is_kind name line = false
 
--- The handler is of this kind in each `pool` line of the pool. A line reports a change of the handler only after the change, so a
--- change makes the handler at each refusal uncertain.
+-- The handler is of this kind in each `pool` line of the pool. A line reports a change of the handler only after the change.
+-- So if the handler changed, the handler at a refusal is uncertain.
 unfoldable pub has_handler : List RecordedLine → (HandlerKind → Bool) → List ℕ → Bool
 has_handler lines is_kind name = not (list_any (has_other_handler is_kind name) lines)
 
 -- ---- a shutdown
+-- The line shuts this pool down.
 abbrev pub shuts : List ℕ → RecordedLine → Bool
 shuts name (ShutDown pool) = bytes_eq pool name
 shuts name line = false
@@ -83,11 +86,12 @@ unfoldable pub is_shut : List RecordedLine → List ℕ → Bool
 is_shut lines name = list_any (shuts name) lines
 
 -- ---- the refused job
+-- The number of the job, or `None` if the actor is a round.
 abbrev pub job_of_actor : RecordedActor → Option ℕ
 job_of_actor (Job job) = Some job
 job_of_actor (Round round) = None
 
--- The job that does something in this line: it submits, gets or cancels a job, or calls `invokeAny`.
+-- The job that acts in this line: it submits, gets or cancels a job, or calls `invokeAny`.
 abbrev pub acting_job : RecordedLine → Option ℕ
 acting_job (Submits actor job class pool) = job_of_actor actor
 acting_job (Refused actor job) = job_of_actor actor
@@ -102,7 +106,7 @@ abbrev pub is_job : ℕ → Option ℕ → Bool
 is_job job None = false
 is_job job (Some one) = one == job
 
--- In this line the job submits, gets or cancels a job, or calls `invokeAny`.
+-- The job acts in this line: it submits, gets or cancels a job, or calls `invokeAny`.
 abbrev pub acts : ℕ → RecordedLine → Bool
 acts job line = is_job job (acting_job line)
 
@@ -119,12 +123,15 @@ unfoldable pub submit_pool : List RecordedLine → ℕ → Option (List ℕ)
 submit_pool lines job = slice_get (filter_map (pool_by job) lines) 0
 
 -- ---- the rule for a pool
+-- The rule for a pool, by four facts. `aborts` and `caller_runs` say whether the handler is `abort` or `caller_runs`.
+-- `closes` says whether the pool is shut down. `drops` says whether the handler is `discard` and no body gets a job of the
+-- pool.
 abbrev pub rule_by : Bool → Bool → Bool → Bool → RejectionRule
 rule_by aborts caller_runs closes drops = if aborts then rule.Always else (if caller_runs then rule.IfCallerRuns closes else (if drops then rule.Always else rule.Never))
 
--- The rule for a pool that may reject jobs. Each refusal is allowed if the handler is `abort`, or if the handler is `discard` and no body
--- of the plan gets a job of the pool. If the handler is `caller_runs`, it depends on the job. With any other handler, no refusal is
--- allowed.
+-- The rule for a pool that may reject jobs. Each refusal is allowed if the handler is `abort`, or if the handler is `discard`
+-- and no body of the plan gets a job of the pool. If the handler is `caller_runs`, whether a refusal is allowed depends on
+-- the job. With any other handler, no refusal is allowed.
 unfoldable pub rule_for : Plan → List RecordedLine → ℕ → RejectionRule
 rule_for plan lines pool =
     let name = (pool_at plan pool).name in
@@ -138,9 +145,9 @@ can_reject pool = pool.may_reject && not pool.unbounded
 abbrev pub rule_of : Plan → List RecordedLine → ℕ → RejectionRule
 rule_of plan lines pool = if can_reject (pool_at plan pool) then rule_for plan lines pool else rule.Never
 
--- The rule allows the rejection of a job. With `caller_runs`, the job must submit, get and cancel no job and must not call `invokeAny`. If
--- the recording also has a `shutdown` of the pool, the handler may have dropped the job: then the job must have a `start` line, and no
--- `shutdown` of the pool may precede the refusal.
+-- The rule allows the rejection of a job. With `caller_runs`, the job must submit, get and cancel no job and must not call
+-- `invokeAny`. If the recording has a `shutdown` of the pool, the handler may have dropped the job. Then the job must also
+-- have a `start` line, and no `shutdown` of the pool may precede the refusal.
 abbrev pub is_allowed_by : RejectionRule → Bool → Bool → Bool → Bool
 is_allowed_by rule.Never acted started closed = false
 is_allowed_by rule.Always acted started closed = true
@@ -154,40 +161,43 @@ is_allowed_at plan lines before job by pool = is_allowed_by by (has_acted lines 
 abbrev pub pool_of_job : Plan → List RecordedLine → ℕ → Option ℕ
 pool_of_job plan lines job = option_and_then (pool_named plan) (submit_pool lines job)
 
--- The pool, if its rule allows the rejection of the job. The lines `before` precede the rejection.
+-- The pool, if its rule allows the rejection of the job, and `None` otherwise. `before` has the lines before the rejection.
 abbrev pub pool_if_allowed : Plan → List RecordedLine → List RecordedLine → ℕ → Option ℕ → Option ℕ
 pool_if_allowed plan lines before job None = None
 pool_if_allowed plan lines before job (Some pool) = if is_allowed_at plan lines before job (rule_of plan lines pool) pool then Some pool else None
 
--- The pool of the plan that rejected the job, if the plan allows this. `before` precedes the line.
+-- The pool of the plan that rejected the job, if the plan allows this rejection. `before` has the lines before the rejection.
 abbrev pub rejecting_pool : Plan → List RecordedLine → List RecordedLine → ℕ → Option ℕ
 rejecting_pool plan lines before job = pool_if_allowed plan lines before job (pool_of_job plan lines job)
 
--- The pool of the plan that rejected a job in this line of the recording, if the plan allows this.
+-- The pool of the plan that rejected a job in this line, if the plan allows this rejection. `before` has the lines before the
+-- line.
 abbrev pub pool_of_rejection : Plan → List RecordedLine → List RecordedLine → RecordedLine → Option ℕ
 pool_of_rejection plan lines before (Refused actor job) = rejecting_pool plan lines before job
 pool_of_rejection plan lines before line = None
 
--- The pool of a refused job. None if a pool rejected the job as the plan allows.
+-- The pool of a refused job, or `None` if the plan allows the refusal as a rejection.
 abbrev pub unless_rejected : Option ℕ → Option ℕ → Option ℕ
 unless_rejected (Some rejecting) pool = None
 unless_rejected None pool = pool
 
--- The pool of the plan that refused a job in this line of the recording, if the plan does not allow this.
+-- The pool of the plan that refused a job in this line, if the plan does not allow the refusal. `before` has the lines before
+-- the line.
 abbrev pub pool_of_refusal : Plan → List RecordedLine → List RecordedLine → RecordedLine → Option ℕ
 pool_of_refusal plan lines before (Refused actor job) = unless_rejected (rejecting_pool plan lines before job) (pool_of_job plan lines job)
 pool_of_refusal plan lines before line = None
 
--- The line of the recording, which `before` precedes, is a `refused` line that invalidates nothing.
+-- The line is a `refused` line that the plan allows, so it invalidates nothing. `before` has the lines before the line.
 abbrev pub is_allowed_rejection : Plan → List RecordedLine → List RecordedLine → RecordedLine → Bool
 is_allowed_rejection plan lines before line = is_some (pool_of_rejection plan lines before line)
 
 -- ---- all lines
--- The pools of the allowed rejections in `read`, the first lines of the recording, in the order of these lines.
+-- The pool of each allowed rejection in `read`, in the order of the lines. `read` has the first lines of the recording.
 unfoldable pub pools_in : Plan → List RecordedLine → List RecordedLine → List ℕ
 pools_in plan lines read = filter_map (λ (before, line). pool_of_rejection plan lines before line) (with_lines_before read)
 
--- The pools of the refusals in `read` that the plan does not allow, in the order of these lines.
+-- The pool of each refusal in `read` that the plan does not allow, in the order of the lines. `read` has the first lines of
+-- the recording.
 unfoldable pub refusing_pools_in : Plan → List RecordedLine → List RecordedLine → List ℕ
 refusing_pools_in plan lines read = filter_map (λ (before, line). pool_of_refusal plan lines before line) (with_lines_before read)
 
@@ -199,14 +209,15 @@ abbrev pub refusal_by : Plan → List RecordedLine → List RecordedLine → Rec
 refusal_by plan lines before (Refused actor job) = refusal_unless (is_some (rejecting_pool plan lines before job)) (record { line = length before + 1; event = event.Refused actor job })
 refusal_by plan lines before line = None
 
--- The refusals that the plan does not allow.
+-- The refusals in `read` that the plan does not allow. `read` has the first lines of the recording.
 unfoldable pub refusals_in : Plan → List RecordedLine → List RecordedLine → List Invalidation
 refusals_in plan lines read = filter_map (λ (before, line). refusal_by plan lines before line) (with_lines_before read)
 
--- The first refusal that the plan does not allow.
+-- The first refusal of the recording that the plan does not allow.
 abbrev pub first_refusal : Plan → List RecordedLine → Option Invalidation
 first_refusal plan lines = slice_get (refusals_in plan lines lines) 0
 
 -- ---- the number of rejections of each pool
+-- The number of allowed rejections by the pool in a recording.
 abbrev pub rejections_of : Plan → List RecordedLine → ℕ → ℕ
 rejections_of plan lines pool = count_by (λ one. one == pool) (pools_in plan lines lines)

@@ -15,21 +15,20 @@ use Rattle.conformance.specs.RefusedJobs.{or_else}
 use Rattle.conformance.specs.RejectingPools.{only_rejects_by}
 use Rattle.conformance.specs.RejectionRule.{is_shut, has_rejecting_pool, unless_rejected, pools_in, refusing_pools_in, refusals_in}
 
--- The refusals in `read`, the first lines of the recording.
+-- The state has the refusals in `read`, the first lines of the recording.
 pub record AreRejectionsSoFar (plan : Plan) (lines read : List RecordedLine) (rejections : Rejections) : Type 0 where
   pub pools : rejections.pools.items ≡ pools_in plan lines read
   pub refusing : rejections.refusing.items ≡ refusing_pools_in plan lines read
   pub first : rejections.first_refusal ≡ slice_get (refusals_in plan lines read) 0
   pub shut : (pool : List ℕ) → has_name rejections.shut pool ≡ is_shut read pool
 
--- The refusals of the recording, or `None` if no pool may reject jobs.
+-- The state has the refusals of the recording. It is `None` if no pool of the plan may reject jobs.
 abbrev pub AreRejectionsOf : Plan → List RecordedLine → Option Rejections → Type 0
 AreRejectionsOf plan lines None = has_rejecting_pool plan ≡ false
 AreRejectionsOf plan lines (Some rejections) = (has_rejecting_pool plan ≡ true) × AreRejectionsSoFar plan lines lines rejections
 
 -- ---- one refusal
--- The line refuses a job. If a pool of the plan rejects it as the plan allows, this pool is appended to the pools of the rejections.
--- Otherwise the pool of the job is appended to the pools of the other refusals.
+-- The list of pools after a refusal: `pool` is appended, if there is one.
 abbrev pub pools_after : Option ℕ → List ℕ → List ℕ
 pools_after pool pools = pools ++ option_to_list pool
 
@@ -44,18 +43,20 @@ pub record NotesRefusal (pool of_job : Option ℕ) (number : ℕ) (actor : Recor
   pub shut : new.shut ≡ old.shut
 
 -- ---- the pools that only reject jobs
+-- The pool refused at least one job, and the plan allows all refusals by the pool.
 abbrev pub only_rejected_by : Rejections → ℕ → Bool
 only_rejected_by rejections = only_rejects_by rejections.pools.items rejections.refusing.items
 
 -- ---- the number of rejections of each pool
--- The number of rejections of the pool, if it may reject jobs.
+-- The number of rejections by the pool, or `None` if the pool must not reject jobs. `pools` has the pool of each rejection.
 abbrev pub count_if : List ℕ → ℕ × plans.Pool → Option PoolRejections
 count_if pools (number, pool) = if pool.may_reject then Some (record { pool = number; count = count_by (λ one. one == number) pools }) else None
 
--- The number of rejections of each pool that may reject jobs, in the order of the plan. `pools` has the pools of the rejections.
+-- The number of rejections by each pool that may reject jobs, in the order of the plan. `pools` has the pool of each
+-- rejection.
 abbrev pub counts_by : Plan → List ℕ → List PoolRejections
 counts_by plan pools = filter_map (count_if pools) (enumerate_from 0 plan.pools)
 
--- The number of rejections of each pool that may reject jobs, in a recording.
+-- The number of allowed rejections in a recording by each pool that may reject jobs, in the order of the plan.
 abbrev pub rejections_of : Plan → List RecordedLine → List PoolRejections
 rejections_of plan lines = counts_by plan (pools_in plan lines lines)

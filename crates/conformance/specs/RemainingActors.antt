@@ -1,4 +1,4 @@
--- The tables at the end of the lines, while the remaining actors are classified.
+-- The state of a classifier at the end of the lines, while it classifies the remaining actors.
 use Rattle.std.specs.Prelude.{◌≡◌, ◌<◌, ◌⊎◌, ℕ, nat_eq, true, false, List, is_some, Option, Some, None}
 use Rattle.std.specs.Set.{is_member}
 use Rattle.recordings.specs.declared.recording_line.RecordedActor.{RecordedActor}
@@ -18,18 +18,18 @@ use Rattle.conformance.specs.PathState.{has_ended, path_state_of}
 use Rattle.conformance.specs.ActorTables.{in_table, classes_in, AreClassesIn, AreUnambiguousIn}
 use Rattle.conformance.specs.Represents.{IsNamed}
 
--- The actor has ended with this path, or it is open.
+-- The actor has ended with this path. If there is no path, the actor is open.
 abbrev pub IsAt : List RecordedLine → RecordedActor → Option EndedPath → Type 0
 IsAt lines actor (Some ended_path) = (has_ended lines actor ≡ true) × (ended_path.path.items ≡ path_of lines actor)
 IsAt lines actor None = is_live lines actor ≡ true
 
--- The path of the actor.
+-- `actor_path` has the path of the actor in these lines, and whether the actor has ended.
 pub record IsActorPathOf (lines : List RecordedLine) (actor : RecordedActor) (actor_path : ActorPath) : Type 0 where
   pub path : actor_path.path.items ≡ path_of lines actor
   pub path_state : actor_path.path_state ≡ path_state_of lines actor
 
--- The actors that are not yet classified are in the table. Of the classified jobs, the classes of those whose submitters are
--- in the table are stored.
+-- The table `actors` has the actors that are not yet classified. The table `known` has the classes of each classified job
+-- whose submitter is in `actors`.
 pub record IsStateAtEnd (plan : Plan) (lines : List RecordedLine) (actors : ActorTable) (known : ClassTable) : Type 0 where
   pub named : (actor : RecordedActor) (kept : UnsettledActor) → in_table actors actor ≡ Some kept → IsNamed lines actor kept
   pub at : (actor : RecordedActor) (kept : UnsettledActor) → in_table actors actor ≡ Some kept → IsAt lines actor kept.ended_path
@@ -39,7 +39,8 @@ pub record IsStateAtEnd (plan : Plan) (lines : List RecordedLine) (actors : Acto
       → (is_some (in_table actors (Job job)) ≡ true) ⊎ (is_some (classes_in known job) ≡ true)
   pub submitter : (actor : RecordedActor) (job : ℕ) (kept : UnsettledActor) → in_table actors (Job job) ≡ Some kept → has_submitted lines actor job ≡ true → is_refused lines job ≡ false → kept.submitter ≡ Some actor
 
--- The table has no job that the actor may have submitted: a job submits only jobs with larger numbers.
+-- The table has no job that the actor may have submitted. A job submits only jobs with larger numbers, and a round may submit
+-- any job.
 abbrev pub AreNoneBelow : ActorTable → RecordedActor → Type 0
 AreNoneBelow actors (Job job) = (one : ℕ) → job < one → in_table actors (Job one) ≡ None
 AreNoneBelow actors (Round round) = (one : ℕ) → in_table actors (Job one) ≡ None

@@ -20,25 +20,25 @@ use Rattle.conformance.specs.Label.{HasLabel}
 use Rattle.conformance.specs.Classes.{IsSettled}
 use Rattle.conformance.specs.ActorTables.{in_table, classes_in, AreKnown, AreUnambiguousIn, AreSettledBefore}
 
--- The entry has the label of the actor in the lines.
+-- The entry has the label and the pool that the lines give the actor.
 abbrev pub IsNamed : List RecordedLine → RecordedActor → UnsettledActor → Type 0
 IsNamed lines actor kept = HasLabel lines actor (string_bytes kept.label) (string_bytes kept.pool)
 
--- The actor has ended with this path, and the jobs of a prefix of the path are settled.
+-- The actor has ended with this path. The jobs of the first `known` steps of the path are settled.
 pub record IsEndedPathOf (lines : List RecordedLine) (known : ClassTable) (actor : RecordedActor) (ended_path : EndedPath) : Type 0 where
   pub through : has_ended lines actor ≡ true
   pub path : ended_path.path.items ≡ path_of lines actor
   pub within : ended_path.known ≤ length ended_path.path.items
   pub front : AreSettledBefore known ended_path.path.items ended_path.known
 
--- A job of the path is not settled.
+-- The path has an unsettled job, for which the actor waits.
 pub record IsBlocked (actors : ActorTable) (ended_path : EndedPath) : Type 0 where
   pub job : ℕ
   pub next : list_any (submits job) ended_path.path.items ≡ true
   pub kept : is_some (in_table actors (Job job)) ≡ true
 
--- The tables have the unsettled actors, and the classes of settled jobs whose submitters are unsettled. One actor, `ready`,
--- may be in the table although it waits for no job.
+-- The table `actors` has the unsettled actors. The table `known` has the classes of the settled jobs whose submitters are
+-- unsettled. The actor `ready`, if there is one, may be in `actors` although it waits for no job.
 pub record AreTablesOf (plan : Plan) (lines : List RecordedLine) (actors : ActorTable) (known : ClassTable) (ready : Option RecordedActor) : Type 0 where
   pub named : (actor : RecordedActor) (kept : UnsettledActor) → in_table actors actor ≡ Some kept → IsNamed lines actor kept
   pub going : (actor : RecordedActor) (kept : UnsettledActor) → in_table actors actor ≡ Some kept → kept.ended_path ≡ None → has_ended lines actor ≡ false
@@ -51,7 +51,7 @@ pub record AreTablesOf (plan : Plan) (lines : List RecordedLine) (actors : Actor
       → (is_some (in_table actors (Job job)) ≡ true) ⊎ (is_some (classes_in known job) ≡ true)
   pub submitter : (actor : RecordedActor) (job : ℕ) (kept : UnsettledActor) → in_table actors (Job job) ≡ Some kept → has_submitted lines actor job ≡ true → is_refused lines job ≡ false → kept.submitter ≡ Some actor
 
--- The state of the classifier is that of the lines read.
+-- The classifier is in its state after these lines.
 pub record IsClassifierOf (plan : Plan) (classes : ActorClassifier) (lines : List RecordedLine) : Type 0 where
   pub paths : IsPathsOf classes.paths lines
   pub kept : AreTablesOf plan lines classes.actors classes.known None

@@ -13,11 +13,13 @@ use Rattle.conformance.specs.RoundExcesses.{is_kind, rounds_of, has_exceeded, ex
 abbrev pub kept_of : Plan → List (Option ℕ) → List RecordedLine → ℕ → KindRounds
 kept_of plan kinds lines kind = record { rounds = rounds_of plan kinds lines kind; has_exceeded = has_exceeded plan kinds lines kind }
 
--- The state has the counts of each client kind, and whether the kind ever had more rounds than the plan allows.
+-- The comparison has read these lines. For each client kind, it has the counts of the rounds, and whether the kind ever had
+-- more rounds than the plan allows.
 pub record IsRoundComparisonOf (plan : Plan) (kinds : List (Option ℕ)) (comparison_state : RoundComparison) (lines : List RecordedLine) : Type 0 where
   pub kept : (kind : ℕ) → slice_get comparison_state.kinds.items kind ≡ (if nat_lt kind (length plan.clients) then Some (kept_of plan kinds lines kind) else None)
 
 -- ---- the effect of a line on the rounds of one kind
+-- The counts after one more round has begun.
 abbrev pub with_begun : Rounds → Rounds
 with_begun rounds = record rounds { begun = rounds.begun + 1 }
 
@@ -37,11 +39,13 @@ reports_of_kind number kind (Some kept) = reports_of_begin number kind kept
 abbrev pub with_ended : Rounds → Rounds
 with_ended rounds = record rounds { ended = rounds.ended + 1 }
 
--- The count changes only if a round is open.
+-- The counts of a kind after the end of a round. They change only if a round is open.
 abbrev pub after_end : KindRounds → KindRounds
 after_end kept = record kept { rounds = if nat_lt kept.rounds.ended kept.rounds.begun then with_ended kept.rounds else kept.rounds }
 
 -- ---- the effect and the result of a line whose round has this kind
+-- The counts of client kind `kind` after the line. `given` is the kind of the round in the line, and `there` has the counts
+-- before.
 abbrev pub kind_after : Option ℕ → RecordedLine → ℕ → Option KindRounds → Option KindRounds
 kind_after given (RoundBegins round name) kind there = if is_kind kind given then option_map after_begin there else there
 kind_after given (RoundEnds round) kind there = if is_kind kind given then option_map after_end there else there

@@ -18,7 +18,8 @@ no_rounds client = record { count = client.count; repeat = client.repeat; begun 
 abbrev pub open_rounds : Rounds → ℕ
 open_rounds rounds = rounds.begun - rounds.ended
 
--- More than `count` rounds at once or, if the kind does not repeat, more than `count` in all.
+-- How the rounds exceed the plan: more than `count` are open at once, or the kind does not repeat and more than `count` began
+-- in all. It is `None` if the rounds are within the plan.
 abbrev pub excess_of : Rounds → Option Excess
 excess_of rounds =
     if nat_lt rounds.count (open_rounds rounds) then Some (Concurrent (open_rounds rounds) rounds.count)

@@ -27,7 +27,7 @@ is_array_or_linked queue.Synchronous = false
 is_array_or_linked queue.Priority = false
 is_array_or_linked queue.Other = false
 
--- The kind of the queue is one that a plan describes by this capacity.
+-- A plan describes a queue of this kind by this capacity.
 abbrev pub is_kind_of : ℕ → QueueKind → Bool
 is_kind_of capacity kind = if capacity == 0 then is_synchronous kind else is_array_or_linked kind
 
@@ -35,7 +35,8 @@ is_kind_of capacity kind = if capacity == 0 then is_synchronous kind else is_arr
 abbrev pub uses_max : Pool → Bool
 uses_max pool = not pool.unbounded || pool.core_timeout
 
--- The maximum in a `pool` line is that of the plan's pool: the same number or, if the plan gives none, one above each size of a plan.
+-- The maximum in a `pool` line is that of the plan's pool. If the plan gives no maximum, the one in the line must be above
+-- `MAX_SIZE`, the largest size in a plan.
 abbrev pub is_planned_max : Pool → ℕ → Bool
 is_planned_max pool recorded = if has_no_max pool then nat_lt MAX_SIZE recorded else recorded == pool.max
 
@@ -43,37 +44,37 @@ is_planned_max pool recorded = if has_no_max pool then nat_lt MAX_SIZE recorded 
 abbrev pub fits_max : Pool → ℕ → Bool
 fits_max pool recorded = not (uses_max pool) || is_planned_max pool recorded
 
--- The difference if the pool has this maximum, which is not that of the plan.
+-- The difference to report for a recorded maximum that is not the plan's.
 abbrev pub max_difference : ℕ → Pool → Difference
 max_difference recorded pool = if has_no_max pool then BoundedMax recorded else Max recorded pool.max
 
--- The kind of the queue is that of the plan's pool: a `LinkedBlockingQueue` if the queue of the plan is unbounded.
+-- The kind of the recorded queue fits the plan's queue. If the plan's queue is unbounded, only a `LinkedBlockingQueue` fits.
 abbrev pub is_planned_kind : Pool → QueueKind → Bool
 is_planned_kind pool kind = if pool.unbounded then is_linked kind else is_kind_of pool.queue kind
 
--- The capacity of the plan's queue as a `pool` line gives it.
+-- The capacity that a `pool` line gives for the plan's queue. For an unbounded queue, this is `UNBOUNDED_CAPACITY`.
 abbrev pub planned_capacity : Pool → ℕ
 planned_capacity pool = if pool.unbounded then UNBOUNDED_CAPACITY else pool.queue
 
--- The difference if the queue has this capacity, which is not that of the plan.
+-- The difference to report for a recorded queue capacity that is not the plan's.
 abbrev pub capacity_difference : ℕ → Pool → Difference
 capacity_difference recorded pool = if pool.unbounded then BoundedQueue recorded else Capacity recorded pool.queue
 
--- Core threads may time out in the `pool` line exactly if they may in the plan.
+-- The `pool` line and the plan agree on whether core threads may time out.
 abbrev pub is_planned_timeout : Pool → Bool → Bool
 is_planned_timeout pool recorded = if pool.core_timeout then recorded else not recorded
 
--- The difference if core threads may time out in only one of the two. They may in the `pool` line if the plan's never do.
+-- The difference to report if the `pool` line and the plan disagree on whether core threads may time out.
 abbrev pub timeout_difference : Pool → Difference
 timeout_difference pool = if pool.core_timeout then NoCoreTimeout else CoreTimeout
 
--- A list with the difference, or an empty one if the two sides agree.
+-- A list with the difference, or an empty list if the recorded value and the plan agree.
 abbrev pub unless : Bool → Difference → List Difference
 unless agree difference = if agree then [] else difference ∷ []
 
--- Another core size, maximum size, kind of queue or capacity than in the plan, or core threads that may time out in only one of
--- the two. The maximum size is compared only if it has an effect in the plan. In the first line of a pool, also another number of
--- prestarted threads: the core size with `prestart`, and 0 without it.
+-- All differences between a `pool` line and the plan's pool. The maximum size is compared only if it has an effect in the
+-- plan. The number of prestarted threads is compared only in the first line of a pool. In the plan, it is the core size with
+-- `prestart`, and 0 without it.
 abbrev pub differences : Bool → PoolSizes → Pool → List Difference
 differences is_first sizes pool =
     unless (sizes.core == pool.core) (Core sizes.core pool.core)
@@ -83,7 +84,8 @@ differences is_first sizes pool =
     ++ unless (is_planned_timeout pool sizes.timeout) (timeout_difference pool)
     ++ unless (not is_first || sizes.prestarted == first_workers pool) (Prestarted sizes.prestarted (first_workers pool))
 
--- The sizes are those of the plan, as far as they are compared in this line.
+-- The sizes in the `pool` line are those of the plan. The number of prestarted threads is compared only in the first line of
+-- a pool.
 pub record IsAsPlanned (is_first : Bool) (sizes : PoolSizes) (pool : Pool) : Type 0 where
   pub core : sizes.core ≡ pool.core
   pub max : IsTrue (uses_max pool) → IsFalse (has_no_max pool) → sizes.max ≡ pool.max

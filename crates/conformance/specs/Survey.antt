@@ -23,32 +23,34 @@ use Rattle.conformance.specs.OtherKinds.{AreOtherKinds}
 use Rattle.conformance.specs.ExcessTracker.{CountsFirstKinds}
 
 -- ---- the part that each line updates
+-- The part that each line updates is correct for these lines.
 pub record IsLineSurveyOf (plan : Plan) (lines : List RecordedLine) (line_survey : LineSurvey) : Type 0 where
   pub pools : IsPoolComparisonOf plan line_survey.pools lines
   pub deviations : map deviation_seen line_survey.deviations.items ≡ deviations_by_lines plan lines
   pub notes : IsNotesOf line_survey.notes lines
   pub unplanned : AreUnplannedLabelsOf plan lines line_survey.unplanned
 
--- The same, at the end of the recording.
+-- The part that each line updates is correct at the end of the recording. Its deviations include the pools that the recording
+-- lacks.
 pub record IsLineSurveyAtEnd (plan : Plan) (lines : List RecordedLine) (line_survey : LineSurvey) : Type 0 where
   pub deviations : map deviation_seen line_survey.deviations.items ≡ deviations_by_lines plan lines ++ deviations_at_end plan lines
   pub notes : IsNotesOf line_survey.notes lines
   pub unplanned : AreUnplannedLabelsOf plan lines line_survey.unplanned
 
 -- ---- the part that each classified actor updates
--- These actors have been classified and recorded.
+-- The part that each classified actor updates is correct for the actors in `reported`. These are all settled actors.
 pub record IsActorSurveyOf (plan : Plan) (lines : List RecordedLine) (reported : List ClassifiedActor) (actor_survey : ActorSurvey) : Type 0 where
   pub reported_so : AreResultsSoFarOf plan lines reported
   pub verdicts : IsVerdictsOf plan reported actor_survey.verdicts
   pub others : AreOtherKinds plan reported actor_survey.others
 
--- All actors that the lines classify have been recorded.
+-- The part that each classified actor updates has all actors that are settled after these lines.
 pub record IsCurrent (plan : Plan) (lines : List RecordedLine) (classes : ActorClassifier) (actor_survey : ActorSurvey) : Type 0 where
   pub reported : List ClassifiedActor
   pub classes_represent : IsClassifierOf plan classes lines
   pub actor_survey_so : IsActorSurveyOf plan lines reported actor_survey
 
--- All actors have been recorded.
+-- The part that each classified actor updates has all jobs and rounds of the recording.
 pub record IsActorSurveyAtEnd (plan : Plan) (lines : List RecordedLine) (actor_survey : ActorSurvey) : Type 0 where
   pub reported : List ClassifiedActor
   pub all : AreAllResultsOf plan lines reported
@@ -60,7 +62,7 @@ pub record IsSurveyOf (plan : Plan) (lines : List RecordedLine) (survey : Survey
   pub actor_survey : IsActorSurveyAtEnd plan lines survey.actor_survey
   pub excess_tracker : CountsFirstKinds plan survey.actor_survey.others lines survey.excess_tracker
 
--- A survey under construction, before the end of the recording.
+-- A survey under construction is correct for the lines read so far.
 pub record IsSurveyBuilderOf (plan : Plan) (lines : List RecordedLine) (builder : SurveyBuilder) : Type 0 where
   pub line_survey : IsLineSurveyOf plan lines builder.survey.line_survey
   pub actor_survey : IsCurrent plan lines builder.classes builder.survey.actor_survey
@@ -68,13 +70,14 @@ pub record IsSurveyBuilderOf (plan : Plan) (lines : List RecordedLine) (builder 
   pub nothing : builder.reported.items ≡ []
 
 -- ---- a text
--- All lines were read, or the first invalid one is returned.
+-- If no fault is returned, all lines of the text are valid and were read. Otherwise the fault is that of the first invalid
+-- line.
 abbrev pub ReadsAllLines : Plan → List ℕ → SurveyBuilder → Option RecordingFault → Type 0
 ReadsAllLines plan text builder None =
     IsFirstFault (lines_read text) None × KeepsRules (lines_of text) × IsSurveyBuilderOf plan (lines_of text) builder
 ReadsAllLines plan text builder (Some fault) = IsFirstFault (lines_read text) (Some fault)
 
--- A survey of the lines of a text if all are valid; otherwise the fault of the first invalid one.
+-- The result is a survey of the lines of a text, if all lines are valid. Otherwise it is the fault of the first invalid line.
 abbrev pub IsSurveyResult : Plan → List ℕ → Result Survey RecordingFault → Type 0
 IsSurveyResult plan text (Ok survey) = IsFirstFault (lines_read text) None × IsSurveyOf plan (lines_of text) survey
 IsSurveyResult plan text (Err fault) = IsFirstFault (lines_read text) (Some fault)

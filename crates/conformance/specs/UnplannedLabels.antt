@@ -14,12 +14,12 @@ use Rattle.conformance.specs.declared.unplanned.UnplannedLabels.{UnplannedLabels
 use Rattle.conformance.specs.LabelSet.{has_label, pair_text}
 use Rattle.conformance.specs.LineQuery.{IsLine}
 
--- The next line has this number, from 1.
+-- The line after these lines has this number. Lines are numbered from 1.
 abbrev pub IsNext : ℕ → List RecordedLine → Type 0
 IsNext number before = number ≡ length before + 1
 
 -- ---- one label
--- This is the first line that submits a job of this class to this pool, and the plan has no such class in that pool.
+-- Line `number` is the first line that submits a job of this class to this pool, and the plan has no such class in that pool.
 pub record IsClassNotPlanned (plan : Plan) (lines : List RecordedLine) (number : ℕ) (class pool : List ℕ) : Type 0 where
   pub actor : RecordedActor
   pub job : ℕ
@@ -27,7 +27,7 @@ pub record IsClassNotPlanned (plan : Plan) (lines : List RecordedLine) (number :
   pub none : class_family plan class pool ≡ []
   pub first : (earlier : ℕ) (by : RecordedActor) (one : ℕ) → IsLine lines earlier (Submits by one class pool) → number ≤ earlier
 
--- This is the first line that begins a round of this kind, and the plan has no such kind.
+-- Line `number` is the first line that begins a round of this client kind, and the plan has no such kind.
 pub record IsKindNotPlanned (plan : Plan) (lines : List RecordedLine) (number : ℕ) (kind : List ℕ) : Type 0 where
   pub round : ℕ
   pub line : IsLine lines number (RoundBegins round kind)
@@ -48,7 +48,8 @@ abbrev pub names_kind : List ℕ → NotPlanned → Bool
 names_kind kind (code.Class line c p) = false
 names_kind kind (code.Kind line k) = bytes_eq (string_bytes k) kind
 
--- Each label that is not in the plan, once, with the first line that has it, and no other label.
+-- The list has each label of the lines that is not in the plan, once and with the first line that has it. It has no other
+-- label.
 pub record AreNotPlanned (plan : Plan) (lines : List RecordedLine) (found : List NotPlanned) : Type 0 where
   pub sound : All (IsNotPlanned plan lines) found
   pub classes : (actor : RecordedActor) (job : ℕ) (class pool : List ℕ) → Contains lines (Submits actor job class pool) → class_family plan class pool ≡ []
@@ -58,14 +59,16 @@ pub record AreNotPlanned (plan : Plan) (lines : List RecordedLine) (found : List
   pub class_once : (class pool : List ℕ) → count_by (names_class class pool) found ≤ 1
   pub kind_once : (kind : List ℕ) → count_by (names_kind kind) found ≤ 1
 
--- `found` is complete for the lines, and the sets have exactly the labels of `found`.
+-- The state is correct for these lines. Its list `found` has the labels that are not in the plan, and its two sets have
+-- exactly the labels of `found`.
 pub record AreUnplannedLabelsOf (plan : Plan) (lines : List RecordedLine) (unplanned : UnplannedLabels) : Type 0 where
   pub found : AreNotPlanned plan lines unplanned.found.items
   pub kept_classes : (class pool : List ℕ) → has_label unplanned.classes (pair_text class pool) ≡ list_any (names_class class pool) unplanned.found.items
   pub kept_kinds : (kind : List ℕ) → has_label unplanned.kinds kind ≡ list_any (names_kind kind) unplanned.found.items
 
 -- ---- one more line
--- The label of a submit is added if the plan has no such class in the pool and the label has not been added before.
+-- The state after a `submit` line. The label is added if the plan has no such class in the pool, and if the label has not
+-- been added before.
 pub data AddsClass (plan : Plan) (number : ℕ) (class pool : List ℕ) (old new : UnplannedLabels) : Type 0 where
   class_stays : (has_label old.classes (pair_text class pool) ≡ true) ⊎ (¬ (class_family plan class pool ≡ [])) → new ≡ old → AddsClass plan number class pool old new
   class_added : has_label old.classes (pair_text class pool) ≡ false → (c p : String Global) → string_bytes c ≡ class → string_bytes p ≡ pool → class_family plan class pool ≡ []
@@ -74,7 +77,8 @@ pub data AddsClass (plan : Plan) (number : ℕ) (class pool : List ℕ) (old new
       → new.kinds ≡ old.kinds
       → AddsClass plan number class pool old new
 
--- The same for the label of a begin.
+-- The state after a `begin` line. The label is added if the plan has no such client kind, and if the label has not been added
+-- before.
 pub data AddsKind (plan : Plan) (number : ℕ) (kind : List ℕ) (old new : UnplannedLabels) : Type 0 where
   kind_stays : (has_label old.kinds kind ≡ true) ⊎ (¬ (client_family plan kind ≡ [])) → new ≡ old → AddsKind plan number kind old new
   kind_added : has_label old.kinds kind ≡ false → (k : String Global) → string_bytes k ≡ kind → client_family plan kind ≡ []

@@ -1,4 +1,4 @@
--- Retained verdicts on classified actors.
+-- The first actors whose paths match no body of the plan, and the first actors for which this is undecided.
 use Rattle.std.specs.Prelude.{◌≡◌, ℕ, Bool, true, false, ◌==◌, ◌&&◌, ◌||◌, not, if◌then◌else◌, List, [], ◌∷◌, ◌++◌, filter, string_bytes}
 use Rattle.std.specs.List.{list_any}
 use Rattle.conformance.specs.JobSet.{has_job}
@@ -11,6 +11,7 @@ use Rattle.conformance.specs.declared.verdicts.Verdicts.{Verdicts}
 use Rattle.conformance.specs.FirstActors.{AreFirstActorsOf}
 
 -- ---- one actor
+-- The list has no element.
 abbrev pub is_empty : List ℕ → Bool
 is_empty [] = true
 is_empty (n ∷ more) = false
@@ -20,7 +21,7 @@ abbrev pub family_of : Plan → RecordedActor → List ℕ → List ℕ → List
 family_of plan (Job job) label pool = class_family plan label pool
 family_of plan (Round round) label pool = client_family plan label
 
--- The plan has such a class in the pool.
+-- The plan has a class that jobs of this label in this pool may belong to.
 abbrev pub is_planned_class : Plan → List ℕ → List ℕ → Bool
 is_planned_class plan class pool = not (is_empty (class_family plan class pool))
 
@@ -35,7 +36,7 @@ is_classless reported = reported.family.is_decided && is_empty reported.family.m
 abbrev pub is_mismatch : Plan → ClassifiedActor → Bool
 is_mismatch plan reported = is_classless reported && is_planned plan reported
 
--- It is undecided whether the path of the actor matches a body.
+-- The plan has the label of the actor, and it is undecided whether the path of the actor matches a body.
 abbrev pub is_undecided : Plan → ClassifiedActor → Bool
 is_undecided plan reported = not reported.family.is_decided && is_planned plan reported
 
@@ -47,12 +48,13 @@ abbrev pub is_classless_job : ℕ → ClassifiedActor → Bool
 is_classless_job job reported = is_job job reported.actor && is_classless reported
 
 -- ---- all actors
+-- The verdicts are those on the classified actors in `reported`.
 pub record IsVerdictsOf (plan : Plan) (reported : List ClassifiedActor) (verdicts : Verdicts) : Type 0 where
   pub mismatches : AreFirstActorsOf (filter (is_mismatch plan) reported) verdicts.mismatches.actors.items
   pub undecided : AreFirstActorsOf (filter (is_undecided plan) reported) verdicts.undecided.actors.items
   pub classless : (job : ℕ) → has_job verdicts.classless job ≡ list_any (is_classless_job job) reported
 
--- The list, extended by the actor if the plan has its label.
+-- The list of actors, with this actor appended if the plan has its label.
 abbrev pub with_planned : Plan → ClassifiedActor → List ClassifiedActor → List ClassifiedActor
 with_planned plan one reported = if is_planned plan one then reported ++ one ∷ [] else reported
 

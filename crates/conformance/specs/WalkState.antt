@@ -1,4 +1,4 @@
--- The state of the walks of a body and a path.
+-- The state of the joint walks over a body and a path.
 use Rattle.std.specs.Prelude.{◌≡◌, ◌≤◌, ◌<◌, ◌↔◌, ℕ, ◌+◌, Bool, true, false, ◌&&◌, ◌||◌, nat_lt, if◌then◌else◌, List, [], ◌∷◌, ◌++◌, None, Some, length, slice_get, slice_index_or}
 use Rattle.std.specs.List.{list_any}
 use Rattle.job_bodies.specs.declared.action.Action.{Action}
@@ -16,20 +16,23 @@ use Rattle.conformance.specs.OpenExcess.{IsReason}
 abbrev pub is_at : WalkState → ℕ → Bool
 is_at state index = slice_index_or state.row.items index false
 
--- The tables of the state belong to the body and the open jobs.
+-- The tables of the state fit the body: they have the right lengths, and `passes` says for each action whether the body may
+-- pass it while these jobs are open.
 pub record HasTables (body : List Action) (state : WalkState) : Type 0 where
   pub row_length : length state.row.items ≡ length body + 1
   pub passes_length : length state.passes.items ≡ length body
   pub passes : (index : ℕ) → index < length body → slice_index_or state.passes.items index false ≡ can_pass (get_at body index) state.jobs.items
 
--- The path submitted a job of the class, and the body with it.
+-- `new` is the state `old` after the path and the body have both submitted a job of the class. `job` is the index of this
+-- submit in the path.
 pub record IsAfterSubmit (body : List Action) (job class : ℕ) (old new : WalkState) : Type 0 where
   pub tables : HasTables body new
   pub jobs : new.jobs.items ≡ old.jobs.items ++ record { job = job; class = class } ∷ []
   pub first : is_at new 0 ≡ false
   pub rest : (index : ℕ) → index < length body → is_at new (index + 1) ≡ ((is_at old index && is_submit_of class (slice_get body index)) || (is_at new index && can_pass (get_at body index) new.jobs.items))
 
--- The path got a job of the class. The body is before the index `end`.
+-- `new` is the state `old` after the path has got a job of the class. Only walks in which the body is before index `end` are
+-- left, because the actor may get no job of the class at `end` or later.
 pub record IsAfterGetOf (kind : ActorKind) (body : List Action) (job class : ℕ) (old new : WalkState) : Type 0 where
   pub tables : HasTables body new
   pub jobs : new.jobs.items ≡ without job old.jobs.items
@@ -38,13 +41,14 @@ pub record IsAfterGetOf (kind : ActorKind) (body : List Action) (job class : ℕ
   pub first : is_at new 0 ≡ (is_at old 0 && nat_lt 0 end)
   pub rest : (index : ℕ) → index < length body → is_at new (index + 1) ≡ ((is_at old (index + 1) && nat_lt (index + 1) end) || (is_at new index && can_pass (get_at body index) new.jobs.items))
 
--- The path got the job.
+-- `new` is the state `old` after the path has got the job that it submitted at index `job`. If the job is not open, no walk
+-- is left.
 pub record IsAfterGet (kind : ActorKind) (body : List Action) (job : ℕ) (old new : WalkState) : Type 0 where
   pub got : (class : ℕ) → open_class job old.jobs.items ≡ Some class → IsAfterGetOf kind body job class old new
   pub missing : open_class job old.jobs.items ≡ None → (index : ℕ) → is_at new index ≡ false
 
 -- ---- walks
--- The state has exactly the walks up to this index of the path.
+-- The state represents exactly the joint walks up to index `place` of the path.
 pub record IsStateAt (kind : ActorKind) (body : List Action) (path : List PathStep) (place : ℕ) (state : WalkState) : Type 0 where
   pub tables : HasTables body state
   pub sound : (index : ℕ) → is_at state index ≡ true → Walks kind body path index place state.jobs.items
@@ -54,14 +58,14 @@ pub record IsStateAt (kind : ActorKind) (body : List Action) (path : List PathSt
 abbrev pub IsBegun : WalkState → Type 0
 IsBegun state = (index : ℕ) × (is_at state index ≡ true)
 
--- A submit of the class is next at an index where the body can be.
+-- The body has a submit of the class at an index where it can be.
 abbrev pub CanSubmit : List Action → ℕ → WalkState → Type 0
 CanSubmit body class state = (index : ℕ) × (is_at state index ≡ true) × (is_submit_of class (slice_get body index) ≡ true)
 
 abbrev pub progress_of : WalkState → Progress
 progress_of state = if list_any (λ at. at) state.row.items then progress.Advanced else progress.Stops None
 
--- The walks after a further step of the path.
+-- The result of the step at `place` is correct. `new` is the state after the step.
 abbrev pub IsProgress : ActorKind → List Action → List PathStep → ℕ → PathStep → WalkState → Progress → Type 0
 IsProgress kind body path place step new progress.Advanced = IsStateAt kind body path (place + 1) new × IsBegun new
 IsProgress kind body path place step new (progress.Stops excess) = ((index : ℕ) (jobs : List OpenJob) → ¬ Walks kind body path index (place + 1) jobs) × IsReason kind body path place excess

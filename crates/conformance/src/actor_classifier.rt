@@ -28,16 +28,16 @@ use std::alloc::{AllocError, Global};
 ///
 /// An actor becomes settled once it has ended and all jobs that it submitted are settled. The
 /// classifier then classifies the actor: it finds the classes or kinds that the actor can belong
-/// to. A job that was refused, cancelled or removed and never ran stays open until the recording
-/// ends. At the end of the recording, [`finish`](ActorClassifier::finish) classifies all other
-/// actors.
+/// to. A job may never run because it was refused, cancelled or removed. Such a job stays open
+/// until the recording ends. At the end of the recording, [`finish`](ActorClassifier::finish)
+/// classifies all actors that are not settled.
 ///
 /// The classifier stores the paths of the unsettled actors. It also stores the classes of each
 /// settled job that an unsettled actor submitted.
 ///
-/// The path of an ended actor is scanned only once in total, because each scan continues at the
-/// unsettled job that stopped the previous scan. No contract states the time for a line, or the
-/// order of the actors that become settled with the same line.
+/// The path of an ended actor is scanned only once in total: each scan continues at the unsettled
+/// job that stopped the previous scan. No contract states the running time for a line. No contract
+/// states in which order the actors that become settled with the same line are reported.
 #[derive(Drop)]
 pub struct ActorClassifier {
     pub(crate) paths: Paths,

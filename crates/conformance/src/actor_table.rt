@@ -34,7 +34,7 @@ pub(crate) struct UnsettledActor {
 #[derive(Drop)]
 pub(crate) struct EndedPath {
     pub(crate) path: Vec<RecordedStep>,
-    /// The length of a prefix of the path in which all jobs are settled.
+    /// The length of a prefix of the path. All jobs that this prefix submits are settled.
     pub(crate) known: usize,
 }
 
@@ -149,8 +149,8 @@ impl ActorTable {
         }
     }
 
-    /// Returns the path of an ended actor, with the length of its prefix in which all jobs are
-    /// settled. Returns `None` if the actor has not ended or is not in the table.
+    /// Returns the path of an ended actor, and how much of the path is settled. Returns `None` if
+    /// the actor has not ended or is not in the table.
     pub(crate) fn ended_path(&self, actor: RecordedActor) -> Option<&EndedPath>
         ensures { option_copied result
             ≡ option_and_then (λ kept. kept.ended_path) (in_table self.now actor) }
@@ -162,8 +162,8 @@ impl ActorTable {
         kept.ended_path.as_ref()
     }
 
-    /// Sets the length of the prefix of an ended actor's path in which all jobs are settled. Does
-    /// nothing if the actor has not ended or is not in the table.
+    /// Sets how much of the path of an ended actor is settled: `known` is the length of a prefix in
+    /// which all jobs are settled. Does nothing if the actor has not ended or is not in the table.
     pub(crate) fn advance(&mut self, actor: RecordedActor, known: usize)
         ensures later { (one : RecordedActor)
             → in_table self.new one

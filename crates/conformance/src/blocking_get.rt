@@ -1,4 +1,5 @@
-//! The get that blocks a body before its next submit of a class, or before its end.
+//! A search for the get that blocks a body before its next submit of a class, or before its end. A
+//! get blocks the body if the body may not pass it.
 
 ghost use Rattle.std.specs.Prelude.{◌≡◌, ◌+◌, ◌==◌, ◌&&◌, nat_lt, if◌then◌else◌, length};
 ghost use Rattle.conformance.specs.BlockingGet as spec;
@@ -7,25 +8,29 @@ use crate::body_gets::BodyGet;
 use crate::row::has_submit_at;
 use job_bodies::Action;
 
-/// The state of the search for a blocking get at an index of the body. The way to the index starts
-/// at the nearest index, at or before it, where the body can be.
+/// The result of a search for a blocking get, up to an index of the body. The search starts anew at
+/// each index where the body can be. The way to an index has the actions since the last such index.
 #[derive(Clone, Copy)]
 enum Way {
-    /// There is no way: the body cannot be at this index or at an earlier one.
+    /// The body can be neither at this index nor at an earlier one.
     Unreached,
     /// The body may pass every get on the way to the index.
     Free,
-    /// The body may not pass some get on the way to the index. The field is the get with the
-    /// smallest limit among the first such get and the later gets of the same class on the way.
+    /// The body may not pass some get on the way to the index. Consider the first such get, and the
+    /// later gets of its class on the way. The field is the one with the smallest limit.
     Blocked(BodyGet),
 }
 
-/// Returns the get that blocks the body before its next submit of the class, or `None` if no get
-/// blocks the body. Of several gets of one class on the way to the submit, it is the one with the
-/// smallest limit.
+/// Returns the get that blocks the body before its next submit of the class. Returns `None` if no
+/// get blocks the body.
+///
+/// The way to the submit starts at the last index where the body can be. Consider the first get on
+/// the way that the body may not pass, and the later gets of its class on the way. The result is
+/// the one with the smallest limit.
 ///
 /// - `row` says for each index whether the body can be there.
 /// - `passes` says for each action whether the body may pass the action.
+/// - `gets` has an entry for each action: the get, or `None` if the action is no get.
 pub(crate) fn blocking_get(
     row: &[bool],
     passes: &[bool],
@@ -49,13 +54,17 @@ pub(crate) fn blocking_get(
     None
 }
 
-/// Returns a get that blocks the body before its end, which is the index `end`. Returns `None` if
-/// the body can be at its end, or at no index. `row` says for each index whether the body can be
-/// there, and `passes` says for each action whether the body may pass it.
+/// Returns the get that blocks the body before its end. Returns `None` if no get blocks the body,
+/// or if the body can be at no index.
 ///
-/// Consider the last index where the body can be, and the first get at or after it that the body may
-/// not pass. The result is the get with the smallest limit among this one and the later gets of the
-/// same class.
+/// The way to the end starts at the last index where the body can be. Consider the first get on the
+/// way that the body may not pass, and the later gets of its class. The result is the one with the
+/// smallest limit.
+///
+/// - `row` says for each index, and for the end, whether the body can be there.
+/// - `passes` says for each action whether the body may pass the action.
+/// - `gets` has an entry for each action: the get, or `None` if the action is no get.
+/// - `end` is the index of the end, which is the length of the body.
 pub(crate) fn get_before_end(
     row: &[bool],
     passes: &[bool],
@@ -76,16 +85,16 @@ pub(crate) fn get_before_end(
     blocking_at(here, true)
 }
 
-/// Returns the [`Way`] to an index: [`Way::Free`] if the body can be at the index itself (`is_at`),
-/// and otherwise `before`, the way from the last earlier index where the body can be.
+/// Returns the [`Way`] to an index. This is [`Way::Free`] if the body can be at the index
+/// (`is_at`). Otherwise it is `before`, the way over the actions before the index.
 fn way_at(before: Way, is_at: bool) -> Way
     ensures { result ≡ spec.way_at before is_at }
 {
     if is_at { Way::Free } else { before }
 }
 
-/// Returns the get of [`Way::Blocked`] if `is_submit` is true, and `None` in all other cases.
-/// `is_submit` says whether the action at the end of the way submits the class.
+/// Returns the get of [`Way::Blocked`] if the search ends here, and `None` in all other cases. The
+/// search ends at a submit of the class or at the end of the body, and then `is_submit` is true.
 fn blocking_at(way: Way, is_submit: bool) -> Option<BodyGet>
     ensures { result ≡ spec.blocking_at way is_submit }
 {
@@ -95,8 +104,8 @@ fn blocking_at(way: Way, is_submit: bool) -> Option<BodyGet>
     }
 }
 
-/// Returns the [`Way`] after it is extended by one action. `get` is the action, or `None` if the
-/// action is no get. `passes` says whether the body may pass the get.
+/// Returns `way` extended by the next action. `get` is this action, or `None` if the action is no
+/// get. `passes` says whether the body may pass the get.
 fn way_after(way: Way, passes: bool, get: Option<BodyGet>) -> Way
     ensures { result ≡ spec.way_after way passes get }
 {

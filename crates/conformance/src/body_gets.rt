@@ -1,4 +1,5 @@
-//! The gets of a body, and when the body may pass them.
+//! The gets of a body, and when the body may pass them. A body passes an action if it moves past
+//! the action while the path makes no step.
 
 ghost use Rattle.std.specs.Prelude.{◌≡◌, ◌≤◌, ◌<◌, ◌↔◌, ℕ, ◌-◌, true, false, ◌==◌, not, None, List, IfOk, OnOk, nat_lt, length, filter, count_by, slice_get, slice_index_or};
 ghost use Rattle.job_bodies.specs.declared.action.Action.{Action};
@@ -38,9 +39,9 @@ pub(crate) fn body_gets(alloc: Global, body: &[Action]) -> Result<Vec<Option<Bod
     Ok(gets)
 }
 
-/// Updates `jobs`, the list of the submits of open jobs, for the action at this index of the body.
-/// A submit is added, and a get removes the submit of its job. Returns the action if it is a get,
-/// and `None` otherwise.
+/// Updates `jobs` for the action at this index of the body. `jobs` has the submits of the open
+/// jobs. A submit is added, and a get removes the submit of its job. Returns the action if it is a
+/// get, and `None` otherwise.
 fn pass_action(
     body: &[Action],
     index: usize,
@@ -64,8 +65,8 @@ fn pass_action(
     }
 }
 
-/// Removes the submit at index `submit` from `jobs`, the list of the submits of open jobs. Returns
-/// the get of the removed submit's job.
+/// Removes the submit at index `submit` of the body from `jobs`, which has the submits of the open
+/// jobs. Returns the get of the job of this submit.
 fn pass_get(body: &[Action], submit: usize, jobs: &mut Vec<usize>) -> BodyGet
     ensures jobs { jobs.new.items ≡ filter (λ other. not (other == submit)) jobs.old.items }
     ensures class { result.class ≡ submitted_class body.now submit }
@@ -91,9 +92,10 @@ fn submitted_class(body: &[Action], submit: usize) -> usize
     }
 }
 
-/// Returns the first index of the body from which on an actor of this kind may get no job of the
-/// class. For a job, this is the index after the body's last get of the class, or 0 if there is no
-/// such get. For a round, it is greater than every index.
+/// Returns the first index of the body at which an actor of this kind may no longer get a job of
+/// the class. For a job, this is the index after the body's last get of the class, or 0 if there is
+/// no such get. For a round, it is greater than every index, because a round may get any of its
+/// jobs.
 pub(crate) fn end_of_gets(kind: ActorKind, gets: &[Option<BodyGet>], class: usize) -> usize
     ensures { (body : List Action)
         → spec.AreGets body gets.now

@@ -1,4 +1,4 @@
-//! The classes of a job that a body submits. A job may belong to several classes.
+//! The classes that a job may belong to, compared with the classes that a body submits.
 
 ghost use Rattle.std.specs.Prelude.{◌≡◌, Some};
 ghost use Rattle.conformance.specs.Path as spec;
@@ -7,8 +7,8 @@ ghost use Rattle.conformance.specs.Candidate.{IsCandidate, next_candidate, with_
 
 use job_bodies::Action;
 
-/// The class of a recorded job, as far as the classes that a body submits determine it. The job may
-/// belong to several classes.
+/// How many of the classes of a recorded job a body submits. The classes of a job are those that
+/// the job may belong to.
 #[derive(Clone, Copy)]
 pub(crate) enum Candidate {
     /// The body submits none of the job's classes.
@@ -31,8 +31,8 @@ pub(crate) fn candidate_of(body: &[Action], classes: &Vec<usize>) -> Candidate
     found
 }
 
-/// Returns the candidate for the classes of a job up to and including `class`. `found` is the
-/// candidate for the classes before `class`.
+/// Returns the candidate after one more class of the job, `class`. `found` is the candidate for the
+/// classes before `class`.
 fn next_candidate(body: &[Action], found: Candidate, class: usize) -> Candidate
     ensures { result ≡ next_candidate body.now found class }
 {

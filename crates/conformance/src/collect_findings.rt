@@ -311,8 +311,7 @@ fn push_counted(
     Ok(())
 }
 
-// Appends the finding for the event, unless it depends on the actor's path, or it is a refusal and
-// refusals do not count.
+// Appends the finding for the event, if `is_counted` returns true for the event.
 fn push_invalidation(
     findings: &mut Vec<Finding>,
     alloc: Global,
@@ -351,9 +350,9 @@ fn push_event(
     Ok(())
 }
 
-/// Returns the class and the pool of the event's job, which a message names. For a call of
-/// `invokeAny` these are the caller's class or kind and the pool of the first such call. For jobs
-/// that no line submits, the name is empty, and the pool is that of the first line about them.
+/// Returns the class and the pool of the event's job. For a call of `invokeAny`, returns the class
+/// or kind of the caller, and the pool of the first such call. For jobs that no line submits,
+/// returns an empty name and the pool of the first line that reports such jobs.
 fn subject_of(
     alloc: Global,
     recording: &[u8],
@@ -384,8 +383,8 @@ fn subject_of(
     }
 }
 
-/// Returns false if the event is a get that timed out or was interrupted, or if it is a refusal and
-/// `without_refusals` is true. Any other event invalidates a SAFE answer.
+/// Returns true if the event becomes a finding. A get that timed out or was interrupted does not. A
+/// refusal does not if `without_refusals` is true.
 fn is_counted(without_refusals: bool, invalidation: Invalidation) -> bool
     ensures { result ≡ spec.is_counted without_refusals invalidation }
 {

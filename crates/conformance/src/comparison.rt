@@ -45,24 +45,23 @@ pub enum Conformance {
 /// Compares the recording of a service with a plan. If a line of the recording is invalid, returns
 /// the first such line and compares nothing.
 ///
-/// The label of a job is its class and pool in its `submit` line, and that of a round is its client
-/// kind. The path of an actor (a job or a round) is the list of its submits and gets. The findings
-/// are exactly these, each listed once:
+/// The label of a job is its class and pool in its `submit` line. The label of a round is its
+/// client kind. The path of an actor (a job or a round) is the list of its submits and gets.
+///
+/// The findings are exactly these, each listed once:
 ///
 /// - every difference between a recorded pool and the plan, with the first line that shows the
 ///   difference;
 /// - if the recording ends with `end`, every pool of the plan that the recording lacks;
 /// - every label that is not in the plan, with the first line that has the label;
-/// - for each label of the plan, of the actors with a path that matches no body, the one with the
-///   smallest number. The finding has the first step that no body explains and the line of this
-///   step;
-/// - for each label of the plan, of the actors for which it is undecided which bodies the path
-///   matches, the one with the smallest number. There is no such actor if each label is one class
-///   in each pool;
+/// - for each label of the plan, the first actor, by number, with a path that matches no body. The
+///   finding has the first step that no body explains, and the line of this step;
+/// - for each label of the plan, the first actor, by number, for which it is undecided which bodies
+///   its path matches. There is no such actor if each label is one class in each pool;
 /// - for each client kind, the first line at which the kind has more rounds than the plan allows.
 ///   Each round is counted for the first kind that it can belong to. A round with an undecided kind
 ///   is not counted;
-/// - the first get of a job by an actor that did not submit the job, before the submitter got it;
+/// - the first line in which an actor gets a job that another actor submitted and has not got yet;
 /// - for each event type that invalidates a SAFE answer, whatever the paths are, the first line
 ///   with such an event. A rejection that the plan allows is not such an event.
 ///

@@ -20,9 +20,9 @@ use job_bodies::Plan;
 use recordings::{RecordedActor, RecordedStep};
 use std::alloc::{AllocError, Global};
 
-/// Returns a description of the first step of the actor that no body explains, and the number of
-/// the line that records the step, if a line does. If a body explains the whole path, this step is
-/// the actor's end.
+/// Describes the first step of the actor that no body explains. If a body explains the whole path,
+/// this step is the actor's end. Returns the number of the line that records the step, and the
+/// description. The number is `None` if no line records the step.
 ///
 /// `classless` has the jobs with a path that matches no class of the job's label.
 ///
@@ -75,10 +75,11 @@ fn number_of(found: &Option<FoundLine>) -> Option<usize>
     }
 }
 
-/// Appends the conditions of the lines that [`describe_mismatch`] looks up for this actor.
+/// Appends the conditions of the lines that [`describe_mismatch`] looks up for this actor. With
+/// these conditions, [`FirstLines::new`] finds all of these lines in one pass.
 ///
-/// No contract states which conditions are appended. If a condition is missing, the look-up takes
-/// longer, because it then searches the text for the line.
+/// No contract states which conditions are appended. If a condition is missing, the description is
+/// the same, but the look-up takes longer, because it then searches the text for the line.
 ///
 /// # Errors
 ///
@@ -193,8 +194,8 @@ fn deviating_step(
     }
 }
 
-/// Returns the deviation of an actor that ended too early. `job` is the job that it should have got,
-/// if there is one.
+/// Returns the deviation of an actor that ended too early. `job` is the job that the actor should
+/// have got, or `None` if there is no such job.
 fn deviating_end(
     alloc: Global,
     first: &FirstLines<'_>,
@@ -216,8 +217,9 @@ fn deviating_end(
     }
 }
 
-/// Returns the job that the submit at index `missing` of the path submits. If `missing` is `None`,
-/// returns the first open job of the path, or `None` if there is none.
+/// Returns the job that an actor with this path should have got before its end. `missing` is the
+/// index of the submit of this job. If it is `None`, returns the first open job of the path, or
+/// `None` if no job is open.
 fn missing_job(path: &[RecordedStep], missing: Option<usize>) -> Option<usize>
     ensures { result ≡ spec.missing_job path.now missing }
 {
@@ -253,8 +255,8 @@ fn open_job(path: &[RecordedStep]) -> Option<usize>
     None
 }
 
-/// Returns the job of `step` if `step` is a submit of a job that the path does not get, and `None`
-/// otherwise. `place` is the index of `step` in the path.
+/// Returns the job that `step` submits, if the path does not get this job. Returns `None` if the
+/// path gets it, or if `step` is a get. `place` is the index of `step` in the path.
 fn open_job_at(path: &[RecordedStep], place: usize, step: RecordedStep) -> Option<usize>
     ensures { option_to_list result ≡ spec.open_job_at path.now (place, step) }
 {
@@ -291,8 +293,9 @@ fn deviating_submit(
     }
 }
 
-/// Returns the deviation for a submit of a job that belongs to a class. `excess` has the open jobs
-/// that block the submit. It is `None` if the body has no submit left for a job of this label.
+/// Returns the deviation for a submit of a job whose own path may match a class. `excess` has the
+/// open jobs that block the submit. It is `None` if the body has no submit left for a job of this
+/// label.
 fn submit_of_body(label: ActorLabel, excess: Option<OpenExcess>) -> DeviatingStep
     ensures { result ≡ spec.submit_of_body label excess }
 {

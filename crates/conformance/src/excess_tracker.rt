@@ -44,8 +44,8 @@ impl ExcessTracker {
     }
 
     /// Reads line `number` of a valid recording. If the line begins or ends a round, counts the
-    /// begin or the end for the round's kind. The kind is the one in `others` or, if `others` does
-    /// not have the round, the first kind of the round's label.
+    /// begin or the end for the round's kind. This is the kind in `others`. If `others` does not
+    /// have the round, it is the first kind of the round's label.
     ///
     /// # Errors
     ///
@@ -73,9 +73,10 @@ impl ExcessTracker {
     }
 }
 
-/// Returns, for each client kind that has more rounds than the plan allows, the first line at which
-/// the kind has too many. The recording must be valid. The kind of a round is the one in `others`
-/// or, if `others` does not have the round, the first kind of the round's label.
+/// Finds the client kinds that have more rounds than the plan allows. Returns for each of them the
+/// first line at which the kind has too many. The recording must be valid. The kind of a round is
+/// the one in `others`. If `others` does not have the round, it is the first kind of the round's
+/// label.
 ///
 /// # Errors
 ///

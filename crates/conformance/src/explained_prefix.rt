@@ -11,15 +11,15 @@ use crate::open_excess::OpenExcess;
 pub struct ExplainedPrefix {
     /// The number of steps in the prefix.
     pub length: usize,
-    /// The open jobs that block the body, if the step after the prefix is a submit that the body
-    /// still has. It is `None` in these cases:
+    /// The open jobs that block the body before the next step of the path. It is `None` in these
+    /// cases:
     ///
-    /// - The step after the prefix is a get.
-    /// - The body has no such submit left.
-    /// - There is no step after the prefix.
+    /// - The next step is a get.
+    /// - The next step is a submit, but the body has no such submit left.
+    /// - The prefix is the whole path.
     pub excess: Option<OpenExcess>,
-    /// The index in the path of the submit of the job that the body has to get, and that the actor did
-    /// not get. `None` if the prefix is not the whole path, or if the path matches the body.
+    /// The job that the actor should have got before its end, as the index of its submit in the
+    /// path. It is `None` if the prefix is not the whole path, or if the path matches the body.
     pub missing: Option<usize>,
 }
 

@@ -1,4 +1,4 @@
-//! The numbers of gets in a recording that timed out or were interrupted, for each actor and job.
+//! Counts of the gets in a recording that timed out or were interrupted, for each actor and job.
 
 ghost use Rattle.std.specs.Prelude.{◌≡◌, ◌<◌, ◌+◌, ◌^◌, ◌++◌, ◌∷◌, [], List, OnOk, IfOk, length};
 ghost use Rattle.recordings.specs.RecordingLine.{RecordedLine, line_view};
@@ -17,8 +17,9 @@ pub(crate) struct JobGet {
     pub(crate) job: usize,
 }
 
-/// A map from actors and jobs to the numbers of lines that record that a get of the job by the
-/// actor timed out or was interrupted. It has no entry if there is no such line.
+/// A map from an actor and a job to a count of failed gets. It counts the lines that record that a
+/// get of the job by the actor timed out or was interrupted. There is no entry if there is no such
+/// line.
 pub(crate) type FailedGets = HashMap<JobGet, usize>;
 
 /// Counts the gets in a text that timed out or were interrupted.
@@ -37,7 +38,7 @@ pub(crate) fn failed_gets_in(alloc: Global, text: &[u8]) -> Result<FailedGets, A
     Ok(counts)
 }
 
-/// Returns the number of gets of the job by the actor that timed out or were interrupted.
+/// Returns how often a get of the job by the actor timed out or was interrupted.
 pub(crate) fn count_of(counts: &FailedGets, get: JobGet) -> usize
     ensures { result ≡ spec.count_in counts.now get }
 {

@@ -9,8 +9,8 @@ use crate::unplanned::NotPlanned;
 use crate::{Difference, PoolDeviation, RoundExcess};
 use recordings::{ForeignGet, Invalidation, RecordedActor};
 
-/// The number of sort keys for one line: a sort key ends with a rank of 4 bits and a number of 60
-/// bits.
+/// The factor of the line number in a sort key: 2^64. The lower 64 bits of a sort key are a rank of
+/// 4 bits and a number of 60 bits.
 const RANKS: u128 = 1 << 64;
 
 const NUMBERS: u128 = 1 << 60;
@@ -25,16 +25,16 @@ pub enum Finding {
     Pool(PoolDeviation),
     /// A label that is not in the plan. A label is a class with its pool, or a client kind.
     NotPlanned(NotPlanned),
-    /// For a label of the plan, the first actor, by number, with a path that matches no body. The
-    /// line is that of the first step of this path that no body explains. A label is a class with
-    /// its pool, or a client kind.
+    /// An actor with a path that matches no body of its label. It is the first such actor of the
+    /// label, by number. `line` is the line of the first step that no body explains, or `None` if
+    /// no line records this step. A label is a class with its pool, or a client kind.
     PathMismatch {
         line: Option<usize>,
         mismatch: PathMismatch,
     },
-    /// For a label of the plan, the first actor, by number, for which it is undecided which bodies
-    /// the actor's path matches. A label is a class with its pool, or a client kind. For this
-    /// label, the comparison has no complete result.
+    /// An actor for which it is undecided which bodies of its label the path matches. It is the
+    /// first such actor of the label, by number. The comparison has no complete result for this
+    /// label. A label is a class with its pool, or a client kind.
     NotDecided {
         actor: RecordedActor,
         label: ActorLabel,
@@ -43,8 +43,8 @@ pub enum Finding {
     /// counted for the first kind that it can belong to. A round with an undecided kind is not
     /// counted.
     TooMany(RoundExcess),
-    /// The first get of a job by an actor that did not submit the job, before the submitter got it.
-    /// The fields have the labels of the actor and of the job.
+    /// The first line in which an actor gets a job that another actor submitted and has not got
+    /// yet. `label` is the label of the actor that gets the job. `job` is the label of the job.
     ForeignGet {
         get: ForeignGet,
         label: ActorLabel,
@@ -126,8 +126,7 @@ impl Finding {
 
     /// Returns the number that orders findings of the same line and type:
     ///
-    /// - for a difference, the position of its variant in [`Difference`], where the variants
-    ///   about the same setting have the same position;
+    /// - for a difference, the number of the setting that differs, from 0 (core) to 5 (prestarted);
     /// - for a pool that is not recorded, the number of the pool;
     /// - for an undecided actor, the number of the actor;
     /// - for an excess of rounds, the number of the client kind;

@@ -1,4 +1,5 @@
-//! The first lines of a recording that meet some conditions. One pass over the text finds them all.
+//! For each of several conditions, the first line of a recording that meets it. One pass over the
+//! text finds all these lines.
 
 ghost use Rattle.std.specs.Prelude.{◌≡◌, ◌+◌, ◌++◌, ◌∷◌, [], List, OnOk, IfOk, length, string_bytes};
 ghost use Rattle.recordings.specs.RecordingLine.{RecordedLine, line_view};
@@ -28,12 +29,12 @@ pub(crate) struct FoundLine {
     pool: String,
 }
 
-/// A map from conditions to the first lines that meet them. The value is `None` if no line meets
+/// A map from each condition to the first line that meets it. The value is `None` if no line meets
 /// the condition.
 pub(crate) type LineTable = HashMap<LineQuery, Option<FoundLine>>;
 
-/// The text of a recording, the first lines that meet some conditions, and the numbers of gets that
-/// timed out or were interrupted.
+/// The text of a recording, with two results of reading it: for some conditions, the first line
+/// that meets the condition, and the counts of the gets that timed out or were interrupted.
 ///
 /// In contracts, the value of this type is the text.
 #[derive(Drop)]
@@ -58,8 +59,8 @@ impl<'a> Model for FirstLines<'a> {
 }
 
 impl<'a> FirstLines<'a> {
-    /// Finds the first lines of the text that meet these conditions, and counts the gets that timed
-    /// out or were interrupted.
+    /// Finds the first line of the text that meets each condition of `queries`. Also counts the
+    /// gets that timed out or were interrupted.
     ///
     /// # Errors
     ///
@@ -122,7 +123,7 @@ impl<'a> FirstLines<'a> {
         }
     }
 
-    /// Returns the number of gets of the job by the actor that timed out or were interrupted.
+    /// Returns how often a get of the job by the actor timed out or was interrupted.
     pub(crate) fn failed_gets(&self, actor: RecordedActor, job: usize) -> usize
         ensures { result ≡ failed_gets (lines_of self.now) actor job }
     {

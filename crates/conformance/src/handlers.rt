@@ -117,7 +117,7 @@ impl Handlers {
     }
 }
 
-// Returns whether the pool may reject jobs and can be full. An unbounded queue never is.
+// Returns true if the pool may reject jobs and can be full. An unbounded queue is never full.
 fn can_reject(plan: &Plan, pool: usize) -> bool
     ensures { result ≡ can_reject (pool_at plan.now pool) }
 {
@@ -147,7 +147,8 @@ fn rule_by(aborts: bool, caller_runs: bool, closes: bool, drops: bool) -> Reject
     }
 }
 
-/// Adds the name, unless `is_kind` is true.
+/// Adds the name of a pool to the set if `is_kind` is false. `is_kind` says whether the pool's line
+/// names the handler that keeps a pool out of the set, such as `abort` for `not_abort`.
 fn insert_unless(names: &mut PoolNames, name: &str, is_kind: bool) -> Result<(), AllocError>
     ensures { OnOk result
         ((q : List ℕ)

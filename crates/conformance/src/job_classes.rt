@@ -55,8 +55,8 @@ impl ClassTable {
         self.jobs.insert(job, classes)
     }
 
-    /// Stores the classes of the actor if it is a job in the path of its submitter. Refused jobs
-    /// and rounds are in no path, so nothing is stored for them.
+    /// Stores the classes of the actor if it is a job with a submitter. Stores nothing for a
+    /// refused job or a round, because it is in no path.
     ///
     /// # Errors
     ///
@@ -81,8 +81,9 @@ impl ClassTable {
         Ok(())
     }
 
-    /// Returns the index of the first submit, at or after index `from` of the path, of a job that
-    /// is not in the table. Returns the length of the path if there is no such submit.
+    /// Returns the index of the first unsettled submit in the path. The search starts at index
+    /// `from`. A submit is unsettled if its job is not in the table. Returns the length of the path
+    /// if there is no such submit.
     pub(crate) fn first_unsettled(&self, path: &[RecordedStep], from: usize) -> usize
         ensures within { from ≤ length path.now → result ≤ length path.now }
         ensures before { AreSettledBefore self.now path.now from
@@ -106,9 +107,9 @@ impl ClassTable {
         }
     }
 
-    /// Replaces the contents of `steps` with the steps of the path, each submit with the classes of
-    /// its job. Removes these jobs from the table. Returns true if each of them was in the table
-    /// with decided classes.
+    /// Replaces the contents of `steps` with the steps of the path. Each submit has the classes
+    /// that its job can belong to. Removes these jobs from the table. Returns true if all of these
+    /// jobs were in the table and their classes are decided.
     ///
     /// # Errors
     ///

@@ -12,7 +12,7 @@ use std::alloc::AllocError;
 use support::push_number;
 
 /// An actor with a path that matches no body of the actor's label. The label is the class and pool
-/// of a job, or the client kind of a round, and the plan has it.
+/// of a job, or the client kind of a round. The plan has this label.
 #[derive(Drop)]
 pub struct PathMismatch {
     pub actor: RecordedActor,
@@ -51,9 +51,12 @@ pub enum DeviatingStep {
         job: usize,
         label: ActorLabel,
     },
-    /// The actor ended before a get of its body. `job` is a job that it should have got: the first
-    /// open job of the class that this get gets. `label` is the label of this job. `failed_gets` is the number of gets of the job
-    /// by the actor that timed out or were interrupted.
+    /// The actor ended before a get of its body.
+    ///
+    /// - `job` is the job that the actor should have got: the first open job of the class that this
+    ///   get gets.
+    /// - `label` is the label of this job.
+    /// - `failed_gets` says how often a get of this job by the actor timed out or was interrupted.
     EndsOpen {
         job: usize,
         label: ActorLabel,
@@ -260,8 +263,8 @@ fn push_open_end(
     push_end_after(text, failed_gets)
 }
 
-/// Appends the number of gets that timed out or were interrupted, if there are several, and the
-/// reason why the end is a deviation.
+/// Appends the end of the text about an actor that ended too early: the number of failed gets, if
+/// there are at least two, and the reason why the end is a deviation.
 fn push_end_after(text: &mut String, failed_gets: usize) -> Result<(), AllocError>
     ensures { Pushes result text.old text.new (spec.end_after_text failed_gets) }
 {
@@ -269,7 +272,8 @@ fn push_end_after(text: &mut String, failed_gets: usize) -> Result<(), AllocErro
     push_end_reason(text)
 }
 
-/// Appends the number of gets that timed out or were interrupted, if there are several.
+/// Appends the number of gets that timed out or were interrupted. Appends nothing if there are
+/// fewer than two.
 fn push_failed_gets(text: &mut String, gets: usize) -> Result<(), AllocError>
     ensures { Pushes result text.old text.new (spec.failed_gets_text gets) }
 {

@@ -1,4 +1,4 @@
-//! Paths in which each job has at most one class.
+//! Narrowing of a path: each job keeps at most one of the classes that it may belong to.
 
 ghost use Rattle.std.specs.Prelude.{◌≡◌, Contains, IfOk, IfSome};
 ghost use Rattle.std.specs.Option.{option_to_list};
@@ -9,22 +9,22 @@ use crate::step::PathStep;
 use job_bodies::Action;
 use std::alloc::{AllocError, Global};
 
-/// A rule that picks one class for each job in a path, among the classes that the job may belong
-/// to. It picks only classes that the body submits.
+/// A rule that picks one class for each job in a path. The class must be one that the job may
+/// belong to and that the body submits.
 #[derive(Clone, Copy)]
 pub(crate) enum Pick {
     /// The first of the job's classes that the body submits.
     First,
     /// The last of the job's classes that the body submits.
     Last,
-    /// The class of the next submit of the body that submits one of the job's classes. The search
-    /// for this submit starts after the submit that this rule found for an earlier job of the path.
-    /// For the first job, it starts where the body starts.
+    /// The class of the next submit of the body that fits the job: it submits one of the job's
+    /// classes. The search starts at the start of the body. For each further job, it continues
+    /// after the submit that it found last.
     InOrder,
 }
 
-/// Returns the path with at most one class for each job: the class that the rule `pick` picks. If
-/// the rule picks no class for a job, the job has no classes in the result.
+/// Narrows the path: each job keeps only the class that the rule `pick` picks. If the rule picks no
+/// class for a job, the job has no classes in the result.
 ///
 /// # Errors
 ///
@@ -46,9 +46,9 @@ pub(crate) fn narrowed(
     Ok(fewer)
 }
 
-/// Returns a submit with only the class that `pick` picks, or with no class if the rule picks none.
-/// Returns a get unchanged. [`Pick::InOrder`] searches the body from index `from`, and moves `from`
-/// past the submit that it finds.
+/// Narrows one step of a path. A submit keeps only the class that `pick` picks, or no class if the
+/// rule picks none. A get is unchanged. [`Pick::InOrder`] searches the body from index `from`, and
+/// moves `from` past the submit that it finds.
 fn narrowed_step(
     alloc: Global,
     body: &[Action],

@@ -1,14 +1,14 @@
 //! More open jobs than a body allows.
 
-/// The reason why a body cannot reach its next submit of a class. At some moment before this
-/// submit, the body has fewer open jobs of some class than the path.
+/// Too many open jobs of a path: the reason why a body cannot reach its next submit of some class.
+/// At some moment on the way to this submit, the body has fewer open jobs of the class `class` than
+/// the path.
 #[derive(Clone, Copy, PartialEq, Eq)]
 pub struct OpenExcess {
     /// The class of the open jobs, by its number in the plan.
     pub class: usize,
     /// The number of jobs of this class that are open in the path.
     pub open_jobs: usize,
-    /// The smallest number of jobs of this class that are open in the body at any moment from the
-    /// end of the blocking get to the submit.
+    /// The smallest number of jobs of this class that the body has open on its way to the submit.
     pub limit: usize,
 }

@@ -12,13 +12,13 @@ use recordings::RecordedActor;
 use std::alloc::{AllocError, Global};
 use support::IdMap;
 
-/// A map from rounds to the client kinds for which they are counted. The value of a round is `None`
-/// if its kind is undecided, because such a round is not counted. The map has only rounds that are
-/// not counted for the first kind of their label.
+/// A map from rounds to the client kinds for which they are counted. It has only the rounds that
+/// are not counted for the first kind of their label. The value is `None` if the kind of the round
+/// is undecided: such a round is not counted.
 #[derive(Drop)]
 pub(crate) struct OtherKinds {
     kinds: IdMap<Option<usize>>,
-    /// True if the map has a round.
+    /// True if the map has at least one round.
     pub(crate) has_any: bool,
 }
 

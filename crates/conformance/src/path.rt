@@ -16,11 +16,11 @@ use crate::walk_state::{Progress, WalkState};
 use job_bodies::Action;
 use std::alloc::{AllocError, Global};
 
-/// Matches the path of an actor against a body. `path_state` says whether the path is whole or the
-/// actor may continue.
+/// Matches the path of an actor against a body. `kind` is the kind of the actor. `path_state` says
+/// whether the path is whole or the actor may continue.
 ///
-/// The path matches if there is a joint walk over the path and the body, each in its own order, for
-/// which these conditions hold:
+/// The path matches if the path and the body can be walked together, each in its own order, under
+/// these conditions:
 ///
 /// - At each moment, for each class, the path has at most as many open jobs as the body.
 /// - Each submit of the path is made at the same time as a submit of the same class in the body.
@@ -29,13 +29,13 @@ use std::alloc::{AllocError, Global};
 ///   classes that its body still gets.
 /// - If `path_state` is [`PathState::Whole`], the walk can reach the end of the body.
 ///
-/// The result is [`PathMatch::Undecided`] only if a job of the path may belong to several classes
-/// that the body submits, and none of three assignments of classes to jobs matches. Among the
-/// classes of a job that the body submits, the assignments choose the first class, the last class,
-/// and the class of the next submit that fits.
+/// A job of the path may belong to several classes that the body submits. Then three ways are tried
+/// to choose one of these classes for each such job: the first class, the last class, and the class
+/// of the next submit that fits. The result is [`PathMatch::Undecided`] only if there is such a
+/// job, and the path matches in none of the three ways.
 ///
-/// The number of steps is at most proportional to the length of the body times the length of the
-/// path.
+/// The number of computation steps is at most proportional to the length of the body times the
+/// length of the path.
 ///
 /// # Errors
 ///
@@ -52,8 +52,8 @@ pub fn match_path(
     ensures deviates { IfOk result (λ path_match.
         OnDeviates path_match (¬ IsPathOf kind path_state body.now path.now)) }
 
-    // It is the longest prefix of the path that begins a path of the body, with the reason why the
-    // next step is not walked.
+    // The explained prefix is the longest prefix of the path that the body explains, with the
+    // reason why the body does not explain the next step.
     ensures explained { IfOk result
         (λ path_match. IfDeviates path_match (IsExplained kind body.now path.now)) }
 
@@ -76,9 +76,9 @@ pub fn match_path(
     }
 }
 
-/// Matches the path against the body in a joint walk, one step of the path after the other. The
-/// path deviates at the first step that the walk cannot make. The result is undecided if a job
-/// submitted before that may belong to several classes that the body submits.
+/// Matches the path against the body, step by step in a joint walk. The path deviates at the first
+/// step that the walk cannot make. The result is undecided if an earlier submit has a job that may
+/// belong to several classes that the body submits.
 ///
 /// # Errors
 ///
@@ -95,8 +95,8 @@ fn match_exactly(
     ensures deviates { IfOk result (λ path_match.
         OnDeviates path_match (¬ IsPathOf kind path_state body.now path.now)) }
 
-    // It is the longest prefix of the path that begins a path of the body, with the reason why the
-    // next step is not walked.
+    // The explained prefix is the longest prefix of the path that the body explains, with the
+    // reason why the body does not explain the next step.
     ensures explained { IfOk result
         (λ path_match. IfDeviates path_match (IsExplained kind body.now path.now)) }
 
@@ -122,8 +122,8 @@ fn match_exactly(
     Ok(match_at_end(&state, body, &gets, path, path_state))
 }
 
-/// Returns true if the path matches the body for at least one rule of [`Pick`], which picks the
-/// classes of the path's jobs.
+/// Returns true if the path matches the body with at least one rule of [`Pick`]. The rule picks the
+/// class of each job in the path.
 ///
 /// # Errors
 ///
@@ -173,9 +173,9 @@ fn fits_with(
     }
 }
 
-/// Returns the result for a path whose steps could all be walked together with the body. `state` is
-/// the state after the last step, and `gets` has the gets of the body. A whole path matches only if
-/// the body can be at its end.
+/// Returns the result for a path after the joint walk has made all its steps. A whole path matches
+/// only if the body can be at its end. `state` is the state after the last step, and `gets` has the
+/// gets of the body.
 fn match_at_end(
     state: &WalkState,
     body: &[Action],

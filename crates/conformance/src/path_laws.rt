@@ -6,15 +6,17 @@ ghost use Rattle.conformance.specs.FollowedActors.{PlannedActorsAreFollowed};
 ghost use Rattle.conformance.specs.LaggingRun.{PathsAreFollowed, RunsStayReachable};
 
 /// States that the machine of an accepted plan can follow each path that matches the body of an
-/// actor, whatever other actors and pools do in between. In a pool whose core threads may time out,
-/// each idle thread may end, and Java may start a thread that has no job yet. Let the machine be in
-/// a reachable state in which the actor is at the start of this body. Then these facts hold:
+/// actor. Other actors and pools may act at any moment. In a pool whose core threads may time out,
+/// each idle thread may end, and Java may start a thread that has no job yet.
+///
+/// Let the machine be in a reachable state in which the actor is at the start of this body. Then
+/// these facts hold:
 ///
 /// - The actor can make the submits of the path in their order. A pool takes the job of each submit
 ///   or, if the pool may reject jobs, rejects it. A rejected job is done at once.
-/// - Directly before a submit and before the end, the actor passes the other actions of its body:
-///   it skips submits, and gets only jobs that are not open in the path. So each of its gets comes
-///   no sooner than the same get in the path.
+/// - Directly before a submit and before the end, the actor passes the actions of its body up to
+///   there. It skips submits, and gets only jobs that are not open in the path. So each of its gets
+///   comes no sooner than the same get in the path.
 /// - While an actor that is a job waits in a get of the path, its body still has a get of that
 ///   class.
 /// - The states of such a run are reachable, so they are safe.
@@ -23,10 +25,9 @@ pub fn paths_are_followed()
     ensures reachable { RunsStayReachable }
 {}
 
-/// States that the machine of an accepted plan can follow each job and each round of a recording in
-/// which all jobs and rounds behave as planned. The path of each job and each round matches the
-/// body of at least one class or client kind of its family. The machine can follow the job or the
-/// round with each body of the family that the path matches.
+/// States that the machine of an accepted plan can follow a recording in which all jobs and rounds
+/// behave as planned. The path of each job and each round matches at least one body of its family.
+/// The machine can follow the job or the round with each body that the path matches.
 pub fn planned_actors_are_followed()
     ensures { PlannedActorsAreFollowed }
 {}

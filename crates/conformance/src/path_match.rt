@@ -11,7 +11,7 @@ pub enum PathMatch {
     /// explains. The step after the prefix deviates. If there is no such step, the actor ended too
     /// early.
     Deviates(ExplainedPrefix),
-    /// A job of the path may belong to several classes that the body submits. None of the
-    /// assignments of classes to jobs that were tried matches.
+    /// It is unknown whether the path matches. A job of the path may belong to several classes that
+    /// the body submits, and no choice of classes that was tried matches.
     Undecided,
 }

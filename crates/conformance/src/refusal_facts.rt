@@ -16,8 +16,8 @@ use crate::well_formed_lines::WellFormedLines;
 use job_bodies::Plan;
 use std::alloc::{AllocError, Global};
 
-/// The facts about the refusals of a whole recording: the rejection rule of each pool, and the
-/// refused jobs.
+/// The facts from all lines of a recording that decide which refusals are allowed: the rejection
+/// rule of each pool, and what each refused job does.
 #[derive(Drop)]
 pub(crate) struct RefusalFacts {
     // The rule of each pool of the plan.
@@ -26,8 +26,8 @@ pub(crate) struct RefusalFacts {
 }
 
 impl RefusalFacts {
-    /// Returns true if the rejection rule of the pool allows the refusal of this job. `closed` says
-    /// whether a `shutdown` of the pool precedes the refusal.
+    /// Returns true if the rejection rule of the pool allows the refusal of this job. The job must
+    /// have a `refused` line. `closed` says whether a `shutdown` of the pool precedes the refusal.
     pub(crate) fn allows(&self, job: usize, pool: usize, closed: bool) -> bool
         ensures { (plan : plans.Plan) (lines : List RecordedLine)
             → spec.AreFactsFor plan lines self.now

@@ -1,4 +1,4 @@
-//! The refused jobs of a recording, and what the recording says of them.
+//! The refused jobs of a recording: the pool of each job, and whether it acted and started.
 
 ghost use Rattle.std.specs.Prelude.{◌≡◌, ◌==◌, ◌||◌, ◌++◌, ◌∷◌, [], ℕ, true, List, option_map, OnOk, IfOk};
 ghost use Rattle.std.specs.Option.{option_and_then};
@@ -50,7 +50,8 @@ fn note_refusal(jobs: &mut JobSet, line: &Line<'_>) -> Result<(), AllocError>
     }
 }
 
-/// The facts about a set of jobs that the lines read so far show.
+/// Facts about the refused jobs, from the lines read so far: the pool of each job, and whether it
+/// has acted and started. A job acts if it submits, gets or cancels a job, or calls `invokeAny`.
 #[derive(Drop)]
 pub(crate) struct RefusedJobs {
     refused: JobSet,
@@ -62,7 +63,8 @@ pub(crate) struct RefusedJobs {
 }
 
 impl RefusedJobs {
-    /// Creates the state before the first line, for these jobs.
+    /// Creates the state before the first line. `refused` has the jobs for which facts are
+    /// collected.
     pub(crate) fn new(alloc: Global, refused: JobSet) -> RefusedJobs
         ensures jobs { result.refused ≡ refused }
         ensures none { (plan : plans.Plan) → spec.AreFactsOf plan [] result }

@@ -1,4 +1,4 @@
-//! The pools that reject jobs in a recording, as pools of a plan.
+//! The key `may_reject` of a plan, set for the pools that reject jobs in a recording.
 
 ghost use Rattle.std.specs.Prelude.{◌≡◌, true, map, IfOk};
 ghost use Rattle.conformance.specs.Lines.{lines_of};
@@ -9,9 +9,9 @@ use crate::rejections::{Rejections, rejections_in};
 use job_bodies::{Plan, Pool};
 use std::alloc::{AllocError, Global};
 
-/// Returns the plan with a new value of the key `may_reject` for each pool, and no other change. In
-/// the result, a pool may reject jobs exactly if it rejects jobs in the recording or has a queue of
-/// 0.
+/// Returns a copy of the plan in which the recording determines the key `may_reject` of each pool.
+/// In the copy, a pool may reject jobs exactly if it rejects jobs in the recording or has a queue
+/// of 0. Nothing else changes.
 ///
 /// A pool rejects jobs in the recording if these conditions hold:
 ///
@@ -57,8 +57,8 @@ fn pools_with_key(alloc: Global, pools: &[Pool]) -> Result<Vec<Pool>, AllocError
     Ok(keyed)
 }
 
-/// Returns copies of the pools with a new value of `may_reject`. A copy may reject jobs exactly if
-/// `rejections.only_rejects` returns true for the pool, or if its queue is 0.
+/// Returns copies of the pools with a new value of `may_reject`. It is true exactly if
+/// [`only_rejects`](Rejections::only_rejects) returns true for the pool, or if its queue is 0.
 fn with_keys(
     alloc: Global,
     pools: &[Pool],

@@ -1,4 +1,4 @@
-//! The rules for the refusals that invalidate nothing.
+//! Rules that say which refusals are allowed. An allowed refusal does not invalidate a SAFE answer.
 
 ghost use Rattle.std.specs.Prelude.{◌≡◌};
 ghost use Rattle.std.specs.List.{list_any};
@@ -8,7 +8,8 @@ ghost use Rattle.conformance.specs.RejectionRule as spec;
 use job_bodies::{Action, Plan};
 use recordings::HandlerKind;
 
-/// The rule that says which refusals by a pool do not invalidate a SAFE answer.
+/// The rule for the refusals by one pool. A refusal that the rule allows does not invalidate a SAFE
+/// answer.
 #[derive(Clone, Copy)]
 pub(crate) enum RejectionRule {
     /// No refusal is allowed: each invalidates a SAFE answer.
@@ -26,7 +27,7 @@ pub(crate) enum RejectionRule {
 }
 
 impl RejectionRule {
-    /// Returns true if the rule allows that the pool refused a job.
+    /// Returns true if the rule allows the refusal of a job.
     ///
     /// - `acted` says whether the job submits, gets or cancels a job or calls `invokeAny`.
     /// - `started` says whether the job has a `start` line.

@@ -1,5 +1,5 @@
-//! The refused jobs of a recording, if some pool of the plan may reject jobs: the rejections that
-//! the plan allows, and the other refusals.
+//! The refusals of a recording: the rejections that the plan allows, and the other refusals. They
+//! are collected only if some pool of the plan may reject jobs.
 
 ghost use Rattle.std.specs.Prelude.{◌≡◌, ◌+◌, ◌==◌, ◌++◌, ◌∷◌, [], ℕ, true, Some, List, count_by, length, OnOk, IfOk};
 ghost use Rattle.std.specs.Option.{option_to_list};
@@ -56,7 +56,7 @@ impl Rejections {
         }
     }
 
-    // Reads line `number`. `facts` is what the whole recording says of its refusals.
+    // Reads line `number`. `facts` has the facts from the whole recording.
     fn take(
         &mut self,
         plan: &Plan,
@@ -100,8 +100,8 @@ impl Rejections {
         self.note(pool, of_job, number, actor, job)
     }
 
-    // Notes that the pool rejects the job, as the plan allows. If there is no such pool, notes the
-    // refusal by the pool of the job.
+    // Notes a refusal. `pool` is the pool that rejects the job, if the plan allows this. If it is
+    // `None`, notes that the plan does not allow the refusal by `of_job`, the pool of the job.
     fn note(
         &mut self,
         pool: Option<usize>,

@@ -1,4 +1,4 @@
-//! The differences between pools that were already reported.
+//! The pool differences that were already reported.
 
 ghost use Rattle.std.specs.Prelude.{◌≡◌, ◌&&◌, ◌||◌, ◌==◌, ℕ, OnOk, false};
 ghost use Rattle.conformance.specs.declared.difference.Difference as SettledPaths;
@@ -17,7 +17,7 @@ pub(crate) struct PoolDifference {
     difference: Difference,
 }
 
-/// The set of the differences that were already reported.
+/// A set of the pool differences that were already reported.
 #[derive(Drop)]
 pub(crate) struct ReportedDifferences {
     items: HashSet<PoolDifference>,

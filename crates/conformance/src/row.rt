@@ -9,9 +9,9 @@ ghost use Rattle.conformance.specs.Path as spec;
 use crate::body_gets::BodyGet;
 use job_bodies::Action;
 
-/// Updates `row`, the set of indices where the body can be, for a submit of the class in the path.
-/// For each index of the old row at which the body submits the class, the new row has the next
-/// index. It has no other indices.
+/// Updates `row` for a submit of the class in the path. `row` is the set of indices where the body
+/// can be. If the old row has an index at which the body submits the class, the new row has the
+/// next index. The new row has no other indices.
 pub(crate) fn shift_row(row: &mut [bool], body: &[Action], class: usize)
     requires { length row.old ≡ length body.now + 1 }
     ensures first { slice_index_or row.new 0 false ≡ false }
@@ -75,9 +75,9 @@ pub(crate) fn close_row(row: &mut [bool], passes: &[bool])
     }
 }
 
-/// Updates the elements of `passes` for the gets of the class. `passes` says for each action
-/// whether the body may pass the action. The body may pass a get of the class if `count`, the
-/// number of open jobs of the class in the path, is at most the get's limit.
+/// Updates `passes` for a new number of open jobs: the path has `count` open jobs of the class.
+/// `passes` says for each action whether the body may pass the action. The body may pass a get of
+/// the class if `count` is at most the get's limit.
 pub(crate) fn update_passes(
     passes: &mut [bool],
     gets: &[Option<BodyGet>],

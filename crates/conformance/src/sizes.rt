@@ -85,7 +85,7 @@ fn uses_max(pool: &Pool) -> bool
 }
 
 /// Returns true if the recorded maximum is that of the plan's pool. If the plan gives no maximum,
-/// each recorded maximum above the largest size of a plan fits.
+/// the recorded maximum must be above `MAX_SIZE`, the largest size in a plan.
 fn is_planned_max(pool: &Pool, recorded: u64) -> bool
     ensures { result ≡ spec.is_planned_max pool.now recorded }
 {
@@ -96,7 +96,7 @@ fn is_planned_max(pool: &Pool, recorded: u64) -> bool
     }
 }
 
-/// Returns the difference for a recorded maximum that is not that of the plan's pool.
+/// Returns the difference to report for a recorded maximum that is not the plan's.
 fn max_difference(recorded: u64, pool: &Pool) -> Difference
     ensures { result ≡ spec.max_difference recorded pool.now }
 {
@@ -121,7 +121,8 @@ fn is_planned_kind(pool: &Pool, kind: QueueKind) -> bool
     }
 }
 
-/// Returns the capacity of the plan's queue as a `pool` line gives it.
+/// Returns the capacity that a `pool` line gives for the plan's queue. For an unbounded queue, this
+/// is `UNBOUNDED_CAPACITY`.
 fn planned_capacity(pool: &Pool) -> u64
     ensures { result ≡ spec.planned_capacity pool.now }
 {
@@ -132,7 +133,7 @@ fn planned_capacity(pool: &Pool) -> u64
     }
 }
 
-/// Returns the difference for a recorded queue that has another capacity than the plan's queue.
+/// Returns the difference to report for a recorded queue capacity that is not the plan's.
 fn capacity_difference(recorded: u64, pool: &Pool) -> Difference
     ensures { result ≡ spec.capacity_difference recorded pool.now }
 {
@@ -144,8 +145,8 @@ fn capacity_difference(recorded: u64, pool: &Pool) -> Difference
     }
 }
 
-/// Returns true if the core threads of the recorded pool may time out exactly if those of the plan's
-/// pool may.
+/// Returns true if the recorded pool and the plan's pool agree on whether core threads may time
+/// out.
 fn is_planned_timeout(pool: &Pool, recorded: bool) -> bool
     ensures { result ≡ spec.is_planned_timeout pool.now recorded }
 {
@@ -156,8 +157,8 @@ fn is_planned_timeout(pool: &Pool, recorded: bool) -> bool
     }
 }
 
-/// Returns the difference if core threads may time out in only one of the recorded pool and the
-/// plan's pool.
+/// Returns the difference to report if the recorded pool and the plan's pool disagree on whether
+/// core threads may time out.
 fn timeout_difference(pool: &Pool) -> Difference
     ensures { result ≡ spec.timeout_difference pool.now }
 {
@@ -168,9 +169,9 @@ fn timeout_difference(pool: &Pool) -> Difference
     }
 }
 
-/// Returns true if a plan can describe a queue of this kind by this capacity. A capacity of 0
-/// describes a `SynchronousQueue`. Any other capacity describes a bounded queue of one of the two
-/// kinds `ArrayBlockingQueue` and `LinkedBlockingQueue`.
+/// Returns true if a plan describes a queue of this kind by this capacity. The capacity 0 describes
+/// a `SynchronousQueue`. Any other capacity describes a bounded queue, which is an
+/// `ArrayBlockingQueue` or a `LinkedBlockingQueue`.
 fn is_kind_of(capacity: u64, kind: QueueKind) -> bool
     ensures { result ≡ spec.is_kind_of capacity kind }
 {
@@ -193,7 +194,7 @@ fn is_array_or_linked(kind: QueueKind) -> bool
     matches!(kind, QueueKind::Array | QueueKind::Linked)
 }
 
-/// Appends the difference to the list, unless `agree` is true.
+/// Appends the difference to the list, unless the recorded value and the plan agree (`agree`).
 fn push_unless(
     found: &mut Vec<Difference>,
     agree: bool,

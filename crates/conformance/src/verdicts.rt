@@ -18,9 +18,8 @@ use std::alloc::{AllocError, Global};
 
 /// For each label of the plan, two actors:
 ///
-/// - of the actors with a path that matches no body, the one with the smallest number;
-/// - of the actors for which it is undecided whether the path matches a body, the one with the
-///   smallest number.
+/// - the first actor, by number, with a path that matches no body;
+/// - the first actor, by number, for which it is undecided whether its path matches a body.
 #[derive(Drop)]
 pub(crate) struct Verdicts {
     pub(crate) mismatches: FirstActors,

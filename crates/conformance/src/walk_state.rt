@@ -1,5 +1,5 @@
-//! The state of the walks of a body and a path. A walk goes through both together, each in its own
-//! order.
+//! The state of the joint walks over a body and a path. A joint walk goes through both together,
+//! each in its own order.
 
 ghost use Rattle.std.specs.Prelude.{◌≡◌, ℕ, false, List, Some, IfOk, OnOk, IsTrue, length, slice_get};
 ghost use Rattle.std.specs.List.{list_any};
@@ -22,7 +22,8 @@ use crate::step::{ActorKind, PathStep};
 use job_bodies::Action;
 use std::alloc::{AllocError, Global};
 
-/// The state of all joint walks over a body and a path, up to an index of the path.
+/// The state of all joint walks over a body and a path, after the first steps of the path. The open
+/// jobs of the path are the same in all walks, but the body can be at several indices.
 #[derive(Drop)]
 pub(crate) struct WalkState {
     /// The open jobs of the path.
@@ -40,9 +41,9 @@ pub(crate) struct WalkState {
 pub(crate) enum Progress {
     /// At least one joint walk over the path and the body makes this step.
     Advanced,
-    /// No joint walk over the path and the body makes this step. If the step is a submit, and the
-    /// body still has a submit of the same class, the field has the open jobs that block the body
-    /// before it.
+    /// No joint walk over the path and the body makes this step. If the step is a submit that the
+    /// body still has, the field has the open jobs that block the body before it. Otherwise the
+    /// field is `None`.
     Stops(Option<OpenExcess>),
     /// The job of the step may belong to several classes that the body submits.
     Undecided,
@@ -149,8 +150,9 @@ impl WalkState {
         }
     }
 
-    /// Finds the first get that the body cannot pass, and returns the first open job of the path
-    /// that has the class of this get. Returns `None` if the body can be at its end.
+    /// Returns the job that the actor should have got before its end. Consider the first get that
+    /// the body cannot pass. The result is the first open job of the path that has the class of
+    /// this get. Returns `None` if the body can be at its end.
     pub(crate) fn missing_job(&self, body: &[Action], gets: &[Option<BodyGet>]) -> Option<usize>
         requires gets { AreGets body.now gets.now }
         requires tables { spec.HasTables body.now self.now }
@@ -166,7 +168,8 @@ impl WalkState {
         }
     }
 
-    /// Updates the state for a submit of the class, at index `job` of the path.
+    /// Updates the state for a submit of a job of the class. `job` is the index of this submit in
+    /// the path.
     fn submit(
         &mut self,
         body: &[Action],
@@ -186,8 +189,8 @@ impl WalkState {
         Ok(())
     }
 
-    /// Updates the state for a get of the job that was submitted at index `job` of the path. If
-    /// this job is not open, the body can be at no index afterwards.
+    /// Updates the state for a get of a job. `job` is the index of the job's submit in the path. If
+    /// the job is not open, the body can be at no index afterwards.
     fn get(&mut self, kind: ActorKind, body: &[Action], gets: &[Option<BodyGet>], job: usize)
         requires gets { AreGets body.now gets.now }
         requires tables { spec.HasTables body.now self.old }
