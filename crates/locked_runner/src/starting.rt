@@ -34,33 +34,33 @@ pub(crate) fn run_threads<R: Threads + Wait + Sync, G: Gate>(
     let held = Held::new(alloc, CertifiedWorld::new(certified))?;
     let mut receipts = Vec::with_capacity(alloc, owners.len())?;
     let shared = Shared::new(alloc, plan, held, kinds.len())?;
-    let lent = &shared;
+    let state = &shared;
     let kinds = kinds.as_slice();
     let all = owners.as_slice();
     let lists = &mut receipts;
     thread::scope(thread::scope_env(), rt, |scope| {
         let mut handles = Vec::new(alloc);
         if handles.reserve(all.len()).is_err() {
-            lent.fail(rt, ThreadFault::Memory);
+            state.fail(rt, ThreadFault::Memory);
             return;
         }
         for owner in all {
             let owner = *owner;
-            match scope.spawn(move || run_one(rt, alloc, lent, gate, kinds, owner, rounds)) {
+            match scope.spawn(move || run_one(rt, alloc, state, gate, kinds, owner, rounds)) {
                 Ok(handle) => {
                     if handles.push(handle).is_err() {
-                        lent.fail(rt, ThreadFault::Memory);
+                        state.fail(rt, ThreadFault::Memory);
                     }
                 }
                 Err(_) => {
-                    lent.fail(rt, ThreadFault::Memory);
+                    state.fail(rt, ThreadFault::Memory);
                     break;
                 }
             }
         }
         for handle in handles {
             if lists.push(handle.join(rt)).is_err() {
-                lent.fail(rt, ThreadFault::Memory);
+                state.fail(rt, ThreadFault::Memory);
             }
         }
     });

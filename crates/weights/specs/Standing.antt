@@ -10,7 +10,7 @@ use Rattle.weights.specs.Vector.{Vector, queued_weight, total}
 use Rattle.weights.specs.GetReturn.{DoneWeight}
 use Rattle.weights.specs.Rows.{rows, classes_of}
 
--- S1 for each class of pool p, and then S2; no rows if the queue of p is unbounded
+-- S1 of each class of pool p, and then S2; none if the queue of p is unbounded
 abbrev pub capacity_rows : Plan → ℕ → Vector → List Row
 capacity_rows plan p v =
     if (pool_at plan p).unbounded then []
