@@ -23,21 +23,25 @@ use std::alloc::Global;
 use std::sync::Wait;
 use std::thread::Threads;
 
-/// Runs the command that the arguments name, and writes its answer to the sink. The first argument
-/// is the program's name.
+/// Runs the command that the arguments select, and writes its answer to the sink. The first
+/// argument is the program's name.
 ///
-/// The arguments name at most two files of `files`. If they name one file, it contains the whole
-/// input of the command. If they name two files, the first contains the plan. The second contains
-/// the text that follows the line `%%` in a whole input. The name `-` means `input`, the standard
-/// input. If no file is named, the whole input is read from `input`.
+/// The arguments can also give the names of input files, which are in `files`:
 ///
-/// The arguments can also name a certificate file. If the answer is based on a certificate, the
-/// certificate is written to this file after the answer. It is not written if its text is too long
-/// to be read back.
+/// - With one name, the file has the whole input of the command.
+/// - With two names, the first file has the plan. The second file has the text that follows the
+///   line `%%` in a whole input.
+/// - Without a name, the whole input is read from `input`, which is standard input.
+///
+/// The name `-` means `input`.
+///
+/// The arguments can also give the name of a certificate file. If the answer is based on a
+/// certificate, the certificate is written to this file after the answer. The certificate is not
+/// written if its text is too long to be read back.
 ///
 /// The certificate file need not exist. A regular file is replaced only if it is empty or contains
-/// a JSON object with the keys of a certificate. The call fails before it reads the input in these
-/// cases:
+/// a JSON object with the keys of a certificate. In these cases, the call fails before it reads the
+/// input:
 ///
 /// - The certificate file is a regular file that has other content or cannot be read.
 /// - The name of the certificate file is `-`, or is the name of a directory.
@@ -163,9 +167,9 @@ pub fn serve_words<'a, R: Threads + Wait + Sync, F: TextFiles, S: Source, K: Sin
     Ok(status)
 }
 
-/// Runs the command of the parsed arguments, and writes its answer to the sink. After an answer of
-/// `ask`, `found` is the text of the certificate that the answer is based on. It is `None` in the
-/// cases that [`serve_named`](crate::serve_named) lists. Any other command leaves `found`
+/// Runs the command of the parsed arguments, and writes its answer to the sink. If `ask` answers,
+/// `found` becomes the text of the certificate that the answer is based on. `found` becomes `None`
+/// in the cases that [`serve_named`](crate::serve_named) lists. Any other command leaves `found`
 /// unchanged.
 fn serve_parsed<'a, R: Threads + Wait + Sync, F: TextFiles, S: Source, K: Sink>(
     rt: &R,

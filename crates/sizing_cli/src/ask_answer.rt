@@ -50,8 +50,8 @@ impl AskOutput {
 ///
 /// # Errors
 ///
-/// Fails with fault 20 if memory runs out or a thread cannot be started, and with fault 42 or 43 if
-/// a search ends with that fault.
+/// - Fails with fault 20 if memory runs out or a thread cannot be started.
+/// - Fails with fault 42 or 43 if a search ends with that fault.
 pub fn ask<R: Threads + Wait + Sync>(
     rt: &R,
     alloc: Global,
@@ -165,8 +165,8 @@ fn ask_with<R: Threads + Wait + Sync>(
     }
 }
 
-/// Returns the answer of `ask` for a plan. `cert` is the given certificate, if there is one, after
-/// its text was parsed for this plan.
+/// Returns the answer of `ask` for a plan. `cert` is the given certificate, which was parsed for
+/// this plan, or `None` if no certificate is given.
 fn ask_found<R: Threads + Wait + Sync>(
     rt: &R,
     alloc: Global,

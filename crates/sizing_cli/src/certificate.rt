@@ -20,26 +20,26 @@ use std::alloc::{AllocError, Global};
 use std::sync::Wait;
 use std::thread::Threads;
 
-/// The maximum number of threads of a search or a check, for a command without an option that sets
-/// it.
+/// The maximum number of threads of a search or a check, if the command has no option for this
+/// number.
 pub(crate) const WORKERS: usize = DEFAULT_WORKERS as usize;
 
-/// The number of pools of the plan for each thread of a search. A thread for fewer pools would save
-/// too little time for the memory that it needs.
+/// The number of pools per search thread. A thread for fewer pools would save too little time to be
+/// worth its memory.
 const POOLS_OF_A_WORKER: usize = 16;
 
-/// Returns a certificate that accepts the plan, or `None` if two searches find none:
+/// Returns a certificate that accepts the plan, or `None` if two searches find no such certificate:
 ///
 /// - The first search looks for a certificate, in at most `workers` threads.
-/// - The second search looks for sizes and a certificate that accepts them. This certificate is the
-///   result if it also accepts the declared sizes.
+/// - The second search looks for sizes, and for a certificate that accepts these sizes. This
+///   certificate is the result if it also accepts the declared sizes.
 ///
 /// Because of the second search, `certify` finds a certificate if `fit` changes no size.
 ///
 /// # Errors
 ///
-/// Fails with fault 20 if memory runs out or a thread cannot be started, and with fault 42 or 43 if
-/// a search ends with that fault.
+/// - Fails with fault 20 if memory runs out or a thread cannot be started.
+/// - Fails with fault 42 or 43 if a search ends with that fault.
 pub(crate) fn certificate_of<R: Threads + Wait + Sync>(
     rt: &R,
     alloc: Global,
@@ -84,7 +84,7 @@ fn certificate_of_sizes(alloc: Global, plan: &Plan) -> Result<Option<Cert>, Allo
     })
 }
 
-/// The result of comparing the sizes that a search found with the declared ones.
+/// The result of a search for sizes, after a comparison with the declared sizes.
 pub(crate) enum SizesComparison {
     /// A certificate that accepts the plan with its declared sizes.
     Accepted(Cert),
@@ -93,9 +93,9 @@ pub(crate) enum SizesComparison {
     Other(SizesFound),
 }
 
-/// Compares the sizes that a search found with those that the plan declares. Returns
-/// [`SizesComparison::Accepted`] if the certificate of the found sizes also accepts the declared
-/// sizes.
+/// Compares the result of a search for sizes with the plan's declared sizes. Returns
+/// [`SizesComparison::Accepted`] if sizes were found and their certificate also accepts the
+/// declared sizes. Otherwise, returns [`SizesComparison::Other`] with the result of the search.
 pub(crate) fn as_declared(plan: &Plan, sizes: SizesFound) -> SizesComparison
     requires known { IsKnown plan.now sizes }
     requires not_steady { accepted plan.now (steady_cert plan.now) ≡ false }

@@ -29,9 +29,9 @@ enum CertificateSearch {
     TooLong,
 }
 
-/// Returns the bundle of the plan in `input` and a certificate that `check` accepts. If there is no
-/// such bundle, returns the reason. `workers`, from 1 to 64, is the maximum number of threads of
-/// the search and of the check.
+/// Searches for a certificate for the plan in `input`. Returns the bundle of the plan and the
+/// certificate, after `check` accepted the bundle. If there is no such bundle, returns the reason.
+/// `workers`, from 1 to 64, is the maximum number of threads of the search and of the check.
 ///
 /// # Errors
 ///

@@ -69,8 +69,8 @@ fn findings_answer(
     Ok(Answer { text, status })
 }
 
-/// Appends a line for each pool that rejected jobs as the plan allows. The line has the number of
-/// these jobs.
+/// Appends a line for each pool that rejected at least one job. The line has the number of rejected
+/// jobs. `rejections` counts only rejections that the plan allows.
 fn push_rejections(
     text: &mut String,
     plan: &Plan,

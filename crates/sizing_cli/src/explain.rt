@@ -1,4 +1,4 @@
-//! The `explain` command: lists the conditions of a certificate that fail.
+//! The `explain` command: lists the failing conditions of a certificate.
 
 ghost use Rattle.std.specs.Prelude.{◌≡◌, IfOk, IsTrue};
 ghost use Rattle.cert_text.specs.Cert.{cert_fits};
@@ -12,9 +12,9 @@ use job_bodies::Plan;
 use refusal_notes::push_explanation;
 use std::alloc::{AllocError, Global};
 
-/// Returns the answer of `explain`. It lists each condition of the certificate that fails, with the
-/// two numbers that the condition compares. The last line has the number of these conditions. If
-/// the certificate's text has a fault, the answer is only this fault.
+/// Returns the answer of `explain`. The answer lists each failing condition of the certificate,
+/// with the two numbers that the condition compares. The last line has the number of failing
+/// conditions. If the certificate's text has a fault, the answer is only this fault.
 pub fn explain(alloc: Global, plan: &Plan, cert: &[u8]) -> Result<Answer, AllocError>
     ensures { IfOk result (λ answer. answer ≡ spec.explain plan.now cert.now) }
 {

@@ -1,5 +1,5 @@
-//! The errors of [`serve_words`](crate::serve_words), which runs the command that the arguments
-//! name.
+//! The errors of [`serve_words`](crate::serve_words), the entry point for the arguments of a
+//! command line.
 
 ghost use Rattle.std.specs.Prelude.{◌≡◌};
 ghost use Rattle.sizing_cli.specs.declared.fault.CliError.TheVariants.{Serve, Words};

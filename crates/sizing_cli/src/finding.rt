@@ -1,4 +1,5 @@
-//! The search for what `ask` reports about a plan with its declared sizes.
+//! The searches of `ask`. They produce the finding, which says whether a plan is safe with its
+//! declared sizes.
 
 ghost use Rattle.std.specs.Prelude.{◌≡◌, IfOk, IfErr, IsTrue, false, not};
 ghost use Rattle.soundness.specs.Accepted.{accepted};
@@ -34,8 +35,8 @@ const STATES: usize = DEFAULT_STATES as usize;
 ///
 /// # Errors
 ///
-/// Fails with fault 20 if memory runs out or a thread cannot be started, and with fault 42 or 43 if
-/// a search ends with that fault.
+/// - Fails with fault 20 if memory runs out or a thread cannot be started.
+/// - Fails with fault 42 or 43 if a search ends with that fault.
 pub(crate) fn finding_of<R: Threads + Wait + Sync>(
     rt: &R,
     alloc: Global,
@@ -87,8 +88,8 @@ fn search_finding<R: Threads + Wait + Sync>(
     }
 }
 
-/// Returns the finding if a search found no certificate for the plan. Searches for a witness and
-/// for other sizes.
+/// Searches for a witness and for other sizes, and returns the finding. Before this call, a search
+/// found no certificate for the plan.
 fn without_certificate(alloc: Global, plan: &Plan) -> Result<PlanFinding, AllocError>
     requires { accepted plan.now (steady_cert plan.now) ≡ false }
     ensures { IfOk result (IsFinding plan.now) }
@@ -101,9 +102,9 @@ fn without_certificate(alloc: Global, plan: &Plan) -> Result<PlanFinding, AllocE
     }
 }
 
-/// Returns the finding if no certificate and no witness were found. `sizes` is the result of a
-/// search for sizes. The plan is safe if the certificate of the sizes that were found also accepts
-/// the declared sizes. Otherwise the plan is undecided.
+/// Returns the finding after the searches found neither a certificate nor a witness. `sizes` is the
+/// result of a search for sizes. The plan is safe if sizes were found and their certificate also
+/// accepts the declared sizes. Otherwise, the plan is undecided.
 fn without_witness(alloc: Global, plan: &Plan, sizes: SizesFound) -> Result<PlanFinding, AllocError>
     requires known { IsKnown plan.now sizes }
     requires not_steady { accepted plan.now (steady_cert plan.now) ≡ false }
@@ -115,9 +116,9 @@ fn without_witness(alloc: Global, plan: &Plan, sizes: SizesFound) -> Result<Plan
     }
 }
 
-/// Returns the finding that the plan is safe by this certificate. For each pool, the finding also
-/// has the number of events after which the pool rejects a job. This number is missing if a search
-/// found no such events.
+/// Returns the finding that the plan is safe by this certificate. The finding also says, for each
+/// pool, after how many events the pool rejects a job. This number is missing if a search found no
+/// such events.
 fn safe_finding(alloc: Global, plan: &Plan, cert: Cert) -> Result<PlanFinding, AllocError>
     requires { IsTrue (accepted plan.now cert) }
     ensures finding { IfOk result (IsFinding plan.now) }

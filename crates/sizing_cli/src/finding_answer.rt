@@ -35,7 +35,7 @@ use std::alloc::{AllocError, Global};
 /// - `lowered` is the plan with lowered maximums, and a certificate that accepts it (see
 ///   [`LoweredPlan`]). It is `None` if there is no such certificate.
 /// - `file` is the name that messages use for the plan's file.
-/// - `is_stale` is true if a certificate was given that does not accept the plan.
+/// - `is_stale` is true if a certificate was given and does not accept the plan.
 pub(crate) fn answer_of(
     alloc: Global,
     options: AskOptions,
@@ -102,8 +102,8 @@ fn plan_warnings(
     }
 }
 
-/// Returns the warnings about a plan that has a lowered plan. `lowered` is the lowered plan, and a
-/// certificate that accepts it.
+/// Returns the warnings about `plan`, if a certificate accepts its lowered plan. `lowered` has the
+/// lowered plan and this certificate.
 fn lowered_warnings(
     alloc: Global,
     text: &[u8],
@@ -136,10 +136,13 @@ fn declared_warnings(
     Ok(warnings)
 }
 
-/// Returns, for each pool, a queue capacity that a certificate proves to be enough, or `None` if it
-/// proves none. The certificate of a safe plan is the one that shows its safety. For any other
-/// plan, it is the certificate of the sizes that were found. If no sizes were found, the list is
-/// empty.
+/// Returns, for each pool, a queue capacity that a certificate proves to be enough. An element is
+/// `None` if the certificate proves no capacity for the pool. The certificate depends on the
+/// finding:
+///
+/// - For a safe plan, it is the certificate that shows that the plan is safe.
+/// - For any other plan, it is the certificate of the sizes that were found. If no sizes were
+///   found, the returned list is empty.
 fn needed_of(
     alloc: Global,
     plan: &Plan,

@@ -29,8 +29,13 @@ use std::thread::Threads;
 use support::number::MIXED;
 
 /// Searches for sizes that a certificate accepts, and returns the answer. The input is a plan's
-/// text. The answer has the sizes as lines, or as the bundle of the plan with these sizes and the
-/// certificate. If no sizes are found or the bundle would be too long, the answer has the reason.
+/// text. `sizes_form` selects the form of the answer:
+///
+/// - For [`SizesForm::Sizes`], the answer has lines with the sizes.
+/// - For [`SizesForm::Bundle`], the answer is a bundle. Its plan has the sizes that were found, and
+///   its certificate accepts this plan.
+///
+/// If no sizes are found or the bundle would be too long, the answer has the reason.
 ///
 /// # Errors
 ///
@@ -72,12 +77,13 @@ fn fit_plan<R: Threads + Wait + Sync>(
 }
 
 /// Returns the answer for the result of a search for sizes. The answer has the sizes, as lines or
-/// as a bundle, or the reason why it has none.
+/// as a bundle. If it has no sizes, it has the reason for that.
 ///
 /// # Errors
 ///
-/// Fails with fault 20 if memory runs out. For a bundle, also fails with fault 43 if the check ends
-/// with that fault, and with fault 42 if `check` does not accept the bundle.
+/// - Fails with fault 20 if memory runs out.
+/// - Fails with fault 43 if the check of a bundle ends with that fault.
+/// - Fails with fault 42 if `check` does not accept a bundle.
 pub fn answer_of_sizes<R: Threads + Wait + Sync>(
     rt: &R,
     alloc: Global,
@@ -111,8 +117,8 @@ fn sizes_of<R: Threads + Wait + Sync>(
     Ok(search_sizes(alloc, plan, first)?)
 }
 
-/// Returns the answer with a line for each pool, which has the sizes that were found. If no sizes
-/// were found, the answer has the reason.
+/// Returns the answer with a line for each pool. A line has the sizes that were found for its pool.
+/// If no sizes were found, the answer has the reason.
 fn lines_of(alloc: Global, plan: &Plan, found: &SizesFound) -> Result<Answer, AllocError>
     ensures { IfOk result (λ answer. answer ≡ spec.lines_answer plan.now found.now) }
 {
@@ -148,8 +154,8 @@ fn no_sizes(alloc: Global, plan: &Plan, cause: NoSizes) -> Result<Answer, AllocE
     })
 }
 
-/// Returns the bundle of the sizes that were found, or the answer with the reason why no sizes were
-/// found.
+/// Returns the bundle for the sizes that were found. If no sizes were found, returns the answer
+/// with the reason.
 fn bundle<R: Threads + Wait + Sync>(
     rt: &R,
     alloc: Global,
@@ -166,8 +172,8 @@ fn bundle<R: Threads + Wait + Sync>(
 }
 
 /// Returns the bundle of `fit` and `cert`. `fit` is the plan with the sizes that were found, and
-/// `cert` is the certificate that accepts it. If one of the two texts would be too long to be read
-/// back, returns an answer that says only this.
+/// `cert` is the certificate that accepts this plan. If the text of `fit` or of `cert` would be too
+/// long to be read back, returns an answer that says only this.
 fn bundle_of_sizes<R: Threads + Wait + Sync>(
     rt: &R,
     alloc: Global,

@@ -3,20 +3,23 @@
 ghost use Rattle.sizing_cli.specs.Laws.{InputsSplitAtTheLastSeparator, NoBundleWithoutASeparator};
 ghost use Rattle.sizing_cli.specs.SafeInput.{YesMeansSafe};
 
-/// States that an input is a bundle exactly if it consists of three groups of whole lines: the
-/// plan's text, a line that is exactly `%%`, and a second part in which no line is `%%`.
+/// States which inputs are bundles. An input is a bundle if it consists of three groups of whole
+/// lines, and no other input is a bundle. The groups are:
+///
+/// - the plan's text;
+/// - a line that is exactly `%%`;
+/// - a second part, in which no line is `%%`.
 pub fn inputs_split_at_the_last_separator()
     ensures { InputsSplitAtTheLastSeparator }
 {}
 
-/// States that an input is not a bundle exactly if none of its lines is `%%`.
+/// States which inputs are not bundles: the inputs without a line `%%`, and no other inputs.
 pub fn no_bundle_without_a_separator()
     ensures { NoBundleWithoutASeparator }
 {}
 
-/// States that a yes of `check` means that the plan is safe. If `check` answers yes, the input
-/// holds a plan and a certificate for it. In every state that a list of events can reach, these
-/// facts then hold:
+/// States that the plan is safe if `check` answers yes. The input then holds the plan and a
+/// certificate for this plan. In every state that a list of events can reach, these facts hold:
 ///
 /// - No submit was refused.
 /// - No pool exceeds its maximum of threads or its queue capacity.

@@ -7,7 +7,7 @@ use command_line::Command;
 use job_bodies::{MAX_INPUT_BYTES, MAX_RECORDED_BYTES};
 
 /// Returns the maximum length of the command's input, in bytes. The program reads at most one byte
-/// more, which shows that the input is too long.
+/// more. This extra byte shows that the input is too long.
 pub fn most_bytes(command: Command) -> usize
     ensures { result ≡ spec.most_bytes command }
 {

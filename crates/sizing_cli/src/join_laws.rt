@@ -2,8 +2,8 @@
 
 ghost use Rattle.sizing_cli.specs.Texts.{JoinedTextsSplitAgain};
 
-/// States that two joined texts split into the same two texts again if the second text has no line
-/// `%%`.
+/// States that a split undoes a join. If the second text has no line `%%`, the joined text splits
+/// into the same two texts again.
 pub fn joined_texts_split_again()
     ensures { JoinedTextsSplitAgain }
 {}

@@ -45,10 +45,10 @@ pub fn learn_report(alloc: Global, strict: bool, input: &[u8]) -> Result<Answer,
     learn_from_all(alloc, strict, input)
 }
 
-/// Derives the bodies from the start of the recording, which takes less time than the whole
-/// recording. Returns the answer for the plan with these bodies. Returns `None` if no bodies are
-/// found, or if the whole recording does not follow them. If the recording is malformed, the answer
-/// is its fault.
+/// Derives the bodies from the start of the recording. This takes less time than deriving them from
+/// the whole recording. Returns the answer for the plan with these bodies. Returns `None` if no
+/// bodies are found, or if the whole recording does not follow them. If the recording is malformed,
+/// the answer is the fault of the recording.
 fn learn_from_start(
     alloc: Global,
     strict: bool,
@@ -78,16 +78,17 @@ fn learn_from_all(alloc: Global, strict: bool, recording: &[u8]) -> Result<Answe
     }
 }
 
-/// Returns the answer for the derived plan, in which each pool that rejects jobs in the recording
-/// may reject jobs. The answer is one of these:
+/// Returns the answer for the derived plan. In this plan, a pool may reject jobs if it rejects jobs
+/// in the recording. The answer is one of these:
 ///
 /// - a message that the text of the plan would be too long;
 /// - the list of differences, if `strict` is true and the recording does not conform to the plan;
 /// - otherwise the text of the plan, after comments that list what else the recording shows.
 ///
-/// Returns `None` if the plan does not explain the recording, which happens in these cases:
+/// Returns `None` if the plan does not explain the recording. This happens in these cases:
 ///
-/// - A job or a round follows no body, or it is undecided whether it follows one.
+/// - A job or a round follows no body.
+/// - It is undecided whether a job or a round follows a body.
 /// - A client kind has more rounds than the plan allows.
 fn plan_answer(
     alloc: Global,
@@ -119,9 +120,9 @@ fn plan_answer(
     }
 }
 
-/// Returns the text of the plan. Comments at its head list what the recording shows and the plan
-/// does not contain. Returns `None` if the text is too long, or if parsing it does not give this
-/// plan.
+/// Returns the text of the plan, after comments. The comments list what the recording shows but the
+/// plan does not contain. Returns `None` if the text is too long, or if the text does not parse as
+/// this plan.
 fn commented_plan(
     alloc: Global,
     seen: &InferredPlan,
@@ -145,8 +146,8 @@ fn commented_plan(
     }
 }
 
-/// Checks that `text` describes the same plan as `written`, the text without the comments. Returns
-/// true if these conditions hold:
+/// Checks that `text` describes the same plan as `written`. `written` is `text` without its
+/// comments. Returns true if these conditions hold:
 ///
 /// - `text` parses as a plan.
 /// - [`write_plan`] writes this plan as `written`.
@@ -294,10 +295,12 @@ fn push_comment(text: &mut String, plan: &Plan, finding: &Finding) -> Result<(),
     text.push('\n')
 }
 
-/// Returns the answer for a learned plan with the text `text`. `findings` are the differences
-/// between the recording and the plan. If there are none, the answer is `text` with the status
-/// [`Status::Done`]. Otherwise the status is [`Status::Refused`], and `strict` selects the text:
-/// the list of findings if it is true, and `text` if it is false.
+/// Returns the answer for a learned plan. `text` is the text of the plan. `findings` are the
+/// differences between the recording and the plan.
+///
+/// - If there are no findings, the answer is `text`, with the status [`Status::Done`].
+/// - If there are findings, the status is [`Status::Refused`]. The answer is the list of findings
+///   if `strict` is true, and otherwise `text`.
 fn learned_answer(
     alloc: Global,
     strict: bool,
@@ -325,8 +328,9 @@ fn learned_answer(
     })
 }
 
-/// Returns the text that `--strict` writes in place of the derived plan if the recording does not
-/// conform to it. The text has a first line that says so, and then a line for each finding.
+/// Returns the text that `--strict` writes if the recording does not conform to the derived plan.
+/// This text replaces the plan. The first line of the text says that no plan was written, and why.
+/// A line for each finding follows.
 fn differences(alloc: Global, plan: &Plan, findings: &[Finding]) -> Result<String, AllocError>
     ensures { IfOk result (λ text. string_bytes text ≡ spec.differences plan.now findings.now) }
 {

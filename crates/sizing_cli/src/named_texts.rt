@@ -1,4 +1,5 @@
-//! The reading of a command's input, from the files that the arguments name or from standard input.
+//! The reading of a command's input from files or from standard input. The arguments give the names
+//! of the files.
 
 ghost use Rattle.std.specs.Prelude.{◌≡◌, ◌+◌, IfOk, IfErr, IfSome, None, Some, false, option_map, take};
 ghost use Rattle.command_line.specs.Command.{files_of_cli};
@@ -146,7 +147,8 @@ fn splits_at_first(command: Command) -> bool
     matches!(command, Command::OnRecording(RecordingCommand::Conform))
 }
 
-/// Reads standard input for the command: at most one byte more than the command's input may have.
+/// Reads standard input for the command. Reads at most one byte more than the maximum length of the
+/// command's input.
 fn read_input<'a, S: Source>(
     alloc: Global,
     command: Command,
@@ -163,7 +165,8 @@ fn read_input<'a, S: Source>(
     }
 }
 
-/// Reads a file for the command. Reads at most one byte more than the command's input may have.
+/// Reads a file for the command. Reads at most one byte more than the maximum length of the
+/// command's input.
 fn read_file<'a, F: TextFiles>(
     alloc: Global,
     command: Command,

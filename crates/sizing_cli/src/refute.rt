@@ -33,8 +33,8 @@ use std::thread::Threads;
 ///
 /// # Errors
 ///
-/// Fails with fault 20 if memory runs out or a thread cannot be started, and with fault 42 or 43 if
-/// the search for a certificate ends with that fault.
+/// - Fails with fault 20 if memory runs out or a thread cannot be started.
+/// - Fails with fault 42 or 43 if the search for a certificate ends with that fault.
 pub fn refute<R: Threads + Wait + Sync>(
     rt: &R,
     alloc: Global,

@@ -12,9 +12,9 @@ use std::alloc::{AllocError, Global};
 /// The maximum number of states that the search visits for each pool.
 const STATES: usize = 100_000;
 
-/// Returns, for each pool of the certificate, the number of events after which the pool rejects a
-/// job. The number is `None` if no such events are found. A pool for which the certificate has a
-/// bound is not searched: if the certificate accepts the plan, this pool never rejects a job.
+/// Returns, for each pool of the certificate, after how many events the pool rejects a job. The
+/// number is `None` if no such events are found. A pool is not searched if the certificate has a
+/// bound for it. Such a pool never rejects a job if the certificate accepts the plan.
 #[tactic(auto, using(crate::proofs::RejectionLists::one_more))]
 pub(crate) fn rejections_of(
     alloc: Global,
@@ -32,9 +32,8 @@ pub(crate) fn rejections_of(
     Ok(found)
 }
 
-/// Returns the number of events after which the pool rejects a job. `part` is the part of the
-/// certificate for this pool. Returns `None` if `part` has a bound, or if the search finds no such
-/// events.
+/// Returns after how many events the pool rejects a job. `part` is the part of the certificate for
+/// this pool. Returns `None` if `part` has a bound, or if the search finds no such events.
 fn rejection_of(
     alloc: Global,
     plan: &Plan,

@@ -24,8 +24,8 @@ pub fn report(alloc: Global, review: ReviewCommand, input: &[u8]) -> Result<Answ
     }
 }
 
-/// Runs a review command on the two parts of a bundle: a plan, which is parsed, and the second
-/// part. Returns the answer.
+/// Runs a review command on the two parts of a bundle, and returns the answer. `plan` is the first
+/// part, after it was parsed. `second` is the text of the second part.
 fn answer_of(
     alloc: Global,
     review: ReviewCommand,

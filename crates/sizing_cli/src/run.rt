@@ -28,8 +28,8 @@ use support::number::RUN_TOO_LARGE;
 ///
 /// # Errors
 ///
-/// Fails with fault 20 if memory runs out or a thread cannot be started, and with fault 41, 42 or
-/// 43 if the run ends with that fault.
+/// - Fails with fault 20 if memory runs out or a thread cannot be started.
+/// - Fails with fault 41, 42 or 43 if the run ends with that fault.
 pub fn run_report<R: Threads + Wait + Sync>(
     rt: &R,
     alloc: Global,

@@ -72,8 +72,8 @@ fn push_replies(
     Ok(None)
 }
 
-/// Returns the reply to an event line. Performs the event of the line, or finds out whether the
-/// jobs that the line asks about are stuck.
+/// Returns the reply to an event line. If the line is a `stuck` line, finds out whether the jobs of
+/// the line are stuck. If the line has an event, performs this event.
 fn reply_to(
     alloc: Global,
     world: &mut World,

@@ -59,9 +59,9 @@ fn confirm(
 }
 
 /// Returns the standing vector of each pool, in plan order. A standing vector can prove that a pool
-/// never has more threads than its core size. If the search finds none for a pool, the pool has a
-/// vector without weights. If a class submits itself, directly or through other classes, the list
-/// is empty.
+/// never starts a thread above its core size. If the search finds no standing vector for a pool,
+/// the pool has a vector without weights. The list is empty if a class submits itself, directly or
+/// through other classes.
 fn standing_vectors(alloc: Global, plan: &Plan) -> Result<Vec<Vector>, AllocError> {
     let mut vectors = Vec::new(alloc);
     let Some(levels) = Levels::of(alloc, plan)? else {
@@ -77,8 +77,8 @@ fn standing_vectors(alloc: Global, plan: &Plan) -> Result<Vec<Vector>, AllocErro
     Ok(vectors)
 }
 
-/// Returns the vector of `bound` if this is a standing bound. Otherwise, returns a vector without
-/// weights.
+/// Returns the vector of `bound` if `bound` is a standing bound. Otherwise, returns a vector
+/// without weights.
 fn standing_vector(alloc: Global, bound: Bound) -> Vector {
     match bound {
         Bound::Standing(vector) => vector,
