@@ -5,13 +5,14 @@ ghost use Rattle.locked_runner.specs.Carriers as spec;
 
 use job_bodies::Pool;
 
-/// Returns the number of threads that a run has for the pool. This is the maximum of the pool,
-/// except in two cases, in which it is the core size:
+/// Returns the number of threads that a run has for the pool. This number is the core size of the
+/// pool in two cases, and otherwise its maximum. The two cases are:
 ///
 /// - The queue is unbounded, and core threads never time out. The pool then starts no thread above
 ///   its core size.
-/// - The pool has no maximum, and so its queue is unbounded too. A submit then starts no thread
-///   above the core size. Java may start such a thread only to replace another one.
+/// - The pool has no maximum, so its queue is also unbounded. A submit then starts no thread above
+///   the core size. In Java, the pool may start a thread above the core size, but only to replace
+///   another thread.
 pub(crate) fn carriers(pool: &Pool) -> u64
     ensures { result ≡ spec.carriers pool.now }
 {

@@ -14,8 +14,8 @@ use std::marker::Model;
 pub struct CompactReceipt {
     number: u32,
     kind: Kind,
-    /// The number of the event's client, job or pool. The kind of the event says which of them it
-    /// is.
+    /// The number of the event's client, job or pool. `kind` says which of the three has this
+    /// number.
     of: u32,
 }
 

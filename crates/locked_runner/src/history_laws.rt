@@ -1,14 +1,14 @@
-//! Laws of the numbers of jobs, units of work and events of a run. Each of these three numbers is a
-//! *quantity*. Each law is the contract of a function with an empty body.
+//! Laws of three *quantities* of a run: the numbers of its jobs, its units of work and its events.
+//! Each law is the contract of a function with an empty body.
 //!
-//! The laws concern the ranks of a certificate, and their *rows*. A row is a condition on the
+//! The laws assume conditions on the ranks of a certificate. These conditions are the *rows* of the
 //! ranks.
 
 ghost use Rattle.locked_runner.specs.RunNumbers.{TotalsAddUp, NumbersAreOfThePlan};
 
-/// States how the total quantity of a job adds up, if the rows of the ranks hold. A quantity is a
-/// number of jobs, of units of work or of events. The total is the job's own quantity plus the
-/// total quantities of the jobs that its body submits.
+/// States how quantities add up if the rows of the ranks hold. A quantity is a number of jobs, of
+/// units of work or of events. The total quantity of a job is its own quantity plus the total
+/// quantities of the jobs that its body submits.
 pub fn totals_add_up()
     ensures { TotalsAddUp }
 {}

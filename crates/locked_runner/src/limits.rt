@@ -10,8 +10,8 @@ use job_bodies::{MAX_RUN_CARRIERS, MAX_RUN_CLIENTS, MAX_RUN_EVENTS, Plan};
 /// A limit that a run can exceed.
 #[derive(Clone, Copy, PartialEq, Eq)]
 pub enum RunLimit {
-    /// No pool may be allowed to reject jobs. A run must perform every job of the plan, but a
-    /// rejected job is not performed.
+    /// The plan must have no pool that may reject jobs. A run must perform every job of the plan,
+    /// but a rejected job is not performed.
     Rejections,
     /// The number of clients of all kinds together, which must be at most 64.
     Clients,

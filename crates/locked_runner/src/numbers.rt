@@ -18,8 +18,8 @@ pub struct RunNumbers {
     pub jobs: u64,
     /// The units of work of clients and jobs.
     pub units: u64,
-    /// An upper bound of the number of events. It counts, for each job, the event in which a worker
-    /// takes the job from the queue. There is no such event for a job that a new thread starts.
+    /// An upper bound of the number of events. For each job, it includes an event that takes the
+    /// job from the queue. A job that starts on a new thread has no such event.
     pub events: u64,
 }
 
@@ -27,8 +27,8 @@ pub struct RunNumbers {
 /// times. With 0 rounds, a repeating client contributes nothing.
 ///
 /// The jobs that clients submit are generation 0, the jobs that these jobs submit are generation 1,
-/// and so on. The number of the last generation that is counted is the greatest level in `ranks`.
-/// If the rows (the conditions) of the ranks hold, no job is in a later generation.
+/// and so on. The numbers include all generations up to the greatest level in `ranks`. If the rows
+/// (the conditions) of the ranks hold, no job is in a later generation.
 ///
 /// # Errors
 ///
@@ -189,8 +189,9 @@ fn submitted(body: &[Action], numbers: &[u64]) -> u64
     total
 }
 
-/// Returns, for each class, the quantity of one job of the class and of all jobs that this job
-/// causes, directly or through other jobs. `measure` selects the quantity.
+/// Returns one number for each class. The number is the quantity of one job of the class, plus the
+/// quantities of all jobs that this job causes, directly or through other jobs. `measure` selects
+/// the quantity.
 fn total_quantity(
     alloc: Global,
     plan: &Plan,
@@ -223,8 +224,9 @@ fn greatest(levels: &[u64]) -> u64
     greatest
 }
 
-/// Extends the quantities in `numbers` by one generation of jobs. Returns, for each class, the
-/// quantity of one job of the class and of the jobs that it causes up to that generation. If
+/// Extends the quantities in `numbers` by one generation of jobs. The result has one number for
+/// each class. The number is the quantity of one job of the class, plus the quantities of the jobs
+/// that this job causes. The result includes one more generation of caused jobs than `numbers`. If
 /// `numbers` is empty, the result includes no caused jobs. `measure` selects the quantity.
 fn add_generation(
     alloc: Global,

@@ -17,7 +17,7 @@ use std::alloc::{AllocError, Global};
 ///
 /// - There is one list of receipts for each owner in `of_lists`.
 /// - The receipts of each list are in ascending order.
-/// - The event of each receipt is the event of the history with the receipt's number.
+/// - For a receipt with the number n, event n of the history is the receipt's event.
 /// - This event belongs to the owner of the list.
 ///
 /// `pools` has, for each event of the history, the pool of the job that performed the event, or 0
@@ -67,8 +67,10 @@ fn list_fits(
     true
 }
 
-/// Returns `true` if the receipt's event is the event of the history with the receipt's number, and
-/// this event belongs to the owner.
+/// Returns `true` if two conditions hold for the receipt. Let n be the number of the receipt:
+///
+/// - Event n of the history is the receipt's event.
+/// - This event belongs to the owner.
 fn receipt_fits(
     _plan: &Plan,
     history: &[Event],

@@ -31,8 +31,8 @@ pub(crate) struct Replay {
 ///
 /// # Errors
 ///
-/// Returns `AllocError` if there is not enough memory for the world before its first event, or for
-/// the list of pools.
+/// Returns `AllocError` if memory runs out before the first event, when the new world and the list
+/// of pools are created.
 pub(crate) fn replay_history(
     alloc: Global,
     plan: &Plan,

@@ -40,12 +40,12 @@ impl Model for RunReport {
 ///
 /// - 20: memory ran out, or a thread could not be started.
 /// - 40: the run exceeds a limit, and no thread was started.
-/// - 41: there is a wrong number of lists of receipts. This is also the fault if the receipts of a
-///   list are not in ascending order, do not match the history, or belong to another client or
+/// - 41: the number of lists of receipts is wrong, or a list is wrong. In a wrong list, the
+///   receipts are not in ascending order, do not match the history, or belong to another client or
 ///   pool.
-/// - 42: the history has an impossible event, is not complete, or has another number of jobs or
-///   units than the computed one. This is also the fault if an event does not have exactly one
-///   receipt.
+/// - 42: the history has an impossible event or is not complete. This is also the fault if the
+///   number of jobs or of units differs from the computed number, or if an event does not have
+///   exactly one receipt.
 /// - 43: the gate failed.
 #[derive(Clone, Copy, Debug, PartialEq, Eq)]
 pub struct RunFault {

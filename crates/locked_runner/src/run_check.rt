@@ -29,10 +29,11 @@ use support::number::{MEMORY, MIXED, STRANGE};
 ///
 /// - 20 if memory runs out during the check;
 /// - the fault that a thread reported;
-/// - 41 or 42 if the results are not such a run (see [`RunFault`]). If both apply, the fault is 41.
+/// - 41 or 42 if the results do not form such a run (see [`RunFault`]). If both apply, the fault is
+///   41.
 ///
-/// The field `events` of the fault is the number of events of the history that were replayed.
-/// Unless the fault is 20, these are all events before the first impossible event.
+/// The field `events` of the fault is the number of events that were replayed. If the fault is not
+/// 20, all events before the first impossible event were replayed.
 pub fn check_run(
     alloc: Global,
     certified: &Certified,
@@ -168,7 +169,7 @@ fn fault_of(
 /// Returns `true` if these conditions hold:
 ///
 /// - The history was replayed to its end and is complete.
-/// - The history has the numbers of jobs and units of work in `numbers`.
+/// - The history has as many jobs and as many units of work as `numbers` says.
 /// - The lists have exactly one receipt for each event.
 ///
 /// The caller must have checked that each list has only receipts of its own client or pool.

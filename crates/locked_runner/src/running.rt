@@ -17,9 +17,13 @@ use std::thread::Threads;
 use support::number::{MEMORY, RUN_TOO_LARGE};
 use weights::Ranks;
 
-/// Runs a certified plan. There is one thread for each client. For each pool, there are `max`
-/// threads. A pool has core threads in place of `max` if its queue is unbounded and its core
-/// threads never time out, or if it has no maximum. The threads perform the events of the plan's
+/// Runs a certified plan. There is one thread for each client. A pool has as many threads as its
+/// core size in these cases:
+///
+/// - The pool has an unbounded queue, and its core threads never time out.
+/// - The pool has no maximum.
+///
+/// Any other pool has as many threads as its maximum. The threads perform the events of the plan's
 /// machine, and the gate does the declared work.
 ///
 /// A client of a repeating kind performs its body `rounds` times, and any other client performs it
@@ -30,9 +34,9 @@ use weights::Ranks;
 ///
 /// Returns a fault with one of these numbers:
 ///
-/// - 40: the run exceeds a limit, and no thread was started. The limits are: no pool that may
-///   reject jobs, 64 clients, 64 threads of all pools together, and 1,000,000 events by an upper
-///   bound.
+/// - 40: the run exceeds a limit, and no thread was started. A plan with a pool that may reject
+///   jobs exceeds a limit. The other limits are 64 clients, 64 threads of all pools together, and
+///   1,000,000 events by an upper bound.
 /// - 20: memory ran out, or a thread could not be started.
 /// - 43: the gate failed.
 /// - 41 or 42: the results of the threads are not a complete run.

@@ -14,9 +14,10 @@ use std::sync::Wait;
 use std::thread;
 use std::thread::Threads;
 
-/// Starts the threads of a run, and returns their results after all threads have ended. There is
-/// one thread for each client, and those of each pool. If a thread cannot be started or memory runs
-/// out, the run stops, and the fault in the results is [`ThreadFault::Memory`].
+/// Starts the threads of a run, waits until all of them have ended, and returns their results.
+/// There is one thread for each client, and each pool has its own threads. If a thread cannot be
+/// started or memory runs out, the run stops. The fault in the results is then
+/// [`ThreadFault::Memory`].
 ///
 /// # Errors
 ///

@@ -14,8 +14,8 @@ use std::alloc::{AllocError, Global};
 use std::marker::Model;
 
 /// A world whose contracts mention only its live jobs, pools and clients, and its number of refused
-/// submits. A [`World`] also has a number of places for live jobs. The contracts do not mention it,
-/// because a state of the plan's machine does not determine it.
+/// submits. A [`World`] also has a number of places for live jobs. The contracts do not mention
+/// this number, because a state of the plan's machine does not determine the number of places.
 #[derive(Drop)]
 pub struct ViewedWorld {
     world: World,

@@ -9,10 +9,10 @@ use crate::{CertifiedWorld, ViewedWorld};
 use cert_check::Certified;
 use held_machines::Held;
 
-/// States that the machine in `held` has refused no submit, and refuses none in its next event. The
-/// following facts hold for its world and its history:
+/// States that the machine in `held` has refused no submit, and refuses none in its next event. In
+/// detail:
 ///
-/// - The world is the live view of the state to which the history leads.
+/// - The history leads to a state whose live view is the world in `held`.
 /// - No submit of the history was refused.
 /// - No event that is possible next is a refused submit.
 pub fn held_worlds_refuse_nothing(held: &Held<CertifiedWorld<'_>>)
@@ -24,7 +24,7 @@ pub fn held_worlds_refuse_nothing(held: &Held<CertifiedWorld<'_>>)
     let _history = held.history();
 }
 
-/// States that a world has no refused submit if a history of the certified plan leads to it.
+/// States that `world` has no refused submits if some history of the certified plan leads to it.
 pub fn reached_worlds_refuse_nothing(certified: &Certified, world: &ViewedWorld)
     ensures { (history : List Event)
         → IsReachedBy certified.now.plan history world.now
