@@ -29,10 +29,10 @@ pub enum Command {
 pub enum ReviewCommand {
     /// Replays events on a plan, and reports the outcome of each event.
     Replay,
-    /// Decides whether a certificate shows that no submit is refused and that no jobs wait for each
-    /// other forever.
+    /// Decides whether a certificate accepts a plan. In an accepted plan, no submit is refused, and
+    /// no jobs wait for each other forever.
     Check,
-    /// Lists the conditions of a certificate that fail.
+    /// Lists the failing conditions of a certificate.
     Explain,
 }
 
@@ -43,8 +43,8 @@ pub enum RecordingCommand {
     Conform,
     /// Derives a plan from a recording.
     Learn {
-        /// Whether the command writes the differences in place of the learned plan. It does so only
-        /// if the recording does not conform to this plan.
+        /// Whether the command withholds a learned plan if the recording does not conform to the
+        /// plan. The command then writes the differences instead.
         strict: bool,
     },
 }
@@ -58,7 +58,7 @@ pub enum Task {
         /// is 4.
         workers: usize,
     },
-    /// Searches for sizes with which a certificate accepts the plan.
+    /// Searches for sizes that a certificate accepts.
     Fit {
         /// The output format for the sizes.
         sizes_form: SizesForm,

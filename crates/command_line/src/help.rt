@@ -1,6 +1,6 @@
 //! The help texts of the program and its commands.
 
-/// The help of a command, without the list of the command's arguments, which `clap` writes.
+/// The help of a command, except the list of the command's arguments. `clap` writes this list.
 #[derive(Clone, Copy)]
 pub(crate) struct Help {
     /// The position of the command in the list of commands.
