@@ -79,9 +79,9 @@ pub(crate) fn classes_between(
     Ok(between)
 }
 
-/// Appends the classes through which the class submits itself, in reverse order. The first is the
-/// submitter through which the search found `class`, the second is the submitter of the first, and
-/// so on.
+/// Appends the classes through which the class submits itself, in reverse order: first the
+/// submitter of `class`, then the submitter of that submitter, and so on.
+/// [`CircleSearch::submitter_of`] returns these submitters.
 fn push_submitters(
     between: &mut Vec<usize>,
     search: &CircleSearch,
