@@ -33,9 +33,8 @@ pub(crate) fn actor_of(line: &Line<'_>) -> Option<RecordedActor>
     }
 }
 
-/// Returns the job that the line names, such as job 5 in `round 2 got 5`. The actor of the line
-/// does not count, and neither does a job that the line submits. Returns `None` if the line names
-/// no other job.
+/// Returns the job that the line names, such as job 5 in `round 2 got 5`. Ignores the actor of the
+/// line, and the job of a submit. Returns `None` if the line names no other job.
 pub(crate) fn job_of(line: &Line<'_>) -> Option<usize>
     ensures { result ≡ spec.job_of (line_view line.now) }
 {
