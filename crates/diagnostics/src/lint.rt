@@ -32,12 +32,12 @@ pub enum Lint {
     /// No job is ever submitted to this pool.
     PoolWithoutJobs(usize),
     /// The maximum of this pool is above its core size, but has no effect. The reason is that its
-    /// queue is large enough for all jobs that are in the queue at once, and that its core threads
-    /// never time out.
+    /// core threads never time out, and that its queue has room for all jobs that can wait in the
+    /// queue at once.
     UselessMax(usize),
     /// The plan says that this pool may reject jobs, but the pool never does. The reason is that
-    /// its queue is large enough for all jobs that are in the queue at once. The second field is
-    /// the maximum number of these jobs.
+    /// its queue has room for all jobs that can wait in the queue at once. The second field is the
+    /// maximum number of these jobs.
     UselessMayReject(usize, u64),
     /// The plan says that this pool may reject jobs, but the pool never does, because its queue is
     /// unbounded.
