@@ -164,8 +164,9 @@ fn known_classes(alloc: Global, classes: &[&str]) -> Result<String, AllocError> 
     format!(in alloc; "; the classes are {all}")
 }
 
-/// Checks a submit under this name. If an earlier action submitted a job under the same name and no
-/// action has got that job yet, reports the submit. Otherwise adds the name to `slots`.
+/// Checks a submit under this name. A name is in use from a submit under the name until the get of
+/// the submitted job. If the name is in use, reports the submit. Otherwise adds the name to
+/// `slots`.
 fn check_slot_is_free<'a>(
     collector: &mut FaultCollector,
     checked: CheckedAction<'a>,
@@ -183,8 +184,8 @@ fn check_slot_is_free<'a>(
     Ok(())
 }
 
-/// Returns the index of the action that submitted a job under this name, if no action has got this
-/// job yet. Returns `None` if there is no such action.
+/// Returns the index of the submit under this name if the submitted job was not got yet. Returns
+/// `None` if there is no such submit.
 fn submit_in_use(slots: &[Slot<'_>], name: &str) -> Option<usize> {
     for slot in slots {
         if slot.name == name && slot.got.is_none() {
@@ -206,8 +207,8 @@ fn report_in_use(
     checked.report(collector, SLOT_OPEN, &words)
 }
 
-/// Checks a get of this name. If a job was submitted under the name and no action has got it yet,
-/// records that this action gets the job. Otherwise reports the get.
+/// Checks a get of this name. The get is valid if a job was submitted under the name and was not
+/// got yet. If the get is valid, records that this action gets the job. Otherwise reports the get.
 fn check_get<'a>(
     collector: &mut FaultCollector,
     checked: CheckedAction<'a>,
@@ -221,9 +222,9 @@ fn check_get<'a>(
     }
 }
 
-/// Records that the action with the index `action` gets the job that was submitted under this name.
-/// Changes nothing if there is no such job, or if an earlier action got it. The result says whether
-/// this action gets the job, an earlier action got it, or there is no such job.
+/// Records that an action gets the job with this name. `action` is the index of the action. Changes
+/// nothing if no job was submitted under the name, or if an earlier action got the job. The result
+/// says which of these three cases applies.
 fn mark_as_got(slots: &mut [Slot<'_>], name: &str, action: usize) -> Marked {
     let mut marked = Marked::Missing;
     for slot in slots.iter_mut() {

@@ -36,8 +36,8 @@ fn checked_circle<'a>(plan: &Plan, class: usize, between: &'a [usize]) -> &'a [u
     }
 }
 
-/// Returns the message that a class submits itself through the classes `between`, with the list of
-/// these submits. If `between` is empty, the message has no list.
+/// Returns the message that a class submits itself. If `between` is not empty, the message also
+/// lists the submits that lead from the class through the classes in `between` back to the class.
 fn words_through(
     alloc: Global,
     plan: &Plan,
@@ -59,8 +59,9 @@ fn push_itself(words: &mut String, name: &str) -> Result<(), AllocError>
     write!(words, "class {name} submits itself")
 }
 
-/// Appends the submits by which the class submits itself through the classes `between`. Appends
-/// nothing if `between` is empty.
+/// Appends a colon and the submits of a circle, such as `: a submits b, b submits a`. The circle
+/// leads from the class through the classes in `between` back to the class. Appends nothing if
+/// `between` is empty.
 fn push_circle(
     words: &mut String,
     plan: &Plan,
@@ -76,8 +77,8 @@ fn push_circle(
     push_steps(words, plan, class, between, class)
 }
 
-/// Appends the submits that lead from the class `from` through the classes `between` to the class
-/// `to`.
+/// Appends the submits from each class to the next one, such as `a submits b, b submits c`. The
+/// first class is `from`, the next ones are in `between`, and the last one is `to`.
 fn push_steps(
     words: &mut String,
     plan: &Plan,
@@ -115,8 +116,8 @@ fn push_step(words: &mut String, plan: &Plan, from: usize, to: usize) -> Result<
     words.push_str(plan.class_name(to))
 }
 
-/// Returns whether the submits lead from the class `from` through the classes `between`, in this
-/// order, to the class `to`. Each of these classes must submit the next one directly.
+/// Returns whether each class of a chain submits the next one directly. The chain is the class
+/// `from`, then the classes in `between`, and then the class `to`.
 fn submits_through(plan: &Plan, mut from: usize, mut between: &[usize], to: usize) -> bool
     ensures { result ≡ spec.submits_through plan.now from between.now to }
 {

@@ -1,4 +1,4 @@
-//! The search for the classes through which a class submits itself.
+//! The search for a circle of submits that leads from a class back to itself.
 
 use job_bodies::{Action, Plan};
 use std::alloc::{AllocError, Global};
@@ -7,8 +7,8 @@ use std::alloc::{AllocError, Global};
 /// possibly through other classes, back to the same class.
 #[derive(Drop)]
 struct CircleSearch {
-    /// For each class, the submitter through which the search found the class, or `None` if the
-    /// search has not found it.
+    /// The submitter of each class that the search has found, and `None` for each other class. The
+    /// search found a class through a submit in the body of its submitter.
     submitters: Vec<Option<usize>>,
     /// The classes that were found, in the order in which they were found.
     found: Vec<usize>,
@@ -57,8 +57,8 @@ impl CircleSearch {
         Ok(())
     }
 
-    /// Returns the submitter through which the search found the class, or `None` if the search has
-    /// not found the class.
+    /// Returns the submitter of the class, or `None` if the search has not found the class. The
+    /// search found the class through a submit in the body of its submitter.
     fn submitter_of(&self, class: usize) -> Option<usize> {
         self.submitters.get(class).copied().flatten()
     }
@@ -79,9 +79,9 @@ pub(crate) fn classes_between(
     Ok(between)
 }
 
-/// Appends the classes through which the class submits itself, in reverse order. The first is the
-/// submitter through which the search found `class`, the second is the submitter of the first, and
-/// so on.
+/// Appends the classes through which the class submits itself, in reverse order: first the
+/// submitter of `class`, then the submitter of that submitter, and so on.
+/// [`CircleSearch::submitter_of`] returns these submitters.
 fn push_submitters(
     between: &mut Vec<usize>,
     search: &CircleSearch,

@@ -1,4 +1,4 @@
-//! The collector of the faults that the checks of a plan's text find.
+//! The collector of faults. The checks of a plan's text add the faults that they find.
 
 ghost use Rattle.std.specs.Prelude.{◌≡◌, ◌<◌, ◌≤◌, length};
 
@@ -35,8 +35,8 @@ impl FaultCollector {
         }
     }
 
-    /// Adds a fault. Stores it in `first` if it is the first one that equals `wanted`. Stores any
-    /// other fault in `others`, or only counts it in `omitted` if `others` already has 99 faults.
+    /// Adds a fault. `first` stores the first fault that equals `wanted`. `others` stores the other
+    /// faults, up to 99 of them. `omitted` counts the faults beyond these.
     pub(crate) fn push(&mut self, found: Diagnostic) -> Result<(), AllocError> {
         if self.first.is_none() && found.fault == self.wanted {
             self.first = Some(found);

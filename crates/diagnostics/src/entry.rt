@@ -13,8 +13,8 @@ pub(crate) const BEGINNING: TextPlace = TextPlace { line: 1, column: 1 };
 /// The string that replaces a number if a size has no limit.
 pub(crate) const UNBOUNDED: &str = "unbounded";
 
-/// Returns the key of the list that has the entries of this kind, such as `pool`. Returns `plan`
-/// for the whole text. Messages use the result as the name of the kind.
+/// Returns the plan's key for entries of this kind, such as `pool` for the header `[[pool]]`.
+/// Returns `plan` for the whole text. Messages use the result as the name of the kind.
 pub(crate) fn list_of(part: Part) -> &'static str {
     match part {
         Part::Text => "plan",
@@ -70,8 +70,8 @@ impl<'a> PlacedEntry<'a> {
         }
     }
 
-    /// Returns the words by which messages name the entry, such as `pool db`. If the entry has no
-    /// name, these are, for example, `this pool`.
+    /// Returns the kind and the name of the entry for messages, such as `pool db`. If the entry has
+    /// no name, returns `this` and the kind, such as `this pool`.
     pub(crate) fn who(&self, alloc: Global) -> Result<String, AllocError> {
         let list = list_of(self.part);
         match self.text("name") {
@@ -109,8 +109,9 @@ impl<'a> PlacedEntry<'a> {
         }
     }
 
-    /// Reports fault `number` of the entry, at `place`. The message begins with the kind and name
-    /// of the entry, as in `pool db: `, and continues with `words`.
+    /// Reports a fault of the entry. `number` is the number of the fault, and `place` is the place
+    /// of the fault. The message begins with the kind and name of the entry, as in `pool db: `, and
+    /// continues with `words`.
     pub(crate) fn report(
         &self,
         collector: &mut FaultCollector,
@@ -121,9 +122,10 @@ impl<'a> PlacedEntry<'a> {
         self.report_with_range(collector, number, place, words, None)
     }
 
-    /// Reports fault `number` of the entry, at `place`. The message begins with the kind and name
-    /// of the entry, as in `pool db: `, and continues with `words`. `range` is the valid range if
-    /// the fault is a number that is out of range.
+    /// Reports a fault of the entry. `number` is the number of the fault, and `place` is the place
+    /// of the fault. The message begins with the kind and name of the entry, as in `pool db: `, and
+    /// continues with `words`. `range` is the valid range if the fault is a number that is out of
+    /// range.
     pub(crate) fn report_with_range(
         &self,
         collector: &mut FaultCollector,
@@ -143,9 +145,10 @@ impl<'a> PlacedEntry<'a> {
         })
     }
 
-    /// Reports fault `number` of an action with this `text`. The message begins, for example, with
-    /// `class page, action 1 "get row": `, and continues with `words`. `range` is the valid range
-    /// if the fault is a number that is out of range.
+    /// Reports a fault of an action. `number` is the number of the fault, and `text` is the text of
+    /// the action. The message begins, for example, with `class page, action 1 "get row": `, and
+    /// continues with `words`. `range` is the valid range if the fault is a number that is out of
+    /// range.
     pub(crate) fn report_action(
         &self,
         collector: &mut FaultCollector,

@@ -1,5 +1,5 @@
-//! The lints of unbounded queues that may grow without limit: repeating clients cause submits to
-//! them, and no get waits for the submitted jobs.
+//! The lints of unbounded queues that may grow without limit. Repeating clients submit jobs to such
+//! a queue, directly or through other jobs, and no get waits for these jobs.
 
 ghost use Rattle.std.specs.Prelude.{◌≡◌, ◌++◌, OnOk};
 ghost use Rattle.diagnostics.specs.Lints as spec;
@@ -15,8 +15,8 @@ use std::alloc::AllocError;
 ///
 /// - The queue of the submitted job's pool is unbounded.
 /// - The body with the submit has no get of the job.
-/// - The body belongs to a repeating client kind, or to a class that `repeated` marks. These are
-///   the classes that repeating clients submit, directly or through other jobs.
+/// - The body belongs to a repeating client kind, or to a class that repeating clients submit,
+///   directly or through other jobs. `repeated` marks these classes.
 pub(crate) fn push_growing(
     found: &mut Vec<Lint>,
     plan: &Plan,

@@ -2,8 +2,8 @@
 //! and how to fix it. A lint warns of a part of a valid plan that is probably a mistake.
 //!
 //! The first diagnostic is for the fault that the plan parser reports. The warnings are exactly the
-//! lints of the plan. Each diagnostic and each warning is printed on a line of its own. If a
-//! message lists the submits through which a class submits itself, the plan has these submits. The
+//! lints of the plan. Each diagnostic and each warning is printed on a line of its own. A message
+//! about a class that submits itself can list submits. The plan has each of these submits. The
 //! contracts promise nothing else about messages and places.
 #![tactic(auto)]
 

@@ -10,9 +10,9 @@ use job_bodies::Part;
 /// client kinds and actions by their numbers, which begin at 0.
 #[derive(Clone, Copy)]
 pub enum Lint {
-    /// A certificate accepts the plan with the lowered maximums that [`at_core`](crate::at_core)
-    /// returns. The checks of the plan do not search for this certificate: their caller states that
-    /// there is one.
+    /// A certificate accepts the plan that [`at_core`](crate::at_core) returns, which has lowered
+    /// maximums. The checks of the plan do not search for this certificate. The caller of the
+    /// checks states that the certificate exists.
     SafeAtCore,
     /// This class submits itself, directly or through other classes.
     SubmitsItself(usize),
@@ -32,12 +32,12 @@ pub enum Lint {
     /// No job is ever submitted to this pool.
     PoolWithoutJobs(usize),
     /// The maximum of this pool is above its core size, but has no effect. The reason is that its
-    /// queue is large enough for all jobs that are in the queue at once, and that its core threads
-    /// never time out.
+    /// core threads never time out, and that its queue has room for all jobs that can wait in the
+    /// queue at once.
     UselessMax(usize),
     /// The plan says that this pool may reject jobs, but the pool never does. The reason is that
-    /// its queue is large enough for all jobs that are in the queue at once. The second field is
-    /// the maximum number of these jobs.
+    /// its queue has room for all jobs that can wait in the queue at once. The second field is the
+    /// maximum number of these jobs.
     UselessMayReject(usize, u64),
     /// The plan says that this pool may reject jobs, but the pool never does, because its queue is
     /// unbounded.
@@ -57,14 +57,15 @@ pub enum Lint {
     /// Each of these pools must not reject jobs, has one core thread, and has a bounded queue. The
     /// capacity of the queue is below the number of clients of the kind.
     Crowd(usize),
-    /// The body of a class or client kind has a `work` of at least 50 units, and its length is also
-    /// a size of a pool or the count of a client kind. The fields are the kind of entry (class or
-    /// client kind), the number of the entry, the number of the action, and the length.
+    /// The body of a class or client kind has a `work` with a length of at least 50 units. This
+    /// length is also a size of a pool or the count of a client kind. The fields are the kind of
+    /// entry (class or client kind), the number of the entry, the number of the action, and the
+    /// length.
     WorkLikeASize(Part, usize, usize, u32),
-    /// The body of a class or client kind submits a job that its pool may reject, while a future is
-    /// open. This means that the submit is between another submit and the get of that other submit.
-    /// The fields are the kind of entry (class or client kind), the number of the entry, and the
-    /// number of the action.
+    /// The body of a class or client kind submits a job while a future is open, and the pool of the
+    /// job may reject it. A future is open if the submit is between another submit and the get of
+    /// that other submit. The fields are the kind of entry (class or client kind), the number of
+    /// the entry, and the number of the action.
     OpenFuture(Part, usize, usize),
     /// The body of a class or client kind submits a job to a pool with an unbounded queue and has
     /// no get of this job. Repeating clients cause this submit again and again, so the queue may
@@ -76,8 +77,8 @@ pub enum Lint {
     StaleCertificate,
 }
 
-/// Returns whether the lint is a note instead of a warning. Whether a note matters depends on the
-/// handler of a pool or on the code around a submit, which a plan does not describe.
+/// Returns whether the lint is a note instead of a warning. A plan does not show whether a note
+/// matters: this depends on the handler of a pool, or on the code around a submit.
 pub fn is_note(lint: Lint) -> bool
     ensures { result ≡ spec.is_note lint }
 {

@@ -8,12 +8,12 @@ ghost use Rattle.diagnostics.specs.Lints as spec;
 use crate::open_futures::has_open_future;
 use job_bodies::{Action, Class, Client, Plan, Pool, has_get_of};
 
-/// The factor of [`is_far_above`]: the capacity of a queue is far above a number of jobs if the
-/// capacity divided by this factor exceeds the number.
+/// The factor of [`is_far_above`], which divides the capacity of a queue by this factor. If the
+/// result exceeds a number of jobs, the capacity is far above this number.
 const FAR_ABOVE: u64 = 10;
 
-/// The least length of a `work`, in units, for which [`looks_like_a_size`] can return true. Shorter
-/// lengths are not compared with the sizes and counts of the plan.
+/// The least length of a `work`, in units, that can look like a size. For a shorter length,
+/// [`looks_like_a_size`] returns `false` without a look at the sizes and counts of the plan.
 const LIKE_A_SIZE: u32 = 50;
 
 /// Returns whether clients submit the class with this number, directly or through other jobs.
@@ -61,8 +61,8 @@ fn brings_jobs(marks: &[bool], number: usize, class: &Class, pool: usize) -> boo
     is_submitted(marks, number) && class.pool == pool
 }
 
-/// Returns whether the pool starts threads above its core size exactly when a submit finds its
-/// queue full. Such a pool has a maximum above its core size, a bounded queue, and core threads
+/// Returns whether the pool starts threads above its core size when a submit finds the queue full,
+/// and only then. Such a pool has a maximum above its core size, a bounded queue, and core threads
 /// that never time out. If core threads may time out, the pool can start a thread above its core
 /// size to replace one that ended, even if its queue is never full.
 pub(crate) fn grows_if_full(pool: &Pool) -> bool
@@ -79,16 +79,17 @@ pub(crate) fn has_useless_max(pool: &Pool, most: u64) -> bool
     grows_if_full(pool) && most <= pool.queue
 }
 
-/// Returns whether the plan says that the pool may reject jobs, although its queue can hold `most`
-/// jobs. `most` is the maximum number of jobs in the queue at once.
+/// Returns whether the plan allows the pool to reject jobs, although the pool's queue can hold
+/// `most` jobs. `most` is the maximum number of jobs in the queue at once.
 pub(crate) fn never_rejects(pool: &Pool, most: u64) -> bool
     ensures { result ≡ spec.never_rejects pool.now most }
 {
     pool.may_reject && most <= pool.queue
 }
 
-/// Returns whether a tenth of the capacity of the queue, rounded down, exceeds both `most` and 1.
-/// `most` is the maximum number of jobs in the queue at once.
+/// Returns whether the capacity of the queue is far above `most`. This means that a tenth of the
+/// capacity, rounded down, exceeds both `most` and 1. `most` is the maximum number of jobs in the
+/// queue at once.
 pub(crate) fn is_far_above(pool: &Pool, most: u64) -> bool
     ensures { result ≡ spec.is_far_above pool.now most }
 {
@@ -97,7 +98,7 @@ pub(crate) fn is_far_above(pool: &Pool, most: u64) -> bool
 
 /// Returns whether the pool of the class may reject the class's jobs, and the body of the class has
 /// submits or gets. `needed` has, for each pool, the maximum number of jobs in its queue at once,
-/// if it is known.
+/// or `None` if this number is not known.
 pub(crate) fn may_run_in_caller(plan: &Plan, needed: &[Option<u64>], class: &Class) -> bool
     ensures { result ≡ spec.may_run_in_caller plan.now needed.now class.now }
 {
@@ -116,9 +117,13 @@ fn is_work(action: Action) -> bool
     matches!(action, Action::Work(_))
 }
 
-/// Returns whether a future is open at this position of the body (see [`has_open_future`]), and the
-/// job of class `class` that the action submits there may be rejected. `needed` has, for each pool,
-/// the maximum number of jobs in its queue at once, if it is known.
+/// Returns whether a submit of `class` at this position of the body meets two conditions:
+///
+/// - A future is open at the position (see [`has_open_future`]).
+/// - The pool of the class may reject the job (see [`may_reject_jobs`]).
+///
+/// `needed` has, for each pool, the maximum number of jobs in its queue at once, or `None` if this
+/// number is not known.
 pub(crate) fn leaves_a_future(
     plan: &Plan,
     needed: &[Option<u64>],
@@ -131,9 +136,10 @@ pub(crate) fn leaves_a_future(
     may_reject_jobs(plan, needed, pool_of(plan, class)) && has_open_future(body, position)
 }
 
-/// Returns whether the plan allows the pool with this number to reject jobs, and its queue is not
-/// certain to have room for all jobs. `needed` has, for each pool, the maximum number of jobs in
-/// its queue at once, if it is known. Returns `false` if there is no such pool.
+/// Returns whether the pool with this number may reject jobs: the plan allows the pool to reject
+/// jobs, and the queue may be too small for all jobs (see [`holds_all`]). `needed` has, for each
+/// pool, the maximum number of jobs in its queue at once, or `None` if this number is not known.
+/// Returns `false` if there is no such pool.
 fn may_reject_jobs(plan: &Plan, needed: &[Option<u64>], number: usize) -> bool
     ensures { result ≡ spec.may_reject_jobs plan.now needed.now number }
 {
@@ -179,8 +185,8 @@ fn is_unbounded(plan: &Plan, number: usize) -> bool
     }
 }
 
-/// Returns whether the clients of this kind submit jobs, and each pool to which they submit is
-/// small for the number of these clients (see [`is_small`]).
+/// Returns whether the clients of this kind submit jobs, but only to pools that are small for the
+/// number of these clients (see [`is_small`]).
 pub(crate) fn are_a_crowd(plan: &Plan, client: &Client) -> bool
     ensures { result ≡ spec.are_a_crowd plan.now client.now }
 {
@@ -264,8 +270,9 @@ fn is_size_of_any(pools: &[Pool], number: u64) -> bool
     pools.iter().any(|pool| has_size(pool, number))
 }
 
-/// Returns whether the number is a size of the pool that has an effect. If the queue is unbounded,
-/// the capacity has no effect, and the maximum has one only if core threads may time out.
+/// Returns whether the number is a size of the pool, and this size has an effect. If the queue is
+/// unbounded, its capacity has no effect. The maximum then has an effect only if core threads may
+/// time out.
 fn has_size(pool: &Pool, number: u64) -> bool
     ensures { result ≡ spec.has_size number pool.now }
 {

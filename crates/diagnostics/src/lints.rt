@@ -15,10 +15,10 @@ use std::alloc::{AllocError, Global};
 
 /// Returns the lints of the plan: the parts of the plan that are probably mistakes.
 ///
-/// - `needed` has, for each pool, the maximum number of jobs in its queue at once, or `None` if it
-///   is not known.
-/// - `is_safe_at_core` says whether a certificate accepts the plan with the lowered maximums that
-///   [`at_core`](crate::at_core) returns.
+/// - `needed` has, for each pool, the maximum number of jobs in its queue at once, or `None` if
+///   this number is not known.
+/// - `is_safe_at_core` says whether a certificate accepts the plan that [`at_core`](crate::at_core)
+///   returns, which has lowered maximums.
 pub(crate) fn lints_of(
     alloc: Global,
     plan: &Plan,
@@ -44,9 +44,11 @@ pub(crate) fn lints_of(
 
 /// Returns the lints of the plan. `needed` and `is_safe_at_core` are as in [`lints_of`].
 ///
-/// - `cause` is a reason why no certificate accepts the plan with any sizes, if there is one.
+/// - `cause` is a reason why no certificate accepts the plan, whatever its sizes. `cause` is `None`
+///   if there is no such reason.
 /// - `marks` has, for each class, whether clients submit it, directly or through other jobs.
-/// - `repeated` has, for each class, whether repeating clients submit it in this way.
+/// - `repeated` has, for each class, whether repeating clients submit it, directly or through other
+///   jobs.
 fn lints_with(
     alloc: Global,
     plan: &Plan,
@@ -90,7 +92,7 @@ fn push_all(
     push_plan(found, plan, needed, marks)
 }
 
-/// Appends the lint for `cause`, a reason why no certificate accepts the plan with any sizes.
+/// Appends the lint for `cause`, a reason why no certificate accepts the plan, whatever its sizes.
 /// Appends nothing if `cause` is `None`.
 fn push_cause(found: &mut Vec<Lint>, cause: Option<Cause>) -> Result<(), AllocError>
     ensures { OnOk result (found.new.items ≡ found.old.items ++ spec.lints_of_cause cause) }

@@ -10,12 +10,14 @@ use crate::lint_conditions::grows_if_full;
 use job_bodies::{Plan, Pool};
 use std::alloc::{AllocError, Global};
 
-/// Returns whether [`at_core`] is useful: some pool starts threads above its core size only if its
-/// queue is full, and no such pool may reject jobs. Such a pool has a bounded queue, a maximum
-/// above its core size, and core threads that never time out.
+/// Returns whether [`at_core`] is useful. Two conditions must hold:
+///
+/// - Some pool starts threads above its core size when its queue is full, and only then. Such a
+///   pool has a bounded queue, a maximum above its core size, and core threads that never time out.
+/// - No such pool may reject jobs.
 ///
 /// A pool that may reject jobs can reject more with a lower maximum, and clients do not wait for
-/// rejected jobs. So the plan with lowered maximums would say nothing about the plan itself.
+/// rejected jobs. So the plan with lowered maximums would say nothing about the original plan.
 pub fn can_be_lowered(plan: &Plan) -> bool
     ensures { result ≡ spec.can_be_lowered plan.now }
 {
@@ -34,17 +36,17 @@ fn some_grows_and_rejects(plan: &Plan) -> bool
     plan.pools().iter().any(|pool| grows_and_rejects(pool))
 }
 
-/// Returns whether the pool starts threads above its core size only if its queue is full, and may
-/// reject jobs.
+/// Returns whether the pool may reject jobs, and starts threads above its core size only if its
+/// queue is full.
 fn grows_and_rejects(pool: &Pool) -> bool
     ensures { result ≡ spec.grows_and_rejects pool.now }
 {
     grows_if_full(pool) && pool.may_reject
 }
 
-/// Returns a copy of the plan in which each maximum is lowered to the core size of its pool. The
-/// maximum of a pool whose core threads may time out stays unchanged: such a pool may start threads
-/// above its core size even if its queue is never full.
+/// Returns a copy of the plan in which each maximum is lowered to the core size of its pool. If the
+/// core threads of a pool may time out, the maximum of this pool stays unchanged: the pool may
+/// start threads above its core size even if its queue is never full.
 ///
 /// # Errors
 ///

@@ -33,13 +33,14 @@ pub(crate) fn missing_submit(
     format!(in alloc; "nothing was submitted as {name}{right}")
 }
 
-/// Returns the end of the message for a get of a name under which no earlier action submits a job.
-/// If none of these causes applies, the end is the result of [`no_submit_before`]. Otherwise it
-/// states the first cause that applies:
+/// Returns the end of the message for a get without an earlier submit under its name. The end
+/// states the first of these causes that applies:
 ///
-/// 1. An earlier submit without `as` of a class that has this name.
-/// 2. A similar name under which an earlier action submits a job.
-/// 3. The last earlier submit without `as`.
+/// 1. An earlier submit of the class `name` has no `as`.
+/// 2. An earlier submit has a similar name.
+/// 3. An earlier submit of another class has no `as`. The end states the last such submit.
+///
+/// If none of these causes applies, the end is the result of [`no_submit_before`].
 fn likely_cause(
     alloc: Global,
     body: &[Value],
@@ -62,10 +63,12 @@ fn likely_cause(
     }
 }
 
-/// Returns the end of the message for a get of `name` if each earlier submit has a name, and none
-/// of these names is similar. The end lists `names`, the names of the earlier submits. If there are
-/// no earlier submits, the end says which submit to write. It then also names the first later
-/// submit without `as`, if there is one.
+/// Returns the end of the message for a get of `name`. Each earlier submit of the body has a name,
+/// and none of these names is similar to `name`. `names` has these names.
+///
+/// - If there are earlier submits, the end lists their names.
+/// - Otherwise the end says which submit to write. If a later submit has no `as`, the end also
+///   states the first such submit.
 fn no_submit_before(
     alloc: Global,
     body: &[Value],
@@ -115,9 +118,9 @@ fn named_after<'a>(body: &'a [Value], get: usize, name: &str) -> Option<Submit<'
     None
 }
 
-/// Returns a submit without `as` that is before the action with the index `get`. This is the first
-/// such submit of the class `name` or, if there is none, the last such submit of any class. Returns
-/// `None` if there is no such submit.
+/// Returns a submit without `as` from the actions before index `get`. If such a submit has the
+/// class `name`, returns the first one of this class. Otherwise returns the last such submit, or
+/// `None` if there is none.
 fn unnamed_before<'a>(body: &'a [Value], get: usize, name: &str) -> Option<Submit<'a>> {
     let mut last = None;
     for (action, value) in body.iter().enumerate() {

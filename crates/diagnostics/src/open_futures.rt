@@ -13,8 +13,8 @@ pub fn has_open_future(body: &[Action], position: usize) -> bool
     body.iter().enumerate().any(|(number, action)| is_get_around(position, number, *action))
 }
 
-/// Returns whether `action` is a get after the position, and the submit that this get names is
-/// before the position. `number` is the position of `action`.
+/// Returns whether `action` is a get after `position`, and the job of this get was submitted before
+/// `position`. `number` is the position of `action` itself.
 pub(crate) fn is_get_around(position: usize, number: usize, action: Action) -> bool
     ensures { result ≡ spec.is_get_around position number action }
 {

@@ -16,9 +16,9 @@ use plan_text::{Places, TextPlace};
 use std::alloc::{AllocError, Global};
 use toml::Table;
 
-/// Returns the faults of a text that the plan parser rejects with `fault`. The first fault is
-/// `fault`, and further checks find the others. The result has at most 100 faults, and the number
-/// of faults beyond them. Each message is a single line.
+/// Returns the faults of a text that the plan parser rejects. The first fault is `fault`, which the
+/// parser reports. Further checks find the other faults. The result lists at most 100 faults, and
+/// has the number of faults that are not listed. Each message is a single line.
 ///
 /// # Errors
 ///
@@ -89,8 +89,8 @@ fn in_single_line(
     })
 }
 
-/// Returns the faults that the checks find in the plan. If the text is not valid UTF-8 or not TOML,
-/// this is the only fault.
+/// Returns the faults that the checks find in the plan. If the text is not valid UTF-8, or is not
+/// TOML, the result has only this fault.
 fn all_faults(
     alloc: Global,
     bytes: &[u8],

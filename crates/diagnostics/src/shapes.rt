@@ -87,8 +87,8 @@ fn key_rule(key: &'static str) -> Option<KeyRule> {
     Some(KeyRule { key, wanted, hint })
 }
 
-/// Returns the key of a plan for a key of Java or of another configuration format, such as `core`
-/// for `corePoolSize`. Returns `None` if there is no such key of a plan.
+/// Translates a key of Java or of another configuration format into the key of a plan, such as
+/// `corePoolSize` into `core`. Returns `None` if no key of a plan corresponds to this key.
 fn plan_key_for(key: &str) -> Option<&'static str> {
     match key {
         "corePoolSize" | "corepoolsize" | "core_pool_size" | "threads" | "size" => Some("core"),

@@ -3,12 +3,13 @@
 use std::alloc::{AllocError, Global};
 use strsim::osa_distance;
 
-/// Returns a word that is similar to `written`, or `None` if there is none. Of several such words,
-/// prefers one that starts with `written` or has the edit distance 1. A word is similar if it
+/// Returns a word that is similar to `written`, or `None` if there is none. A word is similar if it
 /// differs from `written` and one of these conditions holds:
 ///
 /// - The word starts with `written`, and `written` has at least 3 bytes.
 /// - The edit distance of the two is at most a third of the length of `written`, or at most 1.
+///
+/// Of several similar words, prefers one that starts with `written` or has the edit distance 1.
 pub(crate) fn nearest<'w>(
     alloc: Global,
     written: &str,

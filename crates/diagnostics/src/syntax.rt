@@ -140,7 +140,7 @@ fn end_hint(rest: &str) -> Option<&'static str> {
     }
 }
 
-/// Returns the line in which this place is. Returns an empty line if the text has fewer lines.
+/// Returns the line that contains this place. Returns an empty line if the text has fewer lines.
 pub(crate) fn line_of(text: &str, place: TextPlace) -> &str {
     let mut number = 1usize;
     for line in text.lines() {

@@ -10,9 +10,10 @@ struct OpenList {
     depth: usize,
 }
 
-/// Returns the line at which the first list without a `]` begins. Returns `None` if there is no
-/// such list, or if the line `error`, at which the parser found an error, is outside this list. The
-/// list extends to the next line with a header or a key, or to the end of the text.
+/// Finds the first list without a `]`, and returns the line at which this list begins. The list
+/// extends to the next line with a header or a key, or to the end of the text. `error` is the line
+/// at which the parser found an error. Returns `None` if there is no such list, or if the error is
+/// outside the list.
 pub(crate) fn unclosed_list(text: &str, error: usize) -> Option<usize> {
     let mut open = OpenList { start: 0, depth: 0 };
     let mut number = 0usize;
@@ -26,8 +27,8 @@ pub(crate) fn unclosed_list(text: &str, error: usize) -> Option<usize> {
     start_of(open, error, number.saturating_add(1))
 }
 
-/// Returns the line at which the list `open` begins, if the line `error` is in the range from this
-/// line to the line `end`, both included. Returns `None` otherwise, or if no list is open.
+/// Returns the line at which the open list begins. Returns `None` if no list is open. Also returns
+/// `None` if the line `error` is before the first line of the list or after the line `end`.
 fn start_of(open: OpenList, error: usize, end: usize) -> Option<usize> {
     if open.depth > 0 && (open.start..=end).contains(&error) {
         Some(open.start)

@@ -77,8 +77,8 @@ fn words_of_core(alloc: Global, plan: &Plan) -> Result<String, AllocError> {
     Ok(words)
 }
 
-/// Appends the name and the maximum of each pool whose maximum [`at_core`](crate::at_core) lowers.
-/// `count` is the number of these pools.
+/// Appends the name and the maximum of each pool for which [`grows_if_full`] returns true.
+/// [`at_core`](crate::at_core) lowers these maximums. `count` is the number of these pools.
 fn push_maxes(words: &mut String, plan: &Plan, count: usize) -> Result<(), AllocError> {
     let mut number = 0usize;
     for pool in plan.pools() {
@@ -122,8 +122,8 @@ fn words_of_submit(
     )
 }
 
-/// Returns the word `client` or `class`, and the name and the body of the client kind or class with
-/// this number. Returns `None` if there is no such client kind or class.
+/// Finds the client kind or class with this number. Returns the word `client` or `class`, the name,
+/// and the body. Returns `None` if there is no such client kind or class.
 fn entry_of(plan: &Plan, part: Part, number: usize) -> Option<(&'static str, &str, &[Action])> {
     match part {
         Part::Client => {
@@ -173,9 +173,9 @@ fn words_of_growth(
     )
 }
 
-/// Returns the name of the class of a job that is submitted and not yet got at this position of the
-/// body. Of several such jobs, takes the one with the first get. Returns an empty name if there is
-/// no such job.
+/// Finds a job that is submitted before this position of the body and got after it. Returns the
+/// name of the job's class. Of several such jobs, takes the one with the first get. Returns an
+/// empty name if there is no such job.
 fn open_class<'a>(plan: &'a Plan, body: &[Action], position: usize) -> &'a str {
     for (number, action) in body.iter().enumerate() {
         if let Action::Get(submit) = *action {
@@ -187,9 +187,9 @@ fn open_class<'a>(plan: &'a Plan, body: &[Action], position: usize) -> &'a str {
     ""
 }
 
-/// Returns the text of the submit at index `action`, as it is written at this place of the plan's
-/// text. If there is no string at this place, returns `submit CLASS` with the name of the submitted
-/// class.
+/// Returns the text of a submit. This text is the string at this place of the plan's text. If there
+/// is no such string, the result is `submit` and the name of the submitted class. `action` is the
+/// index of the submit in the body.
 fn submit_text(
     alloc: Global,
     text: &[u8],

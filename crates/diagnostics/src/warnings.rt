@@ -35,8 +35,8 @@ pub struct Warning {
 ///   this number is not known.
 /// - `is_safe_at_core` says whether a certificate accepts the plan that [`at_core`] returns.
 ///
-/// Each message is a single line. If a message lists submits by which a class submits itself, the
-/// plan has these submits. The contract promises nothing else about places and messages.
+/// Each message is a single line. A message about a class that submits itself can list submits. The
+/// plan has each of these submits. The contract promises nothing else about places and messages.
 ///
 /// [`at_core`]: crate::at_core
 ///

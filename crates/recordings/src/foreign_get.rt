@@ -1,8 +1,9 @@
-//! Foreign gets: an actor gets a job that another actor submitted and has not yet got.
+//! Foreign gets: an actor gets a job that another actor submitted. The other actor has not got the
+//! job yet.
 
 use crate::RecordedActor;
 
-/// A get of a job that another actor submitted and has not yet got.
+/// A get of a job that another actor submitted. The other actor has not got the job yet.
 #[derive(Clone, Copy, PartialEq, Eq)]
 pub struct ForeignGet {
     /// The line number of the get, from 1.

@@ -1,9 +1,13 @@
 //! A fast parser for the most frequent kinds of lines.
 //!
 //! The parser reads a line from left to right, without a search for its newline. It returns `None`
-//! for a line that it does not parse, and the caller then tries the parser in `line_forms`. It does
-//! not parse bad lines, lines of other kinds, lines without a newline, and lines with a number that
-//! is 0 or above 999,999,999.
+//! for a line that it does not parse, and the caller then tries the parser in `line_forms`. The
+//! parser does not parse these lines:
+//!
+//! - Bad lines.
+//! - Lines of other kinds.
+//! - Lines without a newline.
+//! - Lines with a number that is 0 or above 999,999,999.
 
 ghost use Rattle.std.specs.Prelude.{◌≡◌, ◌≤◌, ◌<◌, ◌+◌, ◌++◌, ◌∷◌, true, length, take, codes, decimal, Some, IfSome};
 ghost use Rattle.std.specs.List.{list_all};

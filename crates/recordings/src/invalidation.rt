@@ -1,5 +1,6 @@
 //! The events of a recording that invalidate a SAFE answer, and their texts. A plan is SAFE if no
-//! sequence of its events ends in a deadlock, and no pool refuses a job unless it may reject jobs.
+//! sequence of its events ends in a deadlock, and jobs are refused only by pools that may reject
+//! jobs.
 
 ghost use Rattle.std.specs.Prelude.{◌≡◌, Some};
 ghost use Rattle.recordings.specs.EventText as spec;

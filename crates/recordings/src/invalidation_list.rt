@@ -16,15 +16,17 @@ use crate::{Line, RecordedActor};
 use std::alloc::{AllocError, Global};
 use std::collections::BTreeMap;
 
-/// A list of the invalidating events in the lines read so far. It has each event that may be the
-/// first of its type in the recording.
+/// A list of the invalidating events in the lines read so far. The list has each event that may be
+/// the first of its type in the recording.
 ///
 /// A get that timed out or was interrupted is *pending* until the next line of its actor. That line
-/// can discard the event. For each type, the list has at least the first event that is not pending,
-/// and all pending events before it.
+/// can discard the event. For each type, the list has at least these events:
 ///
-/// Processing a line takes one look-up of its actor. If the actor has a pending event, it takes a
-/// second look-up to find this event.
+/// - The first event that is not pending.
+/// - All pending events before that event.
+///
+/// Processing a line takes one look-up of its actor. If the actor has a pending event, a second
+/// look-up finds this event.
 #[derive(Drop)]
 pub(crate) struct InvalidationList {
     // The events, by the numbers of their lines.

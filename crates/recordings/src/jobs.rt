@@ -13,8 +13,8 @@ use support::IdMap;
 pub(crate) struct JobState {
     started: bool,
     cancelled: bool,
-    /// The job that this job submitted in its last line, apart from `refused` lines. `None` if that
-    /// line is not a submit, or if this job has no such line yet.
+    /// The job that the last line of this job submits. `refused` lines are ignored. `None` if the
+    /// last line is not a submit, or if there is no such line yet.
     last_submit: Option<usize>,
 }
 
@@ -64,10 +64,10 @@ impl Jobs {
         job < self.submitted && self.get(job).is_none_or(|state| state.cancelled)
     }
 
-    /// Returns the job that `job` submitted in its last line, apart from `refused` lines. Returns
-    /// `None` in these cases:
+    /// Returns the job that the last line of `job` submits. Ignores `refused` lines. Returns `None`
+    /// in these cases:
     ///
-    /// - That line is not a submit, or `job` has no such line yet.
+    /// - The last line is not a submit, or there is no such line yet.
     /// - `job` was not submitted, or it is done.
     pub(crate) fn last_submit(&self, job: usize) -> Option<usize>
         ensures { result ≡ last_submit_in (job_at self.now job) }
@@ -123,8 +123,8 @@ impl Jobs {
         }
     }
 
-    /// Stores the job that `job` submitted in its last line, or `None` if that line is not a
-    /// submit. Does nothing if `job` is done.
+    /// Stores the job that the last line of `job` submits, or `None` if that line is not a submit.
+    /// Does nothing if `job` is done.
     pub(crate) fn set_last_submit(&mut self, job: usize, last_submit: Option<usize>)
         ensures submitted { self.new.submitted ≡ self.old.submitted }
         ensures unfinished { (j : ℕ)

@@ -2,8 +2,10 @@
 
 ghost use Rattle.recordings.specs.Laws.{RecordingLinesAreCanonical, UnboundedCapacityIsStated};
 
-/// States that each valid line has exactly one text. A text parses as a line if and only if the
-/// line is valid and has this text.
+/// States that each valid line has exactly one text:
+///
+/// - The text of a valid line parses as this line.
+/// - If a text parses as a line, the line is valid, and the text is the text of this line.
 pub fn recording_lines_are_canonical()
     ensures { RecordingLinesAreCanonical }
 {}

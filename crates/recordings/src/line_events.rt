@@ -47,8 +47,8 @@ pub(crate) fn is_same_type(one: InvalidatingEvent, other: InvalidatingEvent) -> 
     one.word() == other.word()
 }
 
-/// Returns true if the line discards the event. A line discards a get that timed out or was
-/// interrupted if it reports a further get of the same job by the same actor.
+/// Returns true if the line discards the event. This is the case if the event is a get that timed
+/// out or was interrupted, and the line reports a further get of the same job by the same actor.
 pub(crate) fn excuses(event: InvalidatingEvent, line: &Line<'_>) -> bool
     ensures { result ≡ stored.excuses (line_view line.now) event }
 {

@@ -10,8 +10,8 @@ use crate::recording_line::{Line, RecordedActor};
 use crate::words::{is_word, name_of, parse_name, parse_number};
 use line_words::{number_of, split_space};
 
-/// Parses a line of any form, without its newline. Only the lines that
-/// [`split_frequent_line`](crate::frequent_lines) does not parse are passed to this function.
+/// Parses a line of any form, without its newline. The caller passes only lines that
+/// [`split_frequent_line`](crate::frequent_lines) does not parse.
 #[cold]
 #[inline(never)]
 #[tactic(auto, unfolding(crate::specs::RecordingLine::line_of, crate::specs::RecordingLine::line_of_words))]

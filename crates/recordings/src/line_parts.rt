@@ -7,8 +7,9 @@ ghost use Rattle.recordings.specs.LineParts as spec;
 
 use crate::{Line, RecordedActor};
 
-/// Returns the actor whose action or end the line reports. Returns `None` for a line that begins a
-/// round or starts a job, and for a line that names no actor.
+/// Returns the actor of a line that reports an action or the end of this actor, such as round 2 in
+/// `round 2 got 5`. Returns `None` for a line that begins a round or starts a job, and for a line
+/// that names no actor.
 pub(crate) fn actor_of(line: &Line<'_>) -> Option<RecordedActor>
     ensures { result ≡ spec.actor_of (line_view line.now) }
 {
@@ -33,9 +34,8 @@ pub(crate) fn actor_of(line: &Line<'_>) -> Option<RecordedActor>
     }
 }
 
-/// Returns the job that the line names, such as job 5 in `round 2 got 5`. The actor of the line
-/// does not count, and neither does a job that the line submits. Returns `None` if the line names
-/// no other job.
+/// Returns the job that the line names, such as job 5 in `round 2 got 5`. Ignores the actor of the
+/// line, and the job of a submit. Returns `None` if the line names no other job.
 pub(crate) fn job_of(line: &Line<'_>) -> Option<usize>
     ensures { result ≡ spec.job_of (line_view line.now) }
 {

@@ -63,8 +63,9 @@ impl<'a> RecordingLines<'a> {
     }
 }
 
-/// Parses the first line of a text. Returns the line, or [`BadLine`] if the line has no valid form,
-/// and the text after its newline. Returns `None` if the text has no newline.
+/// Parses the first line of a text. Returns the parsed line and the text after its newline. If the
+/// line has no valid form, returns [`BadLine`] in place of the parsed line. Returns `None` if the
+/// text has no newline.
 ///
 /// The function is inlined because a call would first clear the space for its return value. This
 /// would slow down the parsing of frequent lines.

@@ -1,5 +1,6 @@
-//! Notes on a recording: the events that invalidate a SAFE answer, and the first foreign get. A
-//! foreign get is a get of a job that another actor submitted and has not yet got.
+//! Notes on a recording: the events that invalidate a SAFE answer, and the first foreign get. In a
+//! foreign get, an actor gets a job that another actor submitted. The other actor has not got the
+//! job yet.
 
 ghost use Rattle.std.specs.Prelude.{◌≡◌, ◌+◌, ◌++◌, ◌∷◌, [], List, OnOk, IfOk, length};
 ghost use Rattle.recordings.specs.RecordingLine.{RecordedLine, line_view};
@@ -16,12 +17,13 @@ use crate::invalidation_list::InvalidationList;
 use crate::unclaimed::UnclaimedJobs;
 use std::alloc::{AllocError, Global};
 
-/// The events that invalidate a SAFE answer, and the first foreign get, in the lines read so far. A
-/// foreign get is a get of a job that another actor submitted and has not yet got.
+/// The events that invalidate a SAFE answer, and the first foreign get, in the lines read so far.
+/// In a foreign get, an actor gets a job that another actor submitted. The other actor has not got
+/// the job yet.
 ///
-/// The size grows with the number of jobs that their submitters have not got, and with the number
-/// of actors whose last line is `timeout` or `interrupted`. Processing a line takes a constant
-/// number of look-ups. No contract states the size or the time.
+/// The size grows with the number of jobs that were submitted but not yet got by their submitters.
+/// It also grows with the number of actors whose last line is `timeout` or `interrupted`.
+/// Processing a line takes a constant number of look-ups. No contract states the size or the time.
 #[derive(Drop)]
 pub struct RecordedNotes {
     pub(crate) invalidations: InvalidationList,
@@ -73,8 +75,8 @@ impl RecordedNotes {
         self.invalidations.firsts(alloc)
     }
 
-    /// Returns the first foreign get: a get of a job that another actor submitted and had not yet
-    /// got. Returns `None` if there is no such get.
+    /// Returns the first foreign get, or `None` if there is none. In a foreign get, an actor gets a
+    /// job that another actor submitted. The other actor has not got the job before.
     pub fn foreign_get(&self) -> Option<ForeignGet>
         ensures { (lines : List RecordedLine)
             → IsNotesOf self.now lines

@@ -107,8 +107,8 @@ impl PathTable {
         Ok(())
     }
 
-    /// Removes the submit of a refused job from the path of the actor with this number, if the
-    /// submit is the path's last action. Does nothing if the actor is not live.
+    /// Removes the submit of a refused job from the path of the actor with this number. Does
+    /// nothing if the submit is not the path's last action, or if the actor is not live.
     pub(crate) fn drop_submit(&mut self, number: usize, job: usize)
         ensures { (n : ℕ)
             → path_in self.new n

@@ -15,8 +15,8 @@ use crate::{Line, RecordedActor};
 use std::alloc::{AllocError, Global};
 
 /// The paths of the live actors after the lines read so far. A round is live from its begin to its
-/// end. A job is live from its submit until it is done. A job that never runs, because it was
-/// refused, cancelled or removed, remains live with an empty path.
+/// end. A job is live from its submit until it is done. If a job never runs because it was refused,
+/// cancelled or removed, the job remains live with an empty path.
 ///
 /// Processing a line takes at most two look-ups in tables. For a `got` line, it also takes a binary
 /// search among the submits of the actor. No contract states the size or the time.

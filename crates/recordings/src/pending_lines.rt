@@ -1,4 +1,5 @@
-//! Pending gets: gets that timed out or were interrupted, and whose actors have no later line yet.
+//! Pending gets. A get is pending if it timed out or was interrupted, and its actor has no later
+//! line yet.
 
 ghost use Rattle.std.specs.Prelude.{◌≡◌, OnOk, None, Some, if◌then◌else◌};
 ghost use Rattle.recordings.specs.declared.recording_line.RecordedActor as actors;

@@ -133,7 +133,7 @@ fn parse_queue(text: &[u8]) -> Option<(QueueKind, &[u8])>
 }
 
 /// Parses `timeout yes` or `timeout no` at the start of the text. Returns true for `yes` and false
-/// for `no`, and the text after this word.
+/// for `no`. Also returns the text after this word.
 #[tactic(auto, unfolding(crate::specs::PoolSizes::parse_timeout))]
 fn parse_timeout(text: &[u8]) -> Option<(bool, &[u8])>
     ensures { option_map (λ read. (read.0, read.1.now)) result ≡ spec.parse_timeout text.now }

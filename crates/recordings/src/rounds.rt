@@ -10,8 +10,8 @@ use support::IdMap;
 /// The rounds in the lines read so far. A round is open if it has begun and has not ended.
 ///
 /// - `begun` is the number of rounds that have begun.
-/// - `open` has, for each open round, the job that the round submitted in its last line, apart from
-///   `refused` lines. The job is `None` if that line is not a submit.
+/// - `open` has, for each open round, the job that the last line of the round submits. The job is
+///   `None` if that line is not a submit. `refused` lines are ignored.
 #[derive(Drop)]
 pub(crate) struct Rounds {
     pub(crate) begun: usize,
@@ -37,8 +37,8 @@ impl Rounds {
         self.open.contains(round)
     }
 
-    /// Returns the job that the round submitted in its last line, apart from `refused` lines.
-    /// Returns `None` if that line is not a submit, or if the round is not open.
+    /// Returns the job that the last line of the round submits. Ignores `refused` lines. Returns
+    /// `None` if the last line is not a submit, or if the round is not open.
     pub(crate) fn last_submit(&self, round: usize) -> Option<usize>
         ensures { result ≡ last_submit_of_round (round_at self.now round) }
     {
@@ -74,7 +74,7 @@ impl Rounds {
         self.open.remove(round);
     }
 
-    /// Stores the job that the round submitted in its last line, or `None` if that line is not a
+    /// Stores the job that the last line of the round submits, or `None` if that line is not a
     /// submit. Does nothing if the round is not open.
     pub(crate) fn set_last_submit(&mut self, round: usize, last_submit: Option<usize>)
         ensures begun { self.new.begun ≡ self.old.begun }

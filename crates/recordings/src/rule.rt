@@ -19,12 +19,12 @@ pub enum LineRule {
     Numbers,
     /// O4: the lines of a round come between its `begin` line and its `end` line.
     Rounds,
-    /// O5: a job has at most one `start` line. The lines in which the job is the actor come after
-    /// its `start` line, and the last of them is `end` or `threw`.
+    /// O5: a job has at most one `start` line. All lines with the job as the actor come after its
+    /// `start` line. The last of these lines is `end` or `threw`.
     Jobs,
-    /// O6: a `refused` line comes after the `submit` line of the same job by the same actor, and
-    /// before the job's `start` line. Between the two lines, the actor has only `refused` lines of
-    /// this job.
+    /// O6: a `refused` line comes after the `submit` line of the same job by the same actor.
+    /// Between the `submit` line and the `refused` line, the actor has only `refused` lines of this
+    /// job. If the job has a `start` line, that line comes after the `refused` line.
     Refusals,
     /// O7: `got` comes after the `end`, `threw` or `cancel` line of its job.
     Gets,

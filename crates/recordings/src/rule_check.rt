@@ -11,8 +11,8 @@ use crate::rule::LineRule;
 use crate::trace_validator::TraceValidator;
 use crate::{Line, RecordedActor};
 
-/// Returns the first rule that the line breaks, or `None` if it breaks no rule. `lines` is the
-/// state of the check after the lines before it.
+/// Returns the first rule that the line breaks, or `None` if the line breaks no rule. `lines` is
+/// the state of the check before this line.
 pub(crate) fn first_broken_rule(lines: &TraceValidator, line: &Line<'_>) -> Option<LineRule>
     ensures { (before : List RecordedLine)
         → Represents lines.now before

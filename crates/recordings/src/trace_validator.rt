@@ -17,9 +17,9 @@ use std::alloc::{AllocError, Global};
 /// read so far.
 ///
 /// The size of the state grows with the number of pools, of open rounds and of jobs that are not
-/// done. A job that never runs, because it was refused, cancelled or removed, is not done. Checking
-/// a line takes a few look-ups in tables, however many lines were read before. No contract states
-/// the size or the time.
+/// done. If a job never runs because it was refused, cancelled or removed, the job counts as not
+/// done. Checking a line takes a few look-ups in tables, however many lines were read before. No
+/// contract states the size or the time.
 #[derive(Drop)]
 pub struct TraceValidator {
     pub(crate) begun: bool,

@@ -1,4 +1,4 @@
-//! Unclaimed jobs: the jobs that their submitters have not got.
+//! Unclaimed jobs: the submitted jobs that were not yet got by their submitters.
 
 ghost use Rattle.std.specs.Prelude.{◌≡◌, ℕ, ◌==◌, OnOk, None, Some, if◌then◌else◌};
 ghost use Rattle.recordings.specs.RecordingLine.{line_view};
