@@ -91,7 +91,7 @@ def recording(room):
 
 def learned(rounds, jobs):
     return f"""# Learned from a recording. Rounds: {rounds}. Jobs: {jobs}.
-# What was not taken is not here: another path, class, kind or pool. Each count is what was seen at once.
+# Paths, classes, kinds and pools that this run did not use are missing. Each count is the most that were open at once.
 
 {PLAN}"""
 

@@ -22,7 +22,7 @@ def circles(plan):
 def never_got(plan):
     """Returns the lines for the repeated submits without a get, except those to pools that may reject jobs or have an unbounded queue."""
     return {
-        f"{name} action {place}: submits for ever, never got"
+        f"{name} action {place}: submits without end, and no get waits for these jobs"
         for name, place, number in repeated_without_get(plan)
         if not needs_no_bound(pool_of(plan, number))
     }

@@ -233,7 +233,7 @@ class Comparison:
         if step.what == "get":
             did = f"got {name} of pool {pool}; its body has no such get {after}"
         elif not self.classes_of(step.job):
-            did = f"submitted {name} to pool {pool} as {step.job}, which is of no class of the plan"
+            did = f"submitted {name} to pool {pool} as {step.job}, which belongs to no class of the plan"
         elif not self.fits(step.job):
             did = f"submitted {name} to pool {pool} as {step.job}, whose own path matches no such class"
         elif excess := next(filter(None, (self.excess(actor, body, most) for body in best)), None):
@@ -287,7 +287,7 @@ class Comparison:
             found += [(act.line, act.word, void_text(act.word, act.job)) for act in actor.acts
                       if act.word in ("cancel", "threw") or act.word == "refused" and not self.is_allowed(act)]
         for line, word, text in sorted(found):
-            self.finds(VOIDS, ("void", word), line, f"a yes is void from here on: {text}")
+            self.finds(VOIDS, ("void", word), line, f"the answer SAFE does not hold after this: {text}")
 
     # ---- rejections that the plan allows
 

@@ -91,7 +91,7 @@ ROWS = [
     ("of a kind the first path alone", PLAN, round_of(*submitted("round 0", 0, "a")) + round_of(*submitted("round 1", 1, "a"), number=1),
      ["line 7: round 0 of kind c ended without a get of job 0 of class a in pool p; its body has a get before its end"], []),
     ("a class that no plan has", PLAN, round_of(*got("round 0", 0, "z")),
-     ["line 4: class z in pool p: not in the plan", "line 4: round 0 of kind c submitted z to pool p as job 0, which is of no class of the plan"], []),
+     ["line 4: class z in pool p: not in the plan", "line 4: round 0 of kind c submitted z to pool p as job 0, which belongs to no class of the plan"], []),
     ("a kind that no plan has", PLAN, ["round 0 begin d", "round 0 end"], ["line 3: kind d: not in the plan"], []),
     ("two at once", PLAN, ["round 0 begin c", "round 1 begin c", "round 0 end", "round 1 end"], ["line 4: kind c: 2 at once, count is 1"], []),
     ("two, one after the other", PLAN, round_of() + round_of(number=1), [], []),
@@ -101,7 +101,7 @@ ROWS = [
     ("the second path, where the first is submitted", TWO_PATHS.replace("submit a_2 as y", "submit a as y"),
      job_of_a(*submitted("job 0", 1), *submitted("job 0", 2), "job 0 got 2", "job 0 got 1"),
      ["line 4: round 0 of kind c submitted a to pool p; its body has no such submit at its begin"], []),
-    ("a refused submit", PLAN, round_of("round 0 submit 0 a p", "round 0 refused 0"), [], ["line 5: a yes is void from here on: job 0 of class a in pool p was refused"]),
+    ("a refused submit", PLAN, round_of("round 0 submit 0 a p", "round 0 refused 0"), [], ["line 5: the answer SAFE does not hold after this: job 0 of class a in pool p was refused"]),
     ("a timeout, and again", PLAN, round_of("round 0 submit 0 b p", "round 0 timeout 0", "job 0 start", "job 0 end", "round 0 got 0"), [], []),
     ("a timeout, and on", PLAN, round_of("round 0 submit 0 b p", "round 0 timeout 0"),
      ["line 6: round 0 of kind c ended without a get of job 0 of class b in pool p; its body has a get before its end"], []),
@@ -110,19 +110,19 @@ ROWS = [
     ("a job that the body never gets, and one that it gets", PLAN.replace('"submit a as x", "get x"', '"submit a"'), round_of("round 0 submit 0 a p", "round 0 submit 1 b p"),
      ["line 6: round 0 of kind c ended without a get of job 1 of class b in pool p; its body has a get before its end"], []),
     ("a timeout whose path is there", PLAN.replace(', "get y"', ""), round_of("round 0 submit 0 b p", "round 0 timeout 0"), [], []),
-    ("a cancel", PLAN, round_of("round 0 submit 0 b p", "round 0 cancel 0", "round 0 got 0"), [], ["line 5: a yes is void from here on: job 0 of class b in pool p was cancelled"]),
+    ("a cancel", PLAN, round_of("round 0 submit 0 b p", "round 0 cancel 0", "round 0 got 0"), [], ["line 5: the answer SAFE does not hold after this: job 0 of class b in pool p was cancelled"]),
     ("a job that threw", PLAN.replace(', "get y"', ""), round_of("round 0 submit 0 b p", "job 0 start", "job 0 threw"), [],
-     ["line 6: a yes is void from here on: job 0 of class b in pool p threw an exception"]),
-    ("a call of invokeAny", PLAN, round_of("round 0 any p"), [], ["line 4: a yes is void from here on: round 0 of kind c called invokeAny in pool p"]),
+     ["line 6: the answer SAFE does not hold after this: job 0 of class b in pool p threw an exception"]),
+    ("a call of invokeAny", PLAN, round_of("round 0 any p"), [], ["line 4: the answer SAFE does not hold after this: round 0 of kind c called invokeAny in pool p"]),
     ("a job that is removed", PLAN.replace(', "get y"', ""), round_of("round 0 submit 0 b p", "removed 0"), [],
-     ["line 5: a yes is void from here on: job 0 of class b in pool p was removed from its queue"]),
-    ("jobs that nobody recorded", PLAN, ["unseen p 3"], [], ["line 3: a yes is void from here on: 3 jobs were run in pool p that no line mentions"]),
+     ["line 5: the answer SAFE does not hold after this: job 0 of class b in pool p was removed from its queue"]),
+    ("jobs that nobody recorded", PLAN, ["unseen p 3"], [], ["line 3: the answer SAFE does not hold after this: 3 jobs were run in pool p that no line mentions"]),
     ("another one's refused job", PLAN.replace("count = 1", "count = 2"),
      ["round 0 begin c", "round 0 submit 0 b p", "round 0 refused 0", "job 0 start", "job 0 end", *round_of("round 1 got 0", number=1), "round 0 end"],
-     ["line 9: round 1 of kind c got job 0 of class b in pool p, which it did not submit"], ["line 5: a yes is void from here on: job 0 of class b in pool p was refused"]),
+     ["line 9: round 1 of kind c got job 0 of class b in pool p, which it did not submit"], ["line 5: the answer SAFE does not hold after this: job 0 of class b in pool p was refused"]),
     ("a refused job that its submitter got, and then another one", PLAN.replace("count = 1", "count = 2"),
      ["round 0 begin c", "round 0 submit 0 b p", "round 0 refused 0", "job 0 start", "job 0 end", "round 0 got 0", *round_of("round 1 got 0", number=1), "round 0 end"],
-     [], ["line 5: a yes is void from here on: job 0 of class b in pool p was refused"]),
+     [], ["line 5: the answer SAFE does not hold after this: job 0 of class b in pool p was refused"]),
     ("another size", PLAN, [POOL.replace("max 1", "max 2")], ["line 3: pool p: max 2, plan 1"], []),
     ("another size, and one more later", PLAN, [POOL.replace("max 1", max) for max in ("max 2", "max 2", "max 3", "max 2")],
      ["line 3: pool p: max 2, plan 1", "line 5: pool p: max 3, plan 1"], []),
@@ -202,7 +202,7 @@ def wrong_learned_rows():
             continue
         rows += 1
         head = plan.partition("\n\n")[0].splitlines()
-        comments = [line.removeprefix("# ") for line in head[2:] if not line.startswith(("# Not at their ends yet.", "# Pool "))]
+        comments = [line.removeprefix("# ") for line in head[2:] if not line.startswith(("# Unfinished.", "# Pool "))]
         found = compared(plan, recording)
         if found != comments:
             wrong.append(f"conform, row {name}: {found}, but the comments of the learned plan are {comments}")

@@ -21,7 +21,7 @@ from services import IN_BODY, VOID, VOIDS, deviations, other_plans, plan_of, put
 from small_plans import Plan, text_of
 
 SERVICES = [name for name in VOIDS if name != "example"]
-HEAD = re.compile(r"# Learned from a recording\. Rounds: (\d+)\. Jobs: (\d+)\.\n# What was not taken is not here: .*\n(?:# Not at their ends yet\. .*\n)?")
+HEAD = re.compile(r"# Learned from a recording\. Rounds: (\d+)\. Jobs: (\d+)\.\n# Paths, classes, kinds and pools that this run did not use are missing\. .*\n(?:# Unfinished\. .*\n)?")
 # The line of a pool. It has no maximum if the queue is unbounded.
 POOL = re.compile(r"pool (\w+): core (\d+)(?: \(now \d+\))?(?:, max (\d+)(?: \(now \d+\))?, queue (\d+)(?: \(now \d+\))?|, queue unbounded)")
 ROUNDS = 1000
@@ -43,8 +43,8 @@ GETS_LEFT_OUT = 10
 # The plans for which no sizes exist if all clients repeat, derived by hand: no thread waits for a letter of `orders`, or for some of the
 # hurried prices. In the services each buyer and each hurried client has one round, so there are sizes for all plans.
 NEVER_GOT = {
-    "orders": r"no fitting sizes found class reserve action 0: submits for ever, never got",
-    "hurried-prices": r"no fitting sizes found client hurried action \d: submits for ever, never got",
+    "orders": r"no fitting sizes found class reserve action 0: submits without end, and no get waits for these jobs",
+    "hurried-prices": r"no fitting sizes found client hurried action \d: submits without end, and no get waits for these jobs",
 }
 # The ending of the witness, derived by hand, if `fit` starts from sizes of 1 and the first size that is needed is lowered by one. Only the
 # services of this table are run with sizes of `fit`: no size of `spring-boot` is needed, since no job gets a job of its own pool.

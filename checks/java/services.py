@@ -30,7 +30,7 @@ VOIDS = {
     "fixed-pools": [],
     "spring-boot": [],
 }
-VOID = r"^line \d+: a yes is void from here on: "
+VOID = r"^line \d+: the answer SAFE does not hold after this: "
 RUNS = 4
 FIRST_PARTS = 10
 # The maximum number of lines of a recording from which lines are removed one at a time.

@@ -150,8 +150,8 @@ these maximums no smaller queue; another certificate may need less.
 
 Otherwise the answer is `no fitting sizes found`, and the reason:
   class NAME submits itself
-  client NAME action I: submits for ever, never got
-  class NAME action I: submits for ever, never got
+  client NAME action I: submits without end, and no get waits for these jobs
+  class NAME action I: submits without end, and no get waits for these jobs
   pool NAME: its last thread may wait for a job of this pool, since core threads may time out
   pool NAME: sizes above 1000000
 With the first four, no sizes have a certificate. With the fifth the search reached the limit for a
@@ -278,7 +278,7 @@ It answers, with status 0:
 
 SAFE
 pages: 1 thread, queue 2: up to 2 jobs wait at once (2 browser)
-  pages waits for nobody
+  pages waits for no pool
 no submit is ever refused, and no jobs wait for each other forever",
 };
 
@@ -301,14 +301,14 @@ other runs of the service. Otherwise the answer lists the first difference of ea
   line 903: kind tomcat: 31 at once, count is 30
   line 3: pool db: max 20, plan 10
 and the first line of each kind that invalidates the answer of `ask` for this service:
-  line 40: a yes is void from here on: job 3 of class price in pool db was refused
+  line 40: the answer SAFE does not hold after this: job 3 of class price in pool db was refused
 For each pool that rejected jobs, as its handler may by the plan, the answer ends with their number:
   pool q rejected 3 jobs, as the plan allows
 
 Exit status:
   0  the recording conforms
   1  it does not, or a line invalidates the answer of `ask`
-  4  not decided: a job may be of several classes that a body submits
+  4  not decided: a job may belong to several classes that a body submits
   2 or 3 after an error (see `sizing --help`)",
 };
 

@@ -78,13 +78,13 @@ event_text (event.AnyInvoked actor) name pool = short_actor_text actor name ++ (
 event_text (event.Unseen jobs) name pool = decimal jobs ++ codes " jobs were run in pool " ++ pool ++ codes " that no line mentions"
 
 abbrev pub invalidation_text : Invalidation → ActorLabel → List ℕ
-invalidation_text invalidation name = codes "a yes is void from here on: " ++ event_text invalidation.event (string_bytes name.name) (string_bytes name.pool)
+invalidation_text invalidation name = codes "the answer SAFE does not hold after this: " ++ event_text invalidation.event (string_bytes name.name) (string_bytes name.pool)
 
 abbrev pub found_text : Plan → Finding → List ℕ
 found_text plan (finding.Pool deviation) = deviation_text plan deviation
 found_text plan (finding.NotPlanned name) = not_planned_text name
 found_text plan (finding.PathMismatch line mismatch) = mismatch_text plan mismatch
-found_text plan (finding.NotDecided actor name) = label_text actor name ++ codes ": not decided, it submitted a job that may be of several classes of its body"
+found_text plan (finding.NotDecided actor name) = label_text actor name ++ codes ": not decided: a job that it submitted may belong to several classes of its body"
 found_text plan (finding.TooMany excess) = kind_excess_text plan excess
 found_text plan (finding.ForeignGet get name job) = foreign_get_text get name job
 found_text plan (finding.Invalidation invalidation name) = invalidation_text invalidation name

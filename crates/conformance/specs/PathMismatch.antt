@@ -70,7 +70,7 @@ abbrev pub cause_text : ℕ → List ℕ
 cause_text job = codes " as job " ++ decimal job ++ codes ", whose own path matches no such class"
 
 abbrev pub unplanned_job_text : ℕ → List ℕ
-unplanned_job_text job = codes " as job " ++ decimal job ++ codes ", which is of no class of the plan"
+unplanned_job_text job = codes " as job " ++ decimal job ++ codes ", which belongs to no class of the plan"
 
 abbrev pub position_text : Option NamedStep → List ℕ
 position_text None = codes " at its begin"

@@ -45,7 +45,7 @@ pub fn push_finding(text: &mut String, plan: &Plan, finding: &Finding) -> Result
         Finding::NotDecided { actor, label } => {
             push_actor(text, *actor, label)?;
             text.push_str(
-                ": not decided, it submitted a job that may be of several classes of its body",
+                ": not decided: a job that it submitted may belong to several classes of its body",
             )
         }
         Finding::TooMany(excess) => push_excess(text, plan, *excess),
@@ -153,7 +153,7 @@ fn push_invalidation(
 ) -> Result<(), AllocError>
     ensures { Pushes result text.old text.new (spec.invalidation_text invalidation label.now) }
 {
-    text.push_str("a yes is void from here on: ")?;
+    text.push_str("the answer SAFE does not hold after this: ")?;
     push_event(text, invalidation.event, &label.name, &label.pool)
 }
 

@@ -315,7 +315,7 @@ fn push_cause(text: &mut String, job: usize) -> Result<(), AllocError>
 fn push_unplanned_job(text: &mut String, job: usize) -> Result<(), AllocError>
     ensures { Pushes result text.old text.new (spec.unplanned_job_text job) }
 {
-    write!(text, " as job {job}, which is of no class of the plan")
+    write!(text, " as job {job}, which belongs to no class of the plan")
 }
 
 fn push_position(text: &mut String, after: &Option<NamedStep>) -> Result<(), AllocError>

@@ -11,7 +11,7 @@ use Rattle.report.specs.Sizes.{both_pools}
 -- the reason for this core size: up to `core` - 1 jobs of the pool may wait for jobs at once, and one more thread is left
 abbrev pub core_line : List ℕ → ℕ → List ℕ
 core_line name core =
-    name ++ (codes ": up to " ++ (decimal (core - 1) ++ (codes " of its jobs may wait for jobs at once, and core " ++ (decimal core ++ (codes " leaves a thread" ++ 10 ∷ [])))))
+    name ++ (codes ": up to " ++ (decimal (core - 1) ++ (codes " of its jobs may wait for other jobs at once, and core " ++ (decimal core ++ (codes " leaves a thread" ++ 10 ∷ [])))))
 
 -- the reason for the core size that was found; empty if the core size does not change
 abbrev pub core_reason : Pool → Pool → List ℕ
@@ -31,7 +31,7 @@ reasons_text declared fit = flat_map pool_reasons (both_pools declared fit)
 
 -- the advice for jobs that are never got
 abbrev pub not_got_text : List ℕ
-not_got_text = codes "no certificate accepts any sizes while nobody waits for these jobs: get the result, or bound them by permits (docs/PERMITS.md)" ++ 10 ∷ []
+not_got_text = codes "no certificate accepts any sizes as long as these jobs are never got: get the result, or bound them by permits (docs/PERMITS.md)" ++ 10 ∷ []
 
 -- the advice for a pool whose last thread can wait for a job of the same pool, because its core threads may time out
 abbrev pub core_timeout_text : List ℕ

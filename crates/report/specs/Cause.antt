@@ -12,7 +12,7 @@ circle_words name = codes "class " ++ name ++ codes " submits itself"
 
 -- the words for a submit that is repeated without limit and whose jobs are never got
 abbrev pub never_got_words : List ℕ → List ℕ → ℕ → List ℕ
-never_got_words kind name action = kind ++ (codes " " ++ (name ++ (codes " action " ++ (decimal action ++ codes ": submits for ever, never got"))))
+never_got_words kind name action = kind ++ (codes " " ++ (name ++ (codes " action " ++ (decimal action ++ codes ": submits without end, and no get waits for these jobs"))))
 
 -- the words for a pool whose sizes are above the limit
 abbrev pub above_words : List ℕ → List ℕ

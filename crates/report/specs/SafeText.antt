@@ -129,23 +129,23 @@ bound_line plan p pool rejection bound = pool.name ++ codes ": " ++ threads_text
 abbrev pub waited_name : Plan → ℕ → ℕ × Pool → List (List ℕ)
 waited_name plan p (q, pool) = if waits_for plan p q then pool.name ∷ [] else []
 
-abbrev pub or_nobody : List (List ℕ) → List ℕ
-or_nobody [] = codes "nobody"
-or_nobody (name ∷ names) = separated (name ∷ names)
+abbrev pub or_no_pool : List (List ℕ) → List ℕ
+or_no_pool [] = codes "no pool"
+or_no_pool (name ∷ names) = separated (name ∷ names)
 
 -- the names of the pools that jobs of pool p wait for
 abbrev pub waited_names : Plan → ℕ → List (List ℕ)
 waited_names plan p = flat_map (waited_name plan p) (enumerate_from 0 plan.pools)
 
 abbrev pub waited_text : Plan → ℕ → List ℕ
-waited_text plan p = or_nobody (waited_names plan p)
+waited_text plan p = or_no_pool (waited_names plan p)
 
 -- the maximum number n of core threads that wait at counted gets at once, and the number of the others; empty if n is 0
 abbrev pub waiting_text : Pool → ℕ → List ℕ
 waiting_text pool n =
     if n == 0
     then []
-    else codes ": at most " ++ (decimal n ++ (codes " of its " ++ (decimal pool.core ++ (codes " core threads at once where others must go on, " ++ (decimal (pool.core - n) ++ codes " left")))))
+    else codes ": at most " ++ (decimal n ++ (codes " of its " ++ (decimal pool.core ++ (codes " core threads wait at once where other jobs need a thread, " ++ (decimal (pool.core - n) ++ codes " left")))))
 
 -- the text about core threads that wait at counted gets, for the total of the vector `blocked`; empty if it does not fit the plan
 abbrev pub left_text : Plan → Pool → Vector → List ℕ

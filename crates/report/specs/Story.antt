@@ -214,7 +214,7 @@ abbrev pub awaited_text : Plan → ℕ → ℕ → ℕ → ℕ → List ℕ
 awaited_text plan j k k' child = ((job_text plan j k ++ codes " waits for ") ++ job_text plan child k') ++ 10 ∷ []
 
 abbrev pub in_queue_of : List ℕ → List ℕ
-in_queue_of pool = codes " waits in the queue of " ++ (pool ++ (codes ", whose threads all run jobs of these" ++ 10 ∷ []))
+in_queue_of pool = codes " waits in the queue of " ++ (pool ++ (codes ", whose threads all run these jobs" ++ 10 ∷ []))
 
 abbrev pub queued_text : Plan → ℕ → ℕ → List ℕ
 queued_text plan j k = job_text plan j k ++ in_queue_of (pool_name plan k)

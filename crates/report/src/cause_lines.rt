@@ -66,7 +66,7 @@ fn push_never_got(
 {
     write!(
         text,
-        "{kind} {name} action {action}: submits for ever, never got"
+        "{kind} {name} action {action}: submits without end, and no get waits for these jobs"
     )
 }
 

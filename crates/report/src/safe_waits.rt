@@ -61,11 +61,11 @@ fn push_waiting(text: &mut String, pool: &Pool, most: u64) -> Result<(), AllocEr
     let left = core.saturating_sub(most);
     write!(
         text,
-        ": at most {most} of its {core} core threads at once where others must go on, {left} left"
+        ": at most {most} of its {core} core threads wait at once where other jobs need a thread, {left} left"
     )
 }
 
-/// Appends the names of the pools for which jobs of this pool wait. Appends `nobody` if there are
+/// Appends the names of the pools for which jobs of this pool wait. Appends `no pool` if there are
 /// no such pools.
 fn push_waited(
     alloc: Global,
@@ -77,7 +77,7 @@ fn push_waited(
 {
     let names = waited_names(alloc, plan, number)?;
     if names.is_empty() {
-        return text.push_str("nobody");
+        return text.push_str("no pool");
     }
     push_separated(alloc, text, &names)
 }

@@ -94,7 +94,7 @@ fn push_in_queue(text: &mut String, pool: &str) -> Result<(), AllocError>
 {
     writeln!(
         text,
-        " waits in the queue of {pool}, whose threads all run jobs of these"
+        " waits in the queue of {pool}, whose threads all run these jobs"
     )
 }
 

@@ -56,7 +56,7 @@ fn push_core_line(text: &mut String, name: &str, core: u64) -> Result<(), AllocE
     let most = core.saturating_sub(1);
     writeln!(
         text,
-        "{name}: up to {most} of its jobs may wait for jobs at once, and core {core} leaves a thread"
+        "{name}: up to {most} of its jobs may wait for other jobs at once, and core {core} leaves a thread"
     )
 }
 
@@ -83,7 +83,7 @@ fn push_advice_for_cause(text: &mut String, cause: NoSizes) -> Result<(), AllocE
             "no certificate accepts any sizes while jobs submit jobs of their own class: write the levels as classes of their own\n",
         ),
         NoSizes::Cause(Cause::ClientNeverGets(_, _) | Cause::ClassNeverGets(_, _)) => text.push_str(
-            "no certificate accepts any sizes while nobody waits for these jobs: get the result, or bound them by permits (docs/PERMITS.md)\n",
+            "no certificate accepts any sizes as long as these jobs are never got: get the result, or bound them by permits (docs/PERMITS.md)\n",
         ),
         NoSizes::Cause(Cause::PoolWaitsForItself(_)) => text.push_str(
             "no certificate accepts any sizes while core threads of this pool may time out: do not allow it (Spring Boot: spring.task.execution.pool.allow-core-thread-timeout=false), or give the inner jobs a pool of their own\n",

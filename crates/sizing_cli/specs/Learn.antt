@@ -37,19 +37,19 @@ extent_comment rounds jobs = codes "# Learned from a recording. Rounds: " ++ (de
 
 -- the comment that says what a recording cannot show
 abbrev pub not_taken_comment : List ℕ
-not_taken_comment = codes "# What was not taken is not here: another path, class, kind or pool. Each count is what was seen at once." ++ 10 ∷ []
+not_taken_comment = codes "# Paths, classes, kinds and pools that this run did not use are missing. Each count is the most that were open at once." ++ 10 ∷ []
 
 -- the comment with the numbers of unfinished rounds and jobs; empty if there are none
 abbrev pub unfinished_comment : ℕ → ℕ → List ℕ
 unfinished_comment rounds jobs =
     if nat_eq rounds 0 && nat_eq jobs 0 then [] else
-    (codes "# Not at their ends yet. Rounds: " ++ (decimal rounds ++ (codes ". Jobs: " ++ (decimal jobs ++ (codes ". What they wait for, and what comes behind it, is not here." ++ 10 ∷ [])))))
+    (codes "# Unfinished. Rounds: " ++ (decimal rounds ++ (codes ". Jobs: " ++ (decimal jobs ++ (codes ". Their bodies lack the gets that these wait for, and all later actions." ++ 10 ∷ [])))))
 
 -- the comment with the number of gets that timed out or were interrupted; empty if there are none
 abbrev pub failed_gets_comment : ℕ → List ℕ
 failed_gets_comment gets =
     if nat_eq gets 0 then [] else
-    (codes "# Gets that timed out or were interrupted: " ++ (decimal gets ++ (codes ". A body has only those that returned later." ++ 10 ∷ [])))
+    (codes "# Gets that timed out or were interrupted: " ++ (decimal gets ++ (codes ". A body has such a get only if a later get of the same job returned." ++ 10 ∷ [])))
 
 -- The comment for a pool that may reject jobs. It has the number of jobs that the pool rejected. If the pool rejected none, it
 -- says that the pool has a SynchronousQueue.

@@ -191,7 +191,7 @@ fn push_head(text: &mut String, seen: &InferredPlan) -> Result<(), AllocError>
 {
     push_extent(text, seen.rounds, seen.jobs)?;
     text.push_str(
-        "# What was not taken is not here: another path, class, kind or pool. Each count is what was seen at once.\n",
+        "# Paths, classes, kinds and pools that this run did not use are missing. Each count is the most that were open at once.\n",
     )?;
     push_unfinished(text, seen.unfinished_rounds, seen.unfinished_jobs)?;
     push_failed_gets(text, seen.failed_gets)
@@ -217,7 +217,7 @@ fn push_unfinished(text: &mut String, rounds: usize, jobs: usize) -> Result<(), 
     }
     write!(
         text,
-        "# Not at their ends yet. Rounds: {rounds}. Jobs: {jobs}. What they wait for, and what comes behind it, is not here.\n"
+        "# Unfinished. Rounds: {rounds}. Jobs: {jobs}. Their bodies lack the gets that these wait for, and all later actions.\n"
     )
 }
 
@@ -231,7 +231,7 @@ fn push_failed_gets(text: &mut String, gets: usize) -> Result<(), AllocError>
     }
     write!(
         text,
-        "# Gets that timed out or were interrupted: {gets}. A body has only those that returned later.\n"
+        "# Gets that timed out or were interrupted: {gets}. A body has such a get only if a later get of the same job returned.\n"
     )
 }
 

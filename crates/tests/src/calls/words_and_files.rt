@@ -97,7 +97,7 @@ const CERT_FOUND: &str =
     "{\"pools\":[{\"blocked\":{\"classes\":[[0,0,0,0]],\"clients\":[[0,0,0]],\"workers\":[0]},\"standing\":{\"classes\":[[1,1,1,1]],\"clients\":[[1,0,1]],\"workers\":[0]}}],\"ranks\":{\"levels\":[0],\"pools\":[0],\"reach\":[0]},\"version\":1}\n";
 
 const ASKED: &str =
-    "SAFE\np: 1 thread, queue 2: up to 2 jobs wait at once (2 c)\n  p waits for nobody\nno submit is ever refused, and no jobs wait for each other forever\n";
+    "SAFE\np: 1 thread, queue 2: up to 2 jobs wait at once (2 c)\n  p waits for no pool\nno submit is ever refused, and no jobs wait for each other forever\n";
 
 const YES: &str = "yes\npool p: standing 2 of 2, blocked 0 of 0\n";
 

@@ -14,5 +14,5 @@ returns c =
     let done = subst (λ (p : List ℕ). Pushes c.push_event.result c.push_str.new.self c.push_event.new.text (event_text event name p)) c.deref-2.ensures
     (subst (λ (n : List ℕ). Pushes c.push_event.result c.push_str.new.self c.push_event.new.text (event_text event n c.deref-2.result.now)) c.deref.ensures c.push_event.ensures) in
     on_ok_weaker c.push_event.result
-    (λ h. h ∙ (ap (λ (xs : List ℕ). xs ++ event_text event name pool) c.in_ok-push_str.ensures.bytes ∙ append_assoc (string_bytes a.text.now) (codes "a yes is void from here on: ") (event_text event name pool)))
+    (λ h. h ∙ (ap (λ (xs : List ℕ). xs ++ event_text event name pool) c.in_ok-push_str.ensures.bytes ∙ append_assoc (string_bytes a.text.now) (codes "the answer SAFE does not hold after this: ") (event_text event name pool)))
     done
