@@ -278,8 +278,8 @@ impl ActorClassifier {
     }
 }
 
-/// The progress of an ended actor: the length of the prefix of its path in which all jobs are
-/// settled, and whether this prefix is the whole path.
+/// The progress of an ended actor. `known` is the length of a prefix of the actor's path. All jobs
+/// that this prefix submits are settled. `is_ready` is true if the prefix is the whole path.
 #[derive(Clone, Copy)]
 struct Progress {
     known: usize,

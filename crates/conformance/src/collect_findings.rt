@@ -350,9 +350,12 @@ fn push_event(
     Ok(())
 }
 
-/// Returns the class and the pool of the event's job. For a call of `invokeAny`, returns the class
-/// or kind of the caller, and the pool of the first such call. For jobs that no line submits,
-/// returns an empty name and the pool of the first line that reports such jobs.
+/// Returns the class and the pool of the event's job. Two types of events are exceptions:
+///
+/// - For a call of `invokeAny`, returns the class or kind of the caller, and the pool of the first
+///   such call.
+/// - For jobs that no line submits, returns an empty name, and the pool of the first line that
+///   reports such jobs.
 fn subject_of(
     alloc: Global,
     recording: &[u8],

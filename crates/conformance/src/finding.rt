@@ -32,9 +32,9 @@ pub enum Finding {
         line: Option<usize>,
         mismatch: PathMismatch,
     },
-    /// An actor for which it is undecided which bodies of its label the path matches. It is the
-    /// first such actor of the label, by number. The comparison has no complete result for this
-    /// label. A label is a class with its pool, or a client kind.
+    /// An actor with an undecided match: it is unknown which bodies of the actor's label the path
+    /// matches. It is the first such actor of the label, by number. The comparison has no complete
+    /// result for this label. A label is a class with its pool, or a client kind.
     NotDecided {
         actor: RecordedActor,
         label: ActorLabel,
