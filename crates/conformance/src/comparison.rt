@@ -62,7 +62,8 @@ pub enum Conformance {
 /// - for each client kind, the first line at which the kind has more rounds than the plan allows.
 ///   Each round is counted for the first kind that it can belong to. A round with an undecided kind
 ///   is not counted;
-/// - the first line in which an actor gets a job that another actor submitted and has not got yet;
+/// - the first foreign get: a line in which an actor gets a job that another actor submitted, and
+///   the submitter has not got the job in an earlier line;
 /// - for each type of event that invalidates a SAFE answer independently of the paths, the first
 ///   line with such an event. A rejection that the plan allows is not such an event.
 ///

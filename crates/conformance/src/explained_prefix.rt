@@ -26,8 +26,8 @@ pub struct ExplainedPrefix {
     pub missing: Option<usize>,
 }
 
-/// Returns the longer of two prefixes. If both have the same length, returns `one` if it has an
-/// `excess`, and `other` if not.
+/// Returns the longer of two prefixes. For equal lengths, returns `one` if its `excess` is not
+/// `None`, and `other` otherwise.
 pub(crate) fn longer(one: ExplainedPrefix, other: ExplainedPrefix) -> ExplainedPrefix
     ensures { result ≡ spec.longer one other }
 {

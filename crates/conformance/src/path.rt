@@ -25,8 +25,8 @@ use std::alloc::{AllocError, Global};
 /// - At each moment, for each class, the path has at most as many open jobs as the body.
 /// - Each submit of the path is made at the same time as a submit of the same class in the body.
 ///   The body may have more submits.
-/// - The path may get its jobs in any order, and earlier than the body. A job may get only jobs of
-///   classes that its body still gets.
+/// - The path may get its jobs in any order, and earlier than the body. If the actor is a job, it
+///   may get only jobs of classes that its body still gets.
 /// - If `path_state` is [`PathState::Whole`], the walk can reach the end of the body.
 ///
 /// A job of the path may belong to several classes that the body submits. Then three ways are tried

@@ -77,8 +77,8 @@ fn fits_max(pool: &Pool, recorded: u64) -> bool
     !uses_max(pool) || is_planned_max(pool, recorded)
 }
 
-/// Returns true if the maximum of the plan's pool has an effect: its queue is bounded, or its core
-/// threads may time out.
+/// Returns true if the maximum of the plan's pool has an effect: the pool has a bounded queue, or
+/// its core threads may time out.
 fn uses_max(pool: &Pool) -> bool
     ensures { result ≡ spec.uses_max pool.now }
 {
