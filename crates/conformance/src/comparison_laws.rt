@@ -1,5 +1,5 @@
-//! Laws about the comparisons of pools and rounds, and about rejections. Each law is the contract of
-//! a function with an empty body.
+//! Laws about the comparisons of pools and rounds, and about rejections. Each law is the contract
+//! of a function with an empty body.
 
 ghost use Rattle.conformance.specs.ComparisonLaws.{DeviationsAddUp, ExcessesAddUp, PoolsAreAsPlanned, PoolsAreRecorded, RoundsAreWithinPlan};
 ghost use Rattle.conformance.specs.RejectionLaws.{RejectionsNeedTheKey, UnboundedPoolsGetNoKey, UnboundedPoolsRejectNothing, WithoutTheKeyAllCount};

@@ -10,7 +10,7 @@ use job_bodies::{Plan, Pool};
 use std::alloc::{AllocError, Global};
 
 /// Returns a copy of the plan with new values of the key `may_reject`. Nothing else changes. In the
-/// copy, a pool may reject jobs only in these cases:
+/// copy, a pool may reject jobs in each of these cases, and in no other case:
 ///
 /// - The pool rejects jobs in the recording.
 /// - The pool has a queue of 0.
