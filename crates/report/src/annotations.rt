@@ -1,5 +1,6 @@
-//! The annotations of an answer: its faults, or its warnings and the finding. An annotation is a
-//! remark about the plan's file, or about a place in it.
+//! The annotations of an answer. An annotation is a remark about the plan's file, or about a place
+//! in it. If the plan's text has faults, the annotations are about these faults. Otherwise they are
+//! about the warnings and the finding.
 
 ghost use Rattle.std.specs.Prelude.{◌≡◌, ◌∷◌, ◌++◌, [], IfOk, string_bytes};
 ghost use Rattle.report.specs.Annotations.{Adds, remarks_in};

@@ -1,5 +1,5 @@
-//! The events of a witness: who acts in each of them, and what it does. A witness is a list of
-//! events after which a submit is refused or jobs wait only for each other.
+//! The events of a witness: the actor of each event, and what this actor does. A witness is a list
+//! of events after which a submit is refused or jobs wait only for each other.
 
 ghost use Rattle.std.specs.Prelude.{◌≡◌, IfOk};
 ghost use Rattle.job_bodies.specs.WellFormed.{IsWellFormed};

@@ -151,7 +151,7 @@ fn answer_value(
 
 /// Returns the JSON text of the answer `FAULTS`. `faults` lists the faults that are reported, and
 /// `omitted` is the number of those that are left out. `file` is the name of the plan's file, and
-/// `text` its content.
+/// `text` is the content of this file.
 fn faulty_line(
     alloc: Global,
     file: &str,

@@ -48,8 +48,8 @@ pub(crate) fn pool_places_at(pools: &[PoolPlaces], pool: usize) -> PoolPlaces
     }
 }
 
-/// Returns the place of the name of the class or client kind at this index, or `None` if the place
-/// is not known.
+/// Returns the place of the name of a class or client kind, or `None` if the place is not known.
+/// `index` is the index of this class or client kind.
 pub(crate) fn name_place(bodies: &[BodyPlaces], index: usize) -> Option<TextPlace>
     ensures { result ≡ spec.name_place bodies.now index }
 {
