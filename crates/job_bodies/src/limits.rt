@@ -19,7 +19,7 @@ pub const MAX_ACTIONS: usize = 256;
 /// pool, and the count of a client kind. The minimum is 1. A queue capacity can also be 0 if the
 /// pool may reject jobs.
 pub const MAX_SIZE: u64 = 1_000_000;
-/// The maximum of a pool that has no maximum of its own: 2^28 - 1. The queue of such a pool is
+/// The `max` of a pool if its plan sets no maximum: 2^28 - 1. The queue of such a pool is
 /// unbounded, and its core threads may time out. No system has room for that many threads. Java's
 /// `ThreadPoolExecutor` allows them: it packs the number of its threads in 29 bits.
 pub const MAX_THREADS: u64 = 268_435_455;

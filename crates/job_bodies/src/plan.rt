@@ -19,15 +19,16 @@ use std::marker::Model;
 /// and at least the core size, and the capacity is at least 1. There are these differences:
 ///
 /// - The core size is at least 1.
-/// - No size is above [`MAX_SIZE`], with one exception. The maximum of a pool [without a maximum of
-///   its own](Pool::has_no_max) is [`MAX_THREADS`].
+/// - No size is above [`MAX_SIZE`], with one exception. If the pool [has no maximum of its
+///   own](Pool::has_no_max), its `max` is [`MAX_THREADS`].
 /// - If `may_reject` is true, the capacity can also be 0, that of a `SynchronousQueue`.
 #[derive(Debug, Drop)]
 pub struct Pool {
     /// The name of the pool, as plans and answers show it.
     pub name: String,
-    /// The core pool size in threads: from 1 to `max`. While the pool has fewer threads, each
-    /// submitted job starts one. The core threads never end, unless `core_timeout` is true.
+    /// The core pool size in threads: from 1 to `max`. While the pool has fewer threads than
+    /// `core`, each submitted job starts a thread. The core threads never end, unless
+    /// `core_timeout` is true.
     pub core: u64,
     /// The maximum pool size in threads: from `core` to 1,000,000, or [`MAX_THREADS`] if the pool
     /// [has no maximum of its own](Pool::has_no_max).
@@ -142,7 +143,7 @@ impl Model for Class {
     ghost view = { λ k. record { name = string_bytes k.name; pool = k.pool; body = k.body.items } };
 }
 
-/// A client kind. Clients are threads outside the pools that submit jobs to the pools.
+/// A client kind. Clients are threads outside the pools. They submit jobs to the pools.
 #[derive(Debug, Drop)]
 pub struct Client {
     /// The name of the client kind, as plans and answers show it.
