@@ -74,8 +74,9 @@ impl Model for Pool {
 impl Pool {
     /// Returns whether the sizes are in range:
     ///
-    /// - Core is from 1 to 1,000,000.
-    /// - The maximum is from core to 1,000,000, or the pool [has no maximum](Pool::has_no_max).
+    /// - The core size is from 1 to 1,000,000.
+    /// - The maximum is from the core size to 1,000,000, or the pool [has no
+    ///   maximum](Pool::has_no_max).
     /// - The queue is from its [least capacity](Pool::least_queue) to 1,000,000.
     pub fn has_valid_sizes(&self) -> bool
         ensures { result ≡ has_valid_sizes self.now }
@@ -198,8 +199,8 @@ impl Plan {
     /// 3. The values of each pool, then of each class, then of each client kind. An invalid name is
     ///    fault 6. The name of an earlier entry of the same list is fault 7. A size or a count out
     ///    of range is fault 8. A pool that does not exist is fault 9.
-    /// 4. Each action of each class, and then of each client kind. A number of units of work out of
-    ///    range is fault 8. A submit of a class that does not exist is fault 10. A get is fault 13
+    /// 4. Each action of each class, and then of each client kind. Units of work that are out of
+    ///    range are fault 8. A submit of a class that does not exist is fault 10. A get is fault 13
     ///    if it does not name an earlier submit, or if an earlier get names the same submit.
     pub fn build(
         _alloc: Global,

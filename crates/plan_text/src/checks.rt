@@ -14,9 +14,9 @@ use std::alloc::Global;
 use support::ReadError;
 use support::number::{BAD_NAME, BAD_NUMBER, DOUBLE_NAME, NO_SUCH_POOL};
 
-/// Adds a name to `names`, the list of the names of earlier entries. The name is that of the entry
-/// at `index` in the list for `part`. Returns a fault if the name is not valid, or if it is already
-/// in `names`.
+/// Adds a name to `names`, which has the names of the earlier entries. The name is that of the
+/// entry at `index` in the list for `part`. Returns a fault if the name is not valid, or if it is
+/// already in `names`.
 fn check_name<'a>(
     names: &mut Names<'a>,
     part: Part,
