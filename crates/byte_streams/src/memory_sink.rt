@@ -48,7 +48,7 @@ impl MemorySink {
         self
     }
 
-    /// Makes one call fail: the first call after the next `calls` calls.
+    /// Plans one failure: the next `calls` calls are not affected, and the call after them fails.
     pub fn failing_after(mut self, calls: u64) -> MemorySink
         ensures written { written_to result ≡ written_to self }
         ensures max_bytes { max_bytes_of result ≡ max_bytes_of self }

@@ -21,8 +21,8 @@ pub struct MemorySource<'a> {
 impl<'a> MemorySource<'a> {
     ghost use Rattle.byte_streams.specs.MemorySource.{left, max_bytes_of, calls_before_fault, failure_count};
 
-    /// Creates a source of `bytes` whose calls never fail. Each call returns as many of the
-    /// remaining bytes as fit into the slice that it fills.
+    /// Creates a source of `bytes`. Its calls never fail. A call fills the whole slice that it is
+    /// given, or only the start of the slice if fewer bytes remain.
     pub fn new(bytes: &'a [u8]) -> MemorySource<'a>
         ensures left { left result ≡ bytes.now }
         ensures max_bytes { max_bytes_of result ≡ 2 ^ 64 - 1 }
@@ -49,7 +49,7 @@ impl<'a> MemorySource<'a> {
         self
     }
 
-    /// Makes one call fail: the first call after the next `calls` calls.
+    /// Plans one failure: the next `calls` calls are not affected, and the call after them fails.
     pub fn failing_after(mut self, calls: u64) -> MemorySource<'a>
         ensures left { left result ≡ left self.entry }
         ensures max_bytes { max_bytes_of result ≡ max_bytes_of self.entry }

@@ -24,7 +24,8 @@ impl ScriptedFault {
         }
     }
 
-    /// Counts a call, and returns `true` if this call must fail. At most one call gets `true`.
+    /// Counts one call of the stream, and returns whether this call must fail. Returns `true` at
+    /// most once.
     pub(crate) fn is_due(&mut self) -> bool
         ensures due { IsTrue result ↔ (self.old.calls_before ≡ Some 0) }
         ensures left { self.new.calls_before ≡ calls_after self.old.calls_before }

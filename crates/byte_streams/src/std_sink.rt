@@ -8,8 +8,8 @@ use crate::std_source::TRIES;
 use crate::{IoFault, Sink};
 use std::io::{ErrorKind, Write};
 
-/// A sink that writes to a writer of type `W`. The contracts of the sink state which bytes were
-/// written if the contracts of `W` do.
+/// A sink that writes to a writer of type `W`. If the contracts of `W` say which bytes were
+/// written, the contracts of the sink say this too.
 #[derive(Drop)]
 pub struct StdSink<W> {
     writer: W,

@@ -7,12 +7,12 @@ use crate::failures::Failures;
 use crate::{IoFault, Source};
 use std::io::{ErrorKind, Read};
 
-/// The maximum number of times that a call of a std reader or writer is made if signals interrupt
-/// it.
+/// The maximum number of attempts for one call of a std reader or writer. A call is repeated if a
+/// signal interrupts it.
 pub(crate) const TRIES: u32 = 1_000_000;
 
-/// A source that reads from a reader of type `R`. The contracts of the source state which bytes
-/// remain if the contracts of `R` do.
+/// A source that reads from a reader of type `R`. If the contracts of `R` say which bytes remain,
+/// the contracts of the source say this too.
 #[derive(Drop)]
 pub struct StdSource<R> {
     reader: R,

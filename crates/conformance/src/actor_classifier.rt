@@ -36,8 +36,8 @@ use std::alloc::{AllocError, Global};
 /// settled job that an unsettled actor submitted.
 ///
 /// The path of an ended actor is scanned only once in total: each scan continues at the unsettled
-/// job that stopped the previous scan. No contract states the running time for a line. No contract
-/// states in which order the actors that become settled with the same line are reported.
+/// job that stopped the previous scan. No contract states the running time for a line. If several
+/// actors become settled with the same line, no contract states in which order they are reported.
 #[derive(Drop)]
 pub struct ActorClassifier {
     pub(crate) paths: Paths,
@@ -278,8 +278,8 @@ impl ActorClassifier {
     }
 }
 
-/// The progress of an ended actor: the length of the prefix of its path in which all jobs are
-/// settled, and whether this prefix is the whole path.
+/// The progress of an ended actor. `known` is the length of a prefix of the actor's path. All jobs
+/// that this prefix submits are settled. `is_ready` is true if the prefix is the whole path.
 #[derive(Clone, Copy)]
 struct Progress {
     known: usize,

@@ -162,8 +162,9 @@ impl ActorTable {
         kept.ended_path.as_ref()
     }
 
-    /// Sets how much of the path of an ended actor is settled: `known` is the length of a prefix in
-    /// which all jobs are settled. Does nothing if the actor has not ended or is not in the table.
+    /// Sets the settled part of an ended actor's path. `known` is the length of a prefix of the
+    /// path. All jobs that this prefix submits are settled. Does nothing if the actor has not ended
+    /// or is not in the table.
     pub(crate) fn advance(&mut self, actor: RecordedActor, known: usize)
         ensures later { (one : RecordedActor)
             → in_table self.new one

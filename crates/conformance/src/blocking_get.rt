@@ -1,5 +1,5 @@
-//! A search for the get that blocks a body before its next submit of a class, or before its end. A
-//! get blocks the body if the body may not pass it.
+//! A search for the get that blocks a body. A get blocks a body if the body may not pass the get.
+//! The search ends at the next submit of a class, or at the end of the body.
 
 ghost use Rattle.std.specs.Prelude.{◌≡◌, ◌+◌, ◌==◌, ◌&&◌, nat_lt, if◌then◌else◌, length};
 ghost use Rattle.conformance.specs.BlockingGet as spec;
@@ -8,25 +8,26 @@ use crate::body_gets::BodyGet;
 use crate::row::has_submit_at;
 use job_bodies::Action;
 
-/// The result of a search for a blocking get, up to an index of the body. The search starts anew at
-/// each index where the body can be. The way to an index has the actions since the last such index.
+/// The result of a search for a blocking get, up to an index of the body. The search covers the way
+/// to this index: the actions that lead to it from the last index where the body can be.
 #[derive(Clone, Copy)]
 enum Way {
     /// The body can be neither at this index nor at an earlier one.
     Unreached,
     /// The body may pass every get on the way to the index.
     Free,
-    /// The body may not pass some get on the way to the index. Consider the first such get, and the
-    /// later gets of its class on the way. The field is the one with the smallest limit.
+    /// At least one get on the way to the index blocks the body. The candidates are the first such
+    /// get, and all later gets of the same class on the way. The field is the candidate with the
+    /// smallest limit.
     Blocked(BodyGet),
 }
 
 /// Returns the get that blocks the body before its next submit of the class. Returns `None` if no
 /// get blocks the body.
 ///
-/// The way to the submit starts at the last index where the body can be. Consider the first get on
-/// the way that the body may not pass, and the later gets of its class on the way. The result is
-/// the one with the smallest limit.
+/// The way to the submit starts at the last index where the body can be. The candidates are the
+/// first get on the way that blocks the body, and all later gets of the same class on the way. The
+/// result is the candidate with the smallest limit.
 ///
 /// - `row` says for each index whether the body can be there.
 /// - `passes` says for each action whether the body may pass the action.
@@ -57,9 +58,9 @@ pub(crate) fn blocking_get(
 /// Returns the get that blocks the body before its end. Returns `None` if no get blocks the body,
 /// or if the body can be at no index.
 ///
-/// The way to the end starts at the last index where the body can be. Consider the first get on the
-/// way that the body may not pass, and the later gets of its class. The result is the one with the
-/// smallest limit.
+/// The way to the end starts at the last index where the body can be. The candidates are the first
+/// get on the way that blocks the body, and all later gets of the same class. The result is the
+/// candidate with the smallest limit.
 ///
 /// - `row` says for each index, and for the end, whether the body can be there.
 /// - `passes` says for each action whether the body may pass the action.
@@ -85,16 +86,17 @@ pub(crate) fn get_before_end(
     blocking_at(here, true)
 }
 
-/// Returns the [`Way`] to an index. This is [`Way::Free`] if the body can be at the index
-/// (`is_at`). Otherwise it is `before`, the way over the actions before the index.
+/// Returns the [`Way`] to an index. `is_at` says whether the body can be at the index. If so,
+/// returns [`Way::Free`]. Otherwise returns `before`, the result for the actions before the index.
 fn way_at(before: Way, is_at: bool) -> Way
     ensures { result ≡ spec.way_at before is_at }
 {
     if is_at { Way::Free } else { before }
 }
 
-/// Returns the get of [`Way::Blocked`] if the search ends here, and `None` in all other cases. The
-/// search ends at a submit of the class or at the end of the body, and then `is_submit` is true.
+/// Returns the get of [`Way::Blocked`] if the search ends at this index. Returns `None` if the
+/// search continues, or if no get blocks the body. `is_submit` says whether the search ends: the
+/// index has a submit of the class, or is the end of the body.
 fn blocking_at(way: Way, is_submit: bool) -> Option<BodyGet>
     ensures { result ≡ spec.blocking_at way is_submit }
 {

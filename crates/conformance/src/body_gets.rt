@@ -39,9 +39,9 @@ pub(crate) fn body_gets(alloc: Global, body: &[Action]) -> Result<Vec<Option<Bod
     Ok(gets)
 }
 
-/// Updates `jobs` for the action at this index of the body. `jobs` has the submits of the open
-/// jobs. A submit is added, and a get removes the submit of its job. Returns the action if it is a
-/// get, and `None` otherwise.
+/// Updates `jobs` for the action at this index of the body. `jobs` has the index of each submit
+/// whose job is open. A submit adds its own index. A get removes the index at which its job is
+/// submitted. Returns the get if the action is a get, and `None` otherwise.
 fn pass_action(
     body: &[Action],
     index: usize,
@@ -65,8 +65,8 @@ fn pass_action(
     }
 }
 
-/// Removes the submit at index `submit` of the body from `jobs`, which has the submits of the open
-/// jobs. Returns the get of the job of this submit.
+/// Removes `submit`, the index of a submit of the body, from `jobs`. `jobs` has the index of each
+/// submit whose job is open. Returns the get of this submit's job.
 fn pass_get(body: &[Action], submit: usize, jobs: &mut Vec<usize>) -> BodyGet
     ensures jobs { jobs.new.items ≡ filter (λ other. not (other == submit)) jobs.old.items }
     ensures class { result.class ≡ submitted_class body.now submit }
@@ -92,10 +92,13 @@ fn submitted_class(body: &[Action], submit: usize) -> usize
     }
 }
 
-/// Returns the first index of the body at which an actor of this kind may no longer get a job of
-/// the class. For a job, this is the index after the body's last get of the class, or 0 if there is
-/// no such get. For a round, it is greater than every index, because a round may get any of its
-/// jobs.
+/// Returns the index of the body at which the gets of the class end. At each smaller index, an
+/// actor of this kind may get a job of the class. At this index and later, the actor may not.
+///
+/// - For [`ActorKind::Job`], this is the index after the body's last get of the class, or 0 if
+///   there is no such get.
+/// - For [`ActorKind::Round`], this is greater than every index of the body, because a round may
+///   get any of its jobs.
 pub(crate) fn end_of_gets(kind: ActorKind, gets: &[Option<BodyGet>], class: usize) -> usize
     ensures { (body : List Action)
         → spec.AreGets body gets.now

@@ -7,8 +7,8 @@ ghost use Rattle.conformance.specs.Candidate.{IsCandidate, next_candidate, with_
 
 use job_bodies::Action;
 
-/// How many of the classes of a recorded job a body submits. The classes of a job are those that
-/// the job may belong to.
+/// The result of comparing a recorded job with a body: the body submits none, one or several of the
+/// job's classes. These are the classes that the job may belong to.
 #[derive(Clone, Copy)]
 pub(crate) enum Candidate {
     /// The body submits none of the job's classes.
@@ -31,8 +31,8 @@ pub(crate) fn candidate_of(body: &[Action], classes: &Vec<usize>) -> Candidate
     found
 }
 
-/// Returns the candidate after one more class of the job, `class`. `found` is the candidate for the
-/// classes before `class`.
+/// Returns the candidate for one more class of a job. `found` is the candidate for the job's
+/// classes before `class`. The result also counts `class` if the body submits jobs of this class.
 fn next_candidate(body: &[Action], found: Candidate, class: usize) -> Candidate
     ensures { result ≡ next_candidate body.now found class }
 {

@@ -264,8 +264,8 @@ fn push_invalidations(
     push_refusal(findings, alloc, recording, first_refusal_in(refusals))
 }
 
-/// Returns the first refusal in `refusals` that the plan does not allow. `refusals` is `None` for a
-/// plan in which no pool may reject jobs, and then the result is `None`, too.
+/// Returns the first refusal that the plan does not allow, or `None` if there is none. `refusals`
+/// is `None` if no pool of the plan may reject jobs.
 fn first_refusal_in(refusals: &Option<Rejections>) -> Option<Invalidation>
     ensures { result ≡ spec.first_refusal_in refusals.now }
 {
@@ -350,9 +350,12 @@ fn push_event(
     Ok(())
 }
 
-/// Returns the class and the pool of the event's job. For a call of `invokeAny`, returns the class
-/// or kind of the caller, and the pool of the first such call. For jobs that no line submits,
-/// returns an empty name and the pool of the first line that reports such jobs.
+/// Returns the class and the pool of the event's job. Two types of events are exceptions:
+///
+/// - For a call of `invokeAny`, returns the class or kind of the caller, and the pool of the first
+///   such call.
+/// - For jobs that no line submits, returns an empty name, and the pool of the first line that
+///   reports such jobs.
 fn subject_of(
     alloc: Global,
     recording: &[u8],
@@ -383,8 +386,8 @@ fn subject_of(
     }
 }
 
-/// Returns true if the event becomes a finding. A get that timed out or was interrupted does not. A
-/// refusal does not if `without_refusals` is true.
+/// Returns true if the event becomes a finding. Returns false for a get that timed out or was
+/// interrupted. If `without_refusals` is true, also returns false for a refusal.
 fn is_counted(without_refusals: bool, invalidation: Invalidation) -> bool
     ensures { result ≡ spec.is_counted without_refusals invalidation }
 {

@@ -56,31 +56,34 @@ pub enum Conformance {
 /// - every label that is not in the plan, with the first line that has the label;
 /// - for each label of the plan, the first actor, by number, with a path that matches no body. The
 ///   finding has the first step that no body explains, and the line of this step;
-/// - for each label of the plan, the first actor, by number, for which it is undecided which bodies
-///   its path matches. There is no such actor if each label is one class in each pool;
+/// - for each label of the plan, the first actor, by number, with an undecided match: it is unknown
+///   which bodies the path matches. There is no such actor if each label refers to at most one
+///   class in each pool;
 /// - for each client kind, the first line at which the kind has more rounds than the plan allows.
 ///   Each round is counted for the first kind that it can belong to. A round with an undecided kind
 ///   is not counted;
-/// - the first line in which an actor gets a job that another actor submitted and has not got yet;
-/// - for each event type that invalidates a SAFE answer, whatever the paths are, the first line
-///   with such an event. A rejection that the plan allows is not such an event.
+/// - the first foreign get: a line in which an actor gets a job that another actor submitted, and
+///   the submitter has not got the job in an earlier line;
+/// - for each type of event that invalidates a SAFE answer independently of the paths, the first
+///   line with such an event. A rejection that the plan allows is not such an event.
 ///
-/// The plan allows the rejection in a `refused` line if the pool of the job may reject jobs and has
-/// a bounded queue, and one of these holds:
+/// The plan allows no rejection by a pool that may not reject jobs or has an unbounded queue. For
+/// any other pool, the plan allows the rejection in a `refused` line if one of these conditions
+/// holds:
 ///
 /// - The handler is `abort` in each `pool` line of the pool.
-/// - The handler is `caller_runs` in each of these lines, and the job submits, gets and cancels no
-///   job and does not call `invokeAny`. If the recording has a `shutdown` of the pool, the job must
-///   also have a `start` line, and no `shutdown` of the pool may precede the `refused` line.
+/// - The handler is `caller_runs` in each of these lines. The job does not submit, get or cancel a
+///   job, and does not call `invokeAny`. If the recording has a `shutdown` of the pool, the job
+///   must also have a `start` line, and no `shutdown` of the pool may precede the `refused` line.
 /// - The handler is `discard` in each of these lines, and no body of the plan gets a job of the
 ///   pool.
 ///
-/// If no finding is about a label, a path or a number of rounds, all jobs and rounds behave as
-/// planned, even if there are other findings.
+/// Suppose that no finding is about a label, a path or a number of rounds. Then all jobs and rounds
+/// behave as planned, even if there are other findings.
 ///
-/// A get that timed out or was interrupted is not a finding. If the actor's path without this get
-/// matches a body, the get invalidates nothing. If it matches no body, the path is a mismatch like
-/// any other.
+/// A get that timed out or was interrupted is not a finding. Consider the actor's path without this
+/// get. If this path matches a body, the get invalidates nothing. Otherwise the path is a mismatch
+/// like any other.
 ///
 /// # Errors
 ///

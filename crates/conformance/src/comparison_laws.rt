@@ -1,5 +1,5 @@
-//! Laws about the comparisons of pools and rounds, and about rejections. Each law is the contract of
-//! a function with an empty body.
+//! Laws about the comparisons of pools and rounds, and about rejections. Each law is the contract
+//! of a function with an empty body.
 
 ghost use Rattle.conformance.specs.ComparisonLaws.{DeviationsAddUp, ExcessesAddUp, PoolsAreAsPlanned, PoolsAreRecorded, RoundsAreWithinPlan};
 ghost use Rattle.conformance.specs.RejectionLaws.{RejectionsNeedTheKey, UnboundedPoolsGetNoKey, UnboundedPoolsRejectNothing, WithoutTheKeyAllCount};
@@ -8,10 +8,11 @@ ghost use Rattle.conformance.specs.RejectionLaws.{RejectionsNeedTheKey, Unbounde
 /// of a plan:
 ///
 /// - One more line adds its own differences, and changes none of the earlier ones.
-/// - If no line has a difference, each recorded pool is in the plan and as planned in each of its
-///   lines. The number of prestarted threads is compared only in a pool's first line.
-/// - If the recording ends with `end`, and the comparison reports no missing pool, each pool of the
-///   plan has a line.
+/// - Suppose that no line has a difference. Then the plan has each recorded pool, and each line of
+///   the pool is as planned. The number of prestarted threads is compared only in a pool's first
+///   line.
+/// - Suppose that the recording ends with `end`, and that the comparison reports no missing pool.
+///   Then each pool of the plan has a line.
 pub fn pools_are_as_planned()
     ensures adds_up { DeviationsAddUp }
     ensures as_planned { PoolsAreAsPlanned }
@@ -28,16 +29,18 @@ pub fn rounds_are_within_plan()
 
 /// States that the plan allows a rejection only if the rejecting pool may reject jobs.
 ///
-/// Also states what follows if no pool of the plan may reject jobs. If the plan then allows each
-/// line that would invalidate a SAFE answer, the recording has no such line.
+/// Also states a consequence for a plan in which no pool may reject jobs. Suppose that the plan
+/// allows every line that would invalidate a SAFE answer. Then the recording has no such line,
+/// because this plan allows none.
 pub fn rejections_need_the_key()
     ensures need { RejectionsNeedTheKey }
     ensures all { WithoutTheKeyAllCount }
 {}
 
 /// States that the plan allows no rejection by a pool with an unbounded queue. Also states that
-/// [`mark_rejecting_pools`](crate::mark_rejecting_pools) does not allow such a pool to reject jobs,
-/// unless its `queue` is 0.
+/// [`mark_rejecting_pools`](crate::mark_rejecting_pools) does not set `may_reject` for such a pool
+/// if its `queue` is not 0. (In a plan that is parsed from a text, the `queue` of such a pool is
+/// 1,000,000.)
 pub fn unbounded_pools_reject_nothing()
     ensures none { UnboundedPoolsRejectNothing }
     ensures no_key { UnboundedPoolsGetNoKey }

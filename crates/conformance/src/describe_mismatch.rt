@@ -20,9 +20,10 @@ use job_bodies::Plan;
 use recordings::{RecordedActor, RecordedStep};
 use std::alloc::{AllocError, Global};
 
-/// Describes the first step of the actor that no body explains. If a body explains the whole path,
-/// this step is the actor's end. Returns the number of the line that records the step, and the
-/// description. The number is `None` if no line records the step.
+/// Describes the deviating step of the actor: the first step of its path that no body explains. If
+/// a body explains the whole path, the deviating step is the actor's end. Returns the number of the
+/// line that records the deviating step, and the description. The number is `None` if no line
+/// records this step.
 ///
 /// `classless` has the jobs with a path that matches no class of the job's label.
 ///
@@ -217,9 +218,9 @@ fn deviating_end(
     }
 }
 
-/// Returns the job that an actor with this path should have got before its end. `missing` is the
-/// index of the submit of this job. If it is `None`, returns the first open job of the path, or
-/// `None` if no job is open.
+/// Returns the job that an actor should have got before the end of its path. If `missing` is given,
+/// it is the index at which the path submits this job. Otherwise the result is the first open job
+/// of the path, or `None` if no job is open.
 fn missing_job(path: &[RecordedStep], missing: Option<usize>) -> Option<usize>
     ensures { result ≡ spec.missing_job path.now missing }
 {
@@ -256,7 +257,7 @@ fn open_job(path: &[RecordedStep]) -> Option<usize>
 }
 
 /// Returns the job that `step` submits, if the path does not get this job. Returns `None` if the
-/// path gets it, or if `step` is a get. `place` is the index of `step` in the path.
+/// path gets the job, or if `step` is a get. `place` is the index of `step` in the path.
 fn open_job_at(path: &[RecordedStep], place: usize, step: RecordedStep) -> Option<usize>
     ensures { option_to_list result ≡ spec.open_job_at path.now (place, step) }
 {
@@ -293,9 +294,9 @@ fn deviating_submit(
     }
 }
 
-/// Returns the deviation for a submit of a job whose own path may match a class. `excess` has the
-/// open jobs that block the submit. It is `None` if the body has no submit left for a job of this
-/// label.
+/// Returns the deviation for a submit that the body cannot make. The path of the submitted job is
+/// not the cause: it may match a class. `excess` has the open jobs that block the submit. If
+/// `excess` is `None`, the body has no submit left for a job of this label.
 fn submit_of_body(label: ActorLabel, excess: Option<OpenExcess>) -> DeviatingStep
     ensures { result ≡ spec.submit_of_body label excess }
 {
@@ -305,7 +306,8 @@ fn submit_of_body(label: ActorLabel, excess: Option<OpenExcess>) -> DeviatingSte
     }
 }
 
-/// Returns true if the plan has a class in this pool that a job of this label may belong to.
+/// Returns true if the plan has a class for jobs with this label. The label is the class and the
+/// pool in the `submit` line of a job.
 #[tactic(auto, using(crate::proofs::UnplannedAfter::is_filled))]
 fn is_planned_class(plan: &Plan, class: &str, pool: &str) -> bool
     ensures { result ≡ is_planned_class plan.now class.now pool.now }

@@ -43,9 +43,9 @@ impl ExcessTracker {
         })
     }
 
-    /// Reads line `number` of a valid recording. If the line begins or ends a round, counts the
-    /// begin or the end for the round's kind. This is the kind in `others`. If `others` does not
-    /// have the round, it is the first kind of the round's label.
+    /// Reads line `number` of a valid recording. If the line begins or ends a round, updates the
+    /// counts of the round's client kind. This kind is looked up in `others`. If `others` does not
+    /// have the round, the round has the first kind of its label.
     ///
     /// # Errors
     ///
@@ -73,10 +73,10 @@ impl ExcessTracker {
     }
 }
 
-/// Finds the client kinds that have more rounds than the plan allows. Returns for each of them the
-/// first line at which the kind has too many. The recording must be valid. The kind of a round is
-/// the one in `others`. If `others` does not have the round, it is the first kind of the round's
-/// label.
+/// Finds the client kinds that have more rounds than the plan allows. Returns, for each such kind,
+/// the first line at which the kind has too many rounds. The recording must be valid. The kind of a
+/// round is looked up in `others`. If `others` does not have the round, the round has the first
+/// kind of its label.
 ///
 /// # Errors
 ///

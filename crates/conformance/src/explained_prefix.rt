@@ -18,13 +18,16 @@ pub struct ExplainedPrefix {
     /// - The next step is a submit, but the body has no such submit left.
     /// - The prefix is the whole path.
     pub excess: Option<OpenExcess>,
-    /// The job that the actor should have got before its end, as the index of its submit in the
-    /// path. It is `None` if the prefix is not the whole path, or if the path matches the body.
+    /// The job that the actor should have got before its end, by the index at which the path
+    /// submits this job. It is `None` in these cases:
+    ///
+    /// - The prefix is not the whole path.
+    /// - The path matches the body.
     pub missing: Option<usize>,
 }
 
-/// Returns the longer of two prefixes. If both have the same length, returns `one` if it has an
-/// `excess`, and `other` if not.
+/// Returns the longer of two prefixes. For equal lengths, returns `one` if its `excess` is not
+/// `None`, and `other` otherwise.
 pub(crate) fn longer(one: ExplainedPrefix, other: ExplainedPrefix) -> ExplainedPrefix
     ensures { result ≡ spec.longer one other }
 {

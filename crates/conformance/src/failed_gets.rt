@@ -17,9 +17,9 @@ pub(crate) struct JobGet {
     pub(crate) job: usize,
 }
 
-/// A map from an actor and a job to a count of failed gets. It counts the lines that record that a
-/// get of the job by the actor timed out or was interrupted. There is no entry if there is no such
-/// line.
+/// A map from an actor and a job to a count of failed gets. A get fails if it times out or is
+/// interrupted. The count is the number of lines that record a failed get of the job by the actor.
+/// There is no entry if there is no such line.
 pub(crate) type FailedGets = HashMap<JobGet, usize>;
 
 /// Counts the gets in a text that timed out or were interrupted.
@@ -70,7 +70,7 @@ fn note_get(counts: &mut FailedGets, get: JobGet) -> Result<(), AllocError>
     Ok(())
 }
 
-/// Returns the actor and the job of the line, if it records a get that timed out or was
+/// Returns the actor and the job of the line, if the line records a get that timed out or was
 /// interrupted.
 fn failed_get_of(line: &Line<'_>) -> Option<JobGet>
     ensures { result ≡ spec.failed_get_of (line_view line.now) }

@@ -21,8 +21,8 @@ pub struct FamilyMatch {
     /// The longest prefix of the path that a body of the family explains. It is the whole path if
     /// the path matches a body, and empty if the family is empty.
     pub explained: ExplainedPrefix,
-    /// True if it was decided for each body of the family whether the path matches the body.
-    /// Otherwise the path may match more bodies, and a body may explain a longer prefix.
+    /// True if it is known for each body of the family whether the body matches the path. If it is
+    /// not known, the path may match more bodies, and a body may explain a longer prefix.
     pub is_decided: bool,
 }
 
@@ -43,8 +43,8 @@ impl FamilyMatch {
         }
     }
 
-    /// Matches the path against `body`, the body of the class or client kind `number`, and adds the
-    /// result to this one.
+    /// Matches the path against one more body of the family, and adds the outcome to this result.
+    /// `body` is the body of the class or client kind with the number `number`.
     ///
     /// # Errors
     ///

@@ -32,9 +32,9 @@ pub enum Finding {
         line: Option<usize>,
         mismatch: PathMismatch,
     },
-    /// An actor for which it is undecided which bodies of its label the path matches. It is the
-    /// first such actor of the label, by number. The comparison has no complete result for this
-    /// label. A label is a class with its pool, or a client kind.
+    /// An actor with an undecided match: it is unknown which bodies of the actor's label the path
+    /// matches. It is the first such actor of the label, by number. The comparison has no complete
+    /// result for this label. A label is a class with its pool, or a client kind.
     NotDecided {
         actor: RecordedActor,
         label: ActorLabel,
@@ -43,8 +43,9 @@ pub enum Finding {
     /// counted for the first kind that it can belong to. A round with an undecided kind is not
     /// counted.
     TooMany(RoundExcess),
-    /// The first line in which an actor gets a job that another actor submitted and has not got
-    /// yet. `label` is the label of the actor that gets the job. `job` is the label of the job.
+    /// The first foreign get: a line in which an actor gets a job that another actor submitted, and
+    /// the submitter has not got the job in an earlier line. `label` is the label of the actor that
+    /// gets the job. `job` is the label of the job.
     ForeignGet {
         get: ForeignGet,
         label: ActorLabel,

@@ -24,8 +24,8 @@ impl FirstActors {
         }
     }
 
-    /// Adds the actor, in place of an actor of the same label with a larger number. Changes nothing
-    /// if the set has an actor of the same label with a smaller or equal number.
+    /// Adds the actor. If the set has an actor of the same label, only one of the two stays in the
+    /// set: the one with the smaller number. If the numbers are equal, nothing changes.
     ///
     /// # Errors
     ///

@@ -33,8 +33,10 @@ pub(crate) struct FoundLine {
 /// the condition.
 pub(crate) type LineTable = HashMap<LineQuery, Option<FoundLine>>;
 
-/// The text of a recording, with two results of reading it: for some conditions, the first line
-/// that meets the condition, and the counts of the gets that timed out or were interrupted.
+/// The text of a recording, with two results of reading it:
+///
+/// - for some conditions, the first line that meets the condition;
+/// - for each actor and job, the count of the gets that timed out or were interrupted.
 ///
 /// In contracts, the value of this type is the text.
 #[derive(Drop)]
@@ -59,8 +61,8 @@ impl<'a> Model for FirstLines<'a> {
 }
 
 impl<'a> FirstLines<'a> {
-    /// Finds the first line of the text that meets each condition of `queries`. Also counts the
-    /// gets that timed out or were interrupted.
+    /// Finds, for each condition of `queries`, the first line of the text that meets this
+    /// condition. Also counts the gets that timed out or were interrupted.
     ///
     /// # Errors
     ///
@@ -139,8 +141,8 @@ fn seek(table: &mut LineTable, query: LineQuery) -> Result<(), AllocError>
     Ok(())
 }
 
-/// Reads all lines, and stores the first line that meets each condition of the table. Reads no
-/// lines if the table has no conditions.
+/// Reads all lines. Stores, for each condition of the table, the first line that meets this
+/// condition. Reads no lines if the table has no conditions.
 fn note_lines(alloc: Global, text: &[u8], table: &mut LineTable) -> Result<(), AllocError>
     ensures { spec.AreFirst [] table.old → OnOk result (spec.AreFirst (lines_of text.now) table.new) }
 {
@@ -156,8 +158,8 @@ fn note_lines(alloc: Global, text: &[u8], table: &mut LineTable) -> Result<(), A
     Ok(())
 }
 
-/// Stores line `number` for the condition that the line meets, if the table has this condition and
-/// no line for it yet.
+/// Stores line `number` for the condition that the line meets. Does nothing if the line meets no
+/// condition of the table, or if the table already has a line for the condition.
 fn note_line(
     alloc: Global,
     number: usize,

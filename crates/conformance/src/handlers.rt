@@ -147,8 +147,9 @@ fn rule_by(aborts: bool, caller_runs: bool, closes: bool, drops: bool) -> Reject
     }
 }
 
-/// Adds the name of a pool to the set if `is_kind` is false. `is_kind` says whether the pool's line
-/// names the handler that keeps a pool out of the set, such as `abort` for `not_abort`.
+/// Adds the name of a pool to the set, unless `is_kind` is true. The set has the pools with a
+/// handler other than a given one, such as `abort`. `is_kind` says whether the pool's line names
+/// this handler.
 fn insert_unless(names: &mut PoolNames, name: &str, is_kind: bool) -> Result<(), AllocError>
     ensures { OnOk result
         ((q : List ℕ)

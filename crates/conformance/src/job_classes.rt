@@ -55,8 +55,8 @@ impl ClassTable {
         self.jobs.insert(job, classes)
     }
 
-    /// Stores the classes of the actor if it is a job with a submitter. Stores nothing for a
-    /// refused job or a round, because it is in no path.
+    /// Stores the classes of the actor, if the actor is a job with a submitter. Stores nothing for
+    /// a refused job or a round, because no path has such an actor.
     ///
     /// # Errors
     ///
@@ -107,9 +107,9 @@ impl ClassTable {
         }
     }
 
-    /// Replaces the contents of `steps` with the steps of the path. Each submit has the classes
-    /// that its job can belong to. Removes these jobs from the table. Returns true if all of these
-    /// jobs were in the table and their classes are decided.
+    /// Replaces the contents of `steps` with the steps of the path. In `steps`, each submit has the
+    /// classes that its job can belong to. Removes the jobs of these submits from the table.
+    /// Returns true if the table had all these jobs and their classes are decided.
     ///
     /// # Errors
     ///

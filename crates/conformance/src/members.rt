@@ -14,8 +14,8 @@ use crate::{ActorKind, PathState, PathStep};
 use job_bodies::Plan;
 use std::alloc::{AllocError, Global};
 
-/// Matches the path of a job against the bodies of the classes that jobs of this label in this pool
-/// may belong to.
+/// Matches the path of a job against the bodies of a family. The family has the classes that a job
+/// of this label in this pool may belong to.
 ///
 /// # Errors
 ///
@@ -56,8 +56,8 @@ pub fn classes_of_path(
     Ok(reported)
 }
 
-/// Matches the path of a round against the bodies of the client kinds that rounds of this label may
-/// belong to.
+/// Matches the path of a round against the bodies of a family. The family has the client kinds that
+/// a round of this label may belong to.
 ///
 /// # Errors
 ///

@@ -17,16 +17,16 @@ use support::push_number;
 pub struct PathMismatch {
     pub actor: RecordedActor,
     pub label: ActorLabel,
-    /// The step after the longest prefix of the path that a body explains, or the actor's end if
-    /// this prefix is the whole path.
+    /// The first step of the path that no body explains. If a body explains the whole path, this is
+    /// the actor's end.
     pub step: DeviatingStep,
-    /// The last step of the longest prefix of the path that a body explains, or `None` if this
-    /// prefix is empty.
+    /// The step of the path before `step`, or `None` if there is no earlier step.
     pub after: Option<NamedStep>,
 }
 
-/// The first step of an actor that no body of its label explains, or the actor's end if the actor
-/// ended too early.
+/// A step at which an actor deviates from the bodies of its label. No body of the label explains
+/// this step, but a body explains all earlier steps. If the actor ended too early, the deviating
+/// step is the actor's end.
 #[derive(Drop)]
 pub enum DeviatingStep {
     /// The actor submitted a job of this class to this pool. The actor's body has no submit of this
@@ -53,8 +53,8 @@ pub enum DeviatingStep {
     },
     /// The actor ended before a get of its body.
     ///
-    /// - `job` is the job that the actor should have got: the first open job of the class that this
-    ///   get gets.
+    /// - `job` is the job that the actor should have got. It is the actor's first open job of the
+    ///   class of this get.
     /// - `label` is the label of this job.
     /// - `failed_gets` says how often a get of this job by the actor timed out or was interrupted.
     EndsOpen {
@@ -62,7 +62,8 @@ pub enum DeviatingStep {
         label: ActorLabel,
         failed_gets: usize,
     },
-    /// The actor got all its jobs and ended, although its body still has a get.
+    /// The actor ended before a get of its body in the plan. In the recording, the actor got every
+    /// job that it submitted.
     Ends,
 }
 
@@ -263,8 +264,8 @@ fn push_open_end(
     push_end_after(text, failed_gets)
 }
 
-/// Appends the end of the text about an actor that ended too early: the number of failed gets, if
-/// there are at least two, and the reason why the end is a deviation.
+/// Appends the end of the text about an actor that ended too early. If at least two gets failed,
+/// this includes their number. Then comes the reason why the end is a deviation.
 fn push_end_after(text: &mut String, failed_gets: usize) -> Result<(), AllocError>
     ensures { Pushes result text.old text.new (spec.end_after_text failed_gets) }
 {

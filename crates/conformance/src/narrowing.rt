@@ -17,9 +17,9 @@ pub(crate) enum Pick {
     First,
     /// The last of the job's classes that the body submits.
     Last,
-    /// The class of the next submit of the body that fits the job: it submits one of the job's
-    /// classes. The search starts at the start of the body. For each further job, it continues
-    /// after the submit that it found last.
+    /// The class of the next fitting submit of the body. A submit fits if it submits one of the
+    /// job's classes. The search for the path's first job starts at the start of the body. For each
+    /// further job, the search continues after the submit that was found last.
     InOrder,
 }
 
@@ -79,9 +79,9 @@ fn one_class(alloc: Global, picked: Option<usize>) -> Result<Vec<usize>, AllocEr
     Ok(fewer)
 }
 
-/// Returns the class that the rule `pick` picks from `classes`, the classes of a job. Returns
-/// `None` if the rule picks none. [`Pick::InOrder`] searches the body from index `from`, and moves
-/// `from` past the submit that it finds. The other rules do not use `from`.
+/// Returns the class that the rule `pick` picks for a job, or `None` if the rule picks none.
+/// `classes` has the classes of the job. [`Pick::InOrder`] searches the body from index `from`, and
+/// moves `from` past the submit that it finds. The other rules do not use `from`.
 fn picked_class(body: &[Action], from: &mut usize, classes: &[usize], pick: Pick) -> Option<usize>
     ensures { IfSome result (λ class. Contains classes.now class) }
 {
@@ -119,8 +119,9 @@ fn last_class(body: &[Action], classes: &[usize]) -> Option<usize>
     last
 }
 
-/// Returns the class of the first submit, at or after index `from` of the body, that submits one of
-/// the classes. Moves `from` past this submit. Returns `None` if there is no such submit.
+/// Searches the body for a submit of one of the classes. The search starts at index `from`. Returns
+/// the class of the first such submit, and moves `from` past this submit. Returns `None` if there
+/// is no such submit.
 fn next_class(body: &[Action], from: &mut usize, classes: &[usize]) -> Option<usize>
     ensures { IfSome result (λ class. Contains classes.now class) }
 {

@@ -1,8 +1,8 @@
 //! More open jobs than a body allows.
 
-/// Too many open jobs of a path: the reason why a body cannot reach its next submit of some class.
-/// At some moment on the way to this submit, the body has fewer open jobs of the class `class` than
-/// the path.
+/// The reason why a body cannot reach its next submit of some class: too many jobs are open in the
+/// path. At some moment on the way to the submit, the path has more open jobs than the body. These
+/// are jobs of the class `class`. The submit may be of another class.
 #[derive(Clone, Copy, PartialEq, Eq)]
 pub struct OpenExcess {
     /// The class of the open jobs, by its number in the plan.

@@ -32,8 +32,8 @@ impl OpenRounds {
     }
 
     /// Reads the next line of a valid recording. If the line begins or ends a round, returns the
-    /// client kind for which the round is counted. Returns `None` if the round is not counted, and
-    /// for any other line.
+    /// client kind for which the round is counted, or `None` if the round is not counted. Returns
+    /// `None` for any other line.
     ///
     /// `others` has each round that is not counted for the first kind of its label.
     ///

@@ -25,8 +25,8 @@ use std::alloc::{AllocError, Global};
 /// - At each moment, for each class, the path has at most as many open jobs as the body.
 /// - Each submit of the path is made at the same time as a submit of the same class in the body.
 ///   The body may have more submits.
-/// - The path may get its jobs in any order, and earlier than the body. A job may get only jobs of
-///   classes that its body still gets.
+/// - The path may get its jobs in any order, and earlier than the body. If the actor is a job, it
+///   may get only jobs of classes that its body still gets.
 /// - If `path_state` is [`PathState::Whole`], the walk can reach the end of the body.
 ///
 /// A job of the path may belong to several classes that the body submits. Then three ways are tried
@@ -77,8 +77,8 @@ pub fn match_path(
 }
 
 /// Matches the path against the body, step by step in a joint walk. The path deviates at the first
-/// step that the walk cannot make. The result is undecided if an earlier submit has a job that may
-/// belong to several classes that the body submits.
+/// step that the walk cannot make. The walk also stops at a submit if the body submits several of
+/// the job's classes. The result is then undecided.
 ///
 /// # Errors
 ///
@@ -173,9 +173,9 @@ fn fits_with(
     }
 }
 
-/// Returns the result for a path after the joint walk has made all its steps. A whole path matches
-/// only if the body can be at its end. `state` is the state after the last step, and `gets` has the
-/// gets of the body.
+/// Returns the result after the joint walk has made all steps of the path. If the path is only a
+/// prefix, it matches. A whole path matches only if the walk can be at the end of the body. `state`
+/// is the state after the last step, and `gets` has the gets of the body.
 fn match_at_end(
     state: &WalkState,
     body: &[Action],

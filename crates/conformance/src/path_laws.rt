@@ -12,13 +12,13 @@ ghost use Rattle.conformance.specs.LaggingRun.{PathsAreFollowed, RunsStayReachab
 /// Let the machine be in a reachable state in which the actor is at the start of this body. Then
 /// these facts hold:
 ///
-/// - The actor can make the submits of the path in their order. A pool takes the job of each submit
-///   or, if the pool may reject jobs, rejects it. A rejected job is done at once.
-/// - Directly before a submit and before the end, the actor passes the actions of its body up to
-///   there. It skips submits, and gets only jobs that are not open in the path. So each of its gets
-///   comes no sooner than the same get in the path.
-/// - While an actor that is a job waits in a get of the path, its body still has a get of that
-///   class.
+/// - The actor can make the submits of the path in their order. The pool takes the job of each
+///   submit. If the pool may reject jobs, it can also reject the job, which is then done at once.
+/// - The actor passes the actions of its body late: directly before the next submit of the path, or
+///   before the end. It skips the submits among these actions, and gets only jobs that are not open
+///   in the path. So the actor gets each job no sooner than the path does.
+/// - If the actor is a job and waits in a get of the path, the actor's body still has a get of the
+///   same class.
 /// - The states of such a run are reachable, so they are safe.
 pub fn paths_are_followed()
     ensures followed { PathsAreFollowed }

@@ -11,7 +11,8 @@ pub enum PathMatch {
     /// explains. The step after the prefix deviates. If there is no such step, the actor ended too
     /// early.
     Deviates(ExplainedPrefix),
-    /// It is unknown whether the path matches. A job of the path may belong to several classes that
-    /// the body submits, and no choice of classes that was tried matches.
+    /// It is unknown whether the path matches. Some jobs of the path may belong to several classes
+    /// that the body submits. Several ways to choose one class for each job were tried, but the
+    /// path matches in none of them.
     Undecided,
 }

@@ -23,7 +23,7 @@ pub enum PoolDeviation {
         line: usize,
         pool: String,
     },
-    /// A difference from the plan in a line of a pool. `pool` is the number of the pool in the
+    /// A difference between a line of a pool and the plan. `pool` is the number of the pool in the
     /// plan.
     Differs {
         line: usize,
@@ -65,8 +65,9 @@ impl PoolComparison {
     /// Reads line `number`. If it is a line of a pool, appends these deviations to `found`:
     ///
     /// - the pool, if the plan lacks it and this is the first line of the pool;
-    /// - each [`Difference`] between the pool and the plan that no earlier line had. The number of
-    ///   prestarted threads is compared only in the first line of a pool.
+    /// - each [`Difference`] between the line and the plan, unless an earlier line of the pool has
+    ///   the same difference. The number of prestarted threads is compared only in the first line
+    ///   of a pool.
     ///
     /// # Errors
     ///

@@ -16,8 +16,8 @@ use crate::well_formed_lines::WellFormedLines;
 use job_bodies::Plan;
 use std::alloc::{AllocError, Global};
 
-/// The facts from all lines of a recording that decide which refusals are allowed: the rejection
-/// rule of each pool, and what each refused job does.
+/// The facts that decide which refusals are allowed: the rejection rule of each pool, and what each
+/// refused job does. These facts come from all lines of a recording.
 #[derive(Drop)]
 pub(crate) struct RefusalFacts {
     // The rule of each pool of the plan.

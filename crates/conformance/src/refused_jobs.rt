@@ -1,4 +1,5 @@
-//! The refused jobs of a recording: the pool of each job, and whether it acted and started.
+//! The refused jobs of a recording: the pool of each job, whether the job acted, and whether the
+//! job started.
 
 ghost use Rattle.std.specs.Prelude.{◌≡◌, ◌==◌, ◌||◌, ◌++◌, ◌∷◌, [], ℕ, true, List, option_map, OnOk, IfOk};
 ghost use Rattle.std.specs.Option.{option_and_then};
@@ -50,8 +51,9 @@ fn note_refusal(jobs: &mut JobSet, line: &Line<'_>) -> Result<(), AllocError>
     }
 }
 
-/// Facts about the refused jobs, from the lines read so far: the pool of each job, and whether it
-/// has acted and started. A job acts if it submits, gets or cancels a job, or calls `invokeAny`.
+/// Facts about the refused jobs, from the lines read so far: the pool of each job, whether the job
+/// has acted, and whether the job has started. A job acts if it submits, gets or cancels a job, or
+/// calls `invokeAny`.
 #[derive(Drop)]
 pub(crate) struct RefusedJobs {
     refused: JobSet,
@@ -96,9 +98,9 @@ impl RefusedJobs {
         note_start(&mut self.started, &self.refused, line)
     }
 
-    /// Returns the number of the plan's pool that the first `submit` line of the job names. Returns
-    /// `None` if there is no such line or no such pool. The job must be one of those given to
-    /// `new`.
+    /// Returns the pool in the first `submit` line of the job, by its number in the plan. Returns
+    /// `None` if the job has no `submit` line, or if the plan has no such pool. The job must be one
+    /// of those given to `new`.
     pub(crate) fn pool_of(&self, job: usize) -> Option<usize>
         ensures { (plan : plans.Plan) (lines : List RecordedLine)
             → spec.AreFactsOf plan lines self.now
@@ -208,8 +210,8 @@ fn insert_if(jobs: &mut JobSet, refused: &JobSet, job: usize) -> Result<(), Allo
     Ok(())
 }
 
-/// Returns the job that submits, gets or cancels a job, or calls `invokeAny`, in this line. Returns
-/// `None` if the line reports no such action of a job.
+/// Returns the job that acts in this line. A job acts if it submits, gets or cancels a job, or
+/// calls `invokeAny`. Returns `None` if no job acts in this line.
 fn acting_job(line: &Line<'_>) -> Option<usize>
     ensures { result ≡ rule.acting_job (line_view line.now) }
 {

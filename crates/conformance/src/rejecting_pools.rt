@@ -9,16 +9,18 @@ use crate::rejections::{Rejections, rejections_in};
 use job_bodies::{Plan, Pool};
 use std::alloc::{AllocError, Global};
 
-/// Returns a copy of the plan in which the recording determines the key `may_reject` of each pool.
-/// In the copy, a pool may reject jobs exactly if it rejects jobs in the recording or has a queue
-/// of 0. Nothing else changes.
+/// Returns a copy of the plan with new values of the key `may_reject`. Nothing else changes. In the
+/// copy, a pool may reject jobs in each of these cases, and in no other case:
+///
+/// - The pool rejects jobs in the recording.
+/// - The pool has a queue of 0.
 ///
 /// A pool rejects jobs in the recording if these conditions hold:
 ///
 /// - At least one job of the pool was refused.
-/// - Each refusal of a job of the pool is allowed by the plan in which every pool may reject jobs.
-///   [`conform`](crate::conform) lists when a plan allows a rejection. No plan allows a rejection
-///   by a pool with an unbounded queue.
+/// - If every pool of the plan could reject jobs, the plan would allow each refusal of a job of the
+///   pool. [`conform`](crate::conform) lists when a plan allows a rejection. No plan allows a
+///   rejection by a pool with an unbounded queue.
 ///
 /// Reads the recording three times. The memory grows with the number of refused jobs.
 ///
@@ -39,7 +41,7 @@ pub fn mark_rejecting_pools(
     Ok(all.with_pools(pools))
 }
 
-/// Returns the plan in which every pool may reject jobs.
+/// Returns a copy of the plan in which every pool may reject jobs.
 fn with_all_keys(alloc: Global, plan: &Plan) -> Result<Plan, AllocError>
     ensures { IfOk result (λ all. all ≡ spec.with_all_keys plan.now) }
 {
@@ -57,8 +59,9 @@ fn pools_with_key(alloc: Global, pools: &[Pool]) -> Result<Vec<Pool>, AllocError
     Ok(keyed)
 }
 
-/// Returns copies of the pools with a new value of `may_reject`. It is true exactly if
-/// [`only_rejects`](Rejections::only_rejects) returns true for the pool, or if its queue is 0.
+/// Returns copies of the pools with a new value of `may_reject`. The value is true if
+/// [`only_rejects`](Rejections::only_rejects) returns true for the pool, or if the queue of the
+/// pool is 0. Otherwise it is false.
 fn with_keys(
     alloc: Global,
     pools: &[Pool],

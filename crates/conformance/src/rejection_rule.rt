@@ -16,8 +16,8 @@ pub(crate) enum RejectionRule {
     Never,
     /// Every refusal is allowed.
     Always,
-    /// The refusal of a job is allowed if the job submits, gets and cancels no job and does not
-    /// call `invokeAny`. If `closes` is true, the job must also have a `start` line, and no
+    /// The refusal of a job is allowed if the job does not submit, get or cancel a job, and does
+    /// not call `invokeAny`. If `closes` is true, the job must also have a `start` line, and no
     /// `shutdown` of the pool may precede the refusal.
     IfCallerRuns {
         /// Whether the recording has a `shutdown` of the pool. After a shutdown, the handler may

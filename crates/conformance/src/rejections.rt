@@ -21,7 +21,7 @@ use job_bodies::{Plan, Pool};
 use recordings::{InvalidatingEvent, Invalidation, Line, RecordedActor};
 use std::alloc::{AllocError, Global};
 
-/// The number of jobs that a pool rejected, with the number of the pool in the plan.
+/// The count of jobs that a pool rejected. `pool` is the number of this pool in the plan.
 #[derive(Clone, Copy, PartialEq, Eq)]
 pub struct PoolRejections {
     pub pool: usize,

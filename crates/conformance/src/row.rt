@@ -1,5 +1,5 @@
-//! Rows. A row says for each index of a body, and for its end, whether the body can be there after
-//! the steps of a path.
+//! Rows. A row says where a body can be after the steps of a path. It has an element for each index
+//! of the body, and one for the end of the body. An element is true if the body can be there.
 
 ghost use Rattle.std.specs.Prelude.{◌≡◌, ◌<◌, ℕ, ◌+◌, false, ◌&&◌, ◌||◌, None, nat_lt, length, slice_get, slice_index_or};
 ghost use Rattle.std.specs.Option.{option_copied};
@@ -9,9 +9,9 @@ ghost use Rattle.conformance.specs.Path as spec;
 use crate::body_gets::BodyGet;
 use job_bodies::Action;
 
-/// Updates `row` for a submit of the class in the path. `row` is the set of indices where the body
-/// can be. If the old row has an index at which the body submits the class, the new row has the
-/// next index. The new row has no other indices.
+/// Updates `row` for a step of the path that submits a job of the class. `row` is the set of
+/// indices where the body can be. The body must submit a job of the class, too, and is then at the
+/// next index. The new row has only these next indices.
 pub(crate) fn shift_row(row: &mut [bool], body: &[Action], class: usize)
     requires { length row.old ≡ length body.now + 1 }
     ensures first { slice_index_or row.new 0 false ≡ false }

@@ -13,8 +13,8 @@ use std::alloc::{AllocError, Global};
 /// always compared:
 ///
 /// - The number of prestarted threads is compared only in the first line of the pool (`is_first`).
-/// - The maximum is not compared if it has no effect in the plan, which is so if the plan's queue is
-///   unbounded and its core threads never time out.
+/// - The maximum is not compared if it has no effect in the plan. It has no effect if the plan's
+///   pool has an unbounded queue and core threads that never time out.
 /// - The handler is never compared, because a plan has no handlers.
 ///
 /// # Errors
@@ -69,15 +69,16 @@ pub fn differences(
     Ok(found)
 }
 
-/// Returns true if the recorded maximum is that of the plan's pool, or has no effect in the plan.
+/// Returns true if the recorded maximum is that of the plan's pool, or if the maximum has no effect
+/// in the plan.
 fn fits_max(pool: &Pool, recorded: u64) -> bool
     ensures { result ≡ spec.fits_max pool.now recorded }
 {
     !uses_max(pool) || is_planned_max(pool, recorded)
 }
 
-/// Returns true if the maximum of the plan's pool has an effect: its queue is bounded, or its core
-/// threads may time out.
+/// Returns true if the maximum of the plan's pool has an effect: the pool has a bounded queue, or
+/// its core threads may time out.
 fn uses_max(pool: &Pool) -> bool
     ensures { result ≡ spec.uses_max pool.now }
 {
@@ -169,9 +170,9 @@ fn timeout_difference(pool: &Pool) -> Difference
     }
 }
 
-/// Returns true if a plan describes a queue of this kind by this capacity. The capacity 0 describes
-/// a `SynchronousQueue`. Any other capacity describes a bounded queue, which is an
-/// `ArrayBlockingQueue` or a `LinkedBlockingQueue`.
+/// Returns true if a queue of this kind fits a plan's bounded queue with this capacity. Capacity 0
+/// means a `SynchronousQueue`. Any other capacity means an `ArrayBlockingQueue` or a
+/// `LinkedBlockingQueue`.
 fn is_kind_of(capacity: u64, kind: QueueKind) -> bool
     ensures { result ≡ spec.is_kind_of capacity kind }
 {

@@ -6,8 +6,8 @@ ghost use Rattle.conformance.specs.PathStep as spec;
 /// A step of an actor: a submit or a get.
 #[derive(Drop)]
 pub enum PathStep {
-    /// A submit of a job. The field has the numbers, in the plan, of the classes that the job may
-    /// belong to.
+    /// A submit of a job. The field has the classes that the job may belong to, by their numbers in
+    /// the plan.
     Submits(Vec<usize>),
     /// A get of the job that is submitted at this index of the path.
     Gets(usize),

@@ -1,5 +1,5 @@
-//! The first actors whose paths match no body of the plan, and the first actors for which this is
-//! undecided.
+//! The first actors with a path that matches no body of the plan, and the first actors with an
+//! undecided match.
 
 ghost use Rattle.std.specs.Prelude.{◌≡◌, ◌++◌, ◌∷◌, [], ℕ, List, OnOk};
 ghost use Rattle.job_bodies.specs.Plan as plans;
@@ -19,7 +19,8 @@ use std::alloc::{AllocError, Global};
 /// For each label of the plan, two actors:
 ///
 /// - the first actor, by number, with a path that matches no body;
-/// - the first actor, by number, for which it is undecided whether its path matches a body.
+/// - the first actor, by number, with an undecided match: it is unknown which bodies the path
+///   matches.
 #[derive(Drop)]
 pub(crate) struct Verdicts {
     pub(crate) mismatches: FirstActors,
@@ -42,8 +43,8 @@ impl Verdicts {
     }
 
     /// If the plan has the actor's label, records the actor in two cases: its path matches no body,
-    /// or the match is undecided. Adds a job with a path that matches no body to `classless`, even
-    /// if the plan lacks the job's label.
+    /// or the match is undecided. If the actor is a job with a path that matches no body, also adds
+    /// the job to `classless`, even if the plan lacks the job's label.
     ///
     /// # Errors
     ///

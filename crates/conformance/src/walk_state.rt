@@ -31,8 +31,9 @@ pub(crate) struct WalkState {
     /// For each action of the body, true if the body may pass the action while the jobs in `jobs`
     /// are open in the path.
     passes: Vec<bool>,
-    /// The indices of the body at which the body can be after the steps so far. The element at an
-    /// index is true if the body can be there. The last element is for the end of the body.
+    /// The indices where the body can be after the steps so far. The list has an element for each
+    /// index of the body, and one for the end of the body. An element is true if the body can be
+    /// there.
     row: Vec<bool>,
 }
 
@@ -41,9 +42,9 @@ pub(crate) struct WalkState {
 pub(crate) enum Progress {
     /// At least one joint walk over the path and the body makes this step.
     Advanced,
-    /// No joint walk over the path and the body makes this step. If the step is a submit that the
-    /// body still has, the field has the open jobs that block the body before it. Otherwise the
-    /// field is `None`.
+    /// No joint walk over the path and the body makes this step. The field has the open jobs that
+    /// block the body before the step. The field is `None` if the step is a get, or if the body has
+    /// no such submit left.
     Stops(Option<OpenExcess>),
     /// The job of the step may belong to several classes that the body submits.
     Undecided,

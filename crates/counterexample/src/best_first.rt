@@ -1,12 +1,15 @@
-//! A best-first search for a violation. The search repeatedly selects a reached state and *expands*
-//! it: it visits the successors of this state. Several measures take turns in the selection:
+//! A best-first search for a violation. The search repeatedly selects a state that it has reached,
+//! and *expands* this state. To expand a state means to visit the successors of the state. Several
+//! measures take turns in the selection:
 //!
-//! - the weight, under a vector, that was lost on the way to the state,
+//! - the weight that was lost on the way to the state, under a vector of weights,
 //! - the number of threads that do not wait at a get, and
-//! - the least room of a pool that may refuse a job.
+//! - the least number of further jobs that a pool accepts before it refuses one.
 //!
-//! A violation is *permanent* if it is a refused submit, or if jobs wait only for each other and no
-//! later event ends the wait.
+//! A violation is *permanent* in two cases:
+//!
+//! - A submit is refused.
+//! - Jobs wait only for each other, and no later event ends this wait.
 
 use crate::branches::Branch;
 use crate::choices::Choices;
@@ -33,8 +36,8 @@ struct Node {
     is_open: bool,
 }
 
-/// A reached state that was recreated by a replay, and the weight that was lost on the way to this
-/// state, for each vector.
+/// A reached state that was recreated by a replay. For each vector, `lost` has the weight that was
+/// lost on the way to this state.
 #[derive(Drop)]
 struct ReplayedState<'a> {
     walk: Walk<'a>,
@@ -203,8 +206,8 @@ impl<'a> BestFirst<'a> {
     }
 
     /// Visits the successors of the state with this number, within the limit of states. Returns the
-    /// first permanent violation, if there is one, with the events that lead to it. Stores the
-    /// events of the first violation that is not permanent in `stuck_now`.
+    /// first permanent violation, if there is one, with the events that lead to this violation.
+    /// Stores in `stuck_now` the events of the first violation that is not permanent.
     fn expand(&mut self, number: usize) -> Result<Option<(Script, Violation)>, AllocError> {
         let replayed = self.replayed(number)?;
         for branch in &replayed.walk.branches(self.alloc)? {
@@ -223,10 +226,12 @@ impl<'a> BestFirst<'a> {
         Ok(None)
     }
 
-    /// Visits the successor to which the branch leads from state `number`. Adds the successor to
-    /// the open states if no submit was refused and the search has not reached this state before.
-    /// Returns the violation in the successor, if there is one. A violation that is not permanent
-    /// is returned only if `stuck_now` has no events yet.
+    /// Visits the successor to which `branch` leads from the state with this number. Returns the
+    /// violation in the successor, if there is one. If the violation is not permanent, returns it
+    /// only if `stuck_now` has no events yet.
+    ///
+    /// Adds the successor to the open states. Skips this if a submit was refused, or if the search
+    /// has reached the successor before.
     fn visit(
         &mut self,
         replayed: &ReplayedState<'a>,
@@ -251,8 +256,9 @@ impl<'a> BestFirst<'a> {
         Ok(None)
     }
 
-    /// Adds the open state `number` to the heap of each measure. `walk` is in this state.
-    /// `replayed` is the preceding state, from which `branch` leads to this state.
+    /// Adds an open state to the heap of each measure. `number` is the number of this state, and
+    /// `walk` is in this state. `replayed` is the preceding state, from which `branch` leads to the
+    /// open state.
     fn add_open(
         &mut self,
         replayed: &ReplayedState<'a>,

@@ -45,11 +45,11 @@ impl<'a> Walk<'a> {
     }
 
     /// Returns the branches from this state that the search tries. Skips submits to an unbounded
-    /// queue that is at its limit, and tries only some of the actors that act alike:
+    /// queue that is at its limit. Also skips some of the actors that act alike:
     ///
-    /// - Of the clients of a kind that are at their first submit, one is tried. The start of a new
-    ///   client is tried only if there is no such client.
-    /// - Of the actors at any other submit, at most [`MAX_ACTORS`] are tried.
+    /// - For each client kind, at most one of the clients that are back at their first submit is
+    ///   tried. The start of a new client is tried only if there is no such client.
+    /// - For each other submit, at most [`MAX_ACTORS`] actors are tried.
     pub(crate) fn branches(&self, alloc: Global) -> Result<Vec<Branch>, AllocError> {
         let mut branches = Vec::new(alloc);
         for (place, (choice, ready)) in self.choices.all.iter().zip(&self.ready).enumerate() {
@@ -77,8 +77,9 @@ impl<'a> Walk<'a> {
             && !ready.is_empty())
     }
 
-    /// Returns the weight under the vector `potential` that the state loses by this branch. The
-    /// result is that of [`Losses::of`], or 0 if no choice has the branch's index.
+    /// Returns the weight that the state loses by this branch. The weights are those of
+    /// `potential`, and [`Losses::of`] computes the result. Returns 0 if no choice has the branch's
+    /// index.
     pub(crate) fn loss(&self, branch: Branch, potential: &Potential) -> u64 {
         let Some(choice) = self.choices.all.get(branch.place).copied() else {
             return 0;
@@ -110,9 +111,11 @@ impl<'a> Walk<'a> {
         threads.saturating_sub(waiting)
     }
 
-    /// Returns the least room of a pool that has a bounded queue and must not reject jobs, or
-    /// `u64::MAX` if there is no such pool. The room is the number of further jobs that the pool
-    /// accepts before a thread takes a job from its queue.
+    /// Returns the least room of all pools that can refuse a job. These pools have a bounded queue
+    /// and must not reject jobs. Returns `u64::MAX` if there is no such pool.
+    ///
+    /// The room of a pool is the number of further jobs that the pool accepts before a thread takes
+    /// a job from the pool's queue.
     pub(crate) fn least_room(&self) -> u64 {
         let mut least = u64::MAX;
         for pool in &self.machine.pools {
@@ -123,8 +126,8 @@ impl<'a> Walk<'a> {
         least
     }
 
-    /// Returns `true` if some pool has a queued job, and each idle thread of this pool, if any, can
-    /// end.
+    /// Returns `true` if some pool has a queued job but no idle thread. Idle threads do not count
+    /// if all idle threads of the pool can end.
     pub(crate) fn has_closed(&self) -> bool {
         self.machine
             .pools

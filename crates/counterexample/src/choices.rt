@@ -31,12 +31,12 @@ pub(crate) enum Choice {
 #[derive(Drop)]
 pub(crate) struct Choices {
     pub(crate) all: Vec<Choice>,
-    /// Whether core threads of some pool may time out. Jobs can then wait only for each other in a
-    /// state that soon ends, because an idle thread that could have ended takes a queued job
-    /// instead.
+    /// Whether core threads of some pool may time out. If so, jobs can wait only for each other
+    /// although their pool has an idle thread, because this thread can end. The wait is short if
+    /// the thread takes a queued job instead.
     pub(crate) has_core_timeout: bool,
-    /// For each choice, the limit for its submit, or `None` if the choice submits no job or submits
-    /// it to a bounded queue.
+    /// For each choice, the limit for its submit. The limit is `None` if the choice is not a
+    /// submit, or if it is a submit to a bounded queue.
     limits: Vec<Option<QueueLimit>>,
     of_kinds: Vec<Vec<usize>>,
     of_classes: Vec<Vec<usize>>,

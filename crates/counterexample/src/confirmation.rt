@@ -37,11 +37,11 @@ use weights::Vector;
 ///
 /// A vector counts as a proof only if these conditions hold:
 ///
-/// - Its pool has at least `core` threads after the events. If core threads may time out, the pool
-///   may have fewer, and then the next submit starts a thread.
-/// - It satisfies all conditions of a standing vector of its pool.
-/// - In each class of a pool that may reject jobs, a done job weighs at most as much as a queued
-///   job. A rejected job then does not increase the weight of a state.
+/// - The vector's pool has at least `core` threads after the events. If core threads may time out,
+///   a pool can have fewer threads. Such a pool starts a thread at the next submit.
+/// - The vector satisfies all conditions of a standing vector of the pool.
+/// - If the pool of a class may reject jobs, a done job of this class weighs at most as much as a
+///   queued job. A rejected job then does not increase the weight of a state.
 ///
 /// # Errors
 ///

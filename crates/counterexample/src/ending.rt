@@ -17,10 +17,10 @@ pub enum Ending {
 /// The reason why some jobs that wait only for each other wait forever.
 #[derive(Clone, Copy, Debug, PartialEq, Eq)]
 pub enum Reason {
-    /// Each pool that has one of the jobs in its queue has `max` threads.
+    /// If one of the jobs is queued in a pool, this pool has `max` threads.
     PoolsAreFull,
-    /// Each pool that has one of the jobs in its queue starts no further thread. One of these
-    /// holds:
+    /// If one of the jobs is queued in a pool, this pool starts no further thread. The reason is
+    /// one of these:
     ///
     /// - The pool has `max` threads.
     /// - The pool has at least `core` threads and an unbounded queue.

@@ -67,10 +67,11 @@ fn mixed(first: u64, second: u64) -> u64 {
 #[derive(Drop)]
 struct Prints<'a> {
     machine: &'a Machine<'a>,
-    /// For each job, the sum of the fingerprints of those jobs that it created and will get.
+    /// A sum for each job. It adds up the fingerprints of the jobs that this job created and will
+    /// get.
     of_jobs: Vec<u64>,
-    /// For each client that has moved, the sum of the fingerprints of those jobs that the client
-    /// created and will get.
+    /// A sum for each client that has moved. It adds up the fingerprints of the jobs that this
+    /// client created and will get.
     of_active_clients: Vec<u64>,
     /// For each job, its place in the queue of its pool, counted from 1. The place is 0 if the job
     /// is not queued.
@@ -96,9 +97,13 @@ impl Prints<'_> {
         }
     }
 
-    /// Adds the fingerprint of this job to the fingerprint of its parent if the parent will get the
-    /// job, and otherwise to the fingerprint of the whole state. Skips a done job that no actor
-    /// will get. The jobs that this job will get must have been added before.
+    /// Adds the fingerprint of this job to another fingerprint:
+    ///
+    /// - If the parent will get the job, adds it to the fingerprint of the parent.
+    /// - If no actor will get the job, adds it to the fingerprint of the whole state. But if the
+    ///   job is done, skips the job.
+    ///
+    /// The jobs that this job will get must have been added before.
     fn add_job(&mut self, number: usize, job: &Job) {
         let of_jobs = self.of_jobs.get(number).copied().unwrap_or(0);
         let phase = match job.phase {

@@ -3,7 +3,7 @@
 ghost use Rattle.counterexample.specs.Witness.{WitnessedPlansAreNotAccepted, WitnessedPlansAreNotSafe};
 ghost use Rattle.counterexample.specs.PermanentSets.{StandingPoolsStayAtCore, PermanentWaitingSetsStay};
 
-/// States that no certificate accepts a well-formed plan that has a witness.
+/// States that no certificate accepts a well-formed plan with a witness.
 pub fn witnessed_plans_are_not_accepted()
     ensures { WitnessedPlansAreNotAccepted }
 {}
@@ -14,25 +14,27 @@ pub fn witnessed_plans_are_not_safe()
     ensures { WitnessedPlansAreNotSafe }
 {}
 
-/// States that a pool never has more than `core` threads, even if its core threads may time out, if
-/// some vector satisfies two conditions:
+/// States that a pool with a certain vector never has more than `core` threads. This holds even if
+/// core threads of the pool may time out. The vector must satisfy two conditions:
 ///
 /// - The vector is a standing vector of the pool.
-/// - In each class of a pool that may reject jobs, a done job weighs at most as much as a queued
-///   job.
+/// - If the pool of a class may reject jobs, a done job of this class weighs at most as much as a
+///   queued job.
 ///
-/// The other pools can have any sizes, and may even refuse submits. The law holds if each submit is
-/// one event. In the steps of Java's `execute`, a pool whose core threads may time out can have more
-/// threads, because Java replaces a thread that ends while jobs are queued.
+/// The other pools can have any sizes, and may even refuse submits.
+///
+/// The law holds if each submit is one event. In Java, a submit is performed in the steps of
+/// `execute`. If core threads may time out, a pool can then have more than `core` threads, because
+/// Java replaces a thread that ends while jobs are queued.
 pub fn standing_pools_stay_at_core()
     ensures { StandingPoolsStayAtCore }
 {}
 
-/// States that a permanent waiting set lasts. After every list of events, a permanent waiting set
-/// is still one, and none of its jobs has moved.
+/// States that a permanent waiting set lasts. After every list of events, the set is still a
+/// permanent waiting set, and none of its jobs has moved.
 ///
-/// A waiting set is a set of jobs that wait only for each other. It is permanent if one of these
-/// holds for each pool that has a member in its queue:
+/// A waiting set is a set of jobs that wait only for each other. The set is permanent if each pool
+/// with a queued member satisfies one of these conditions:
 ///
 /// - The pool has `max` threads.
 /// - The pool has at least `core` threads and an unbounded queue.

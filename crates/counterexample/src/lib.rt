@@ -1,17 +1,21 @@
 //! Counterexamples to a plan: the search for one, its confirmation on the machine, and its event
 //! lines.
 //!
-//! A [`Witness`] is a list of events. Either its last event is a refused submit, or some jobs wait
-//! only for each other after it. The search is not trusted: [`confirmed`] replays the events that
-//! the search finds.
+//! A [`Witness`] is a list of events. Either the last event is a refused submit, or some jobs wait
+//! only for each other after the last event. The search is not trusted: [`confirmed`] replays the
+//! events that the search finds.
 //!
 //! If core threads of a pool may time out, events of a witness can end idle threads of this pool.
-//! The search also finds jobs that wait only for each other once such threads have ended. The last
+//! The search also finds jobs that wait only for each other after such threads have ended. The last
 //! events of the witness then end these threads.
 //!
-//! A pool that may reject jobs, as the plan allows, refuses none. A submit that it rejects is an
-//! ordinary event of a witness. [`find_rejection`] searches for events that lead to a rejection. A
-//! pool whose queue is unbounded neither refuses nor rejects a job.
+//! A full pool refuses or rejects a submit:
+//!
+//! - A pool *refuses* a submit if the pool must not reject jobs. The witness ends with this event.
+//! - A pool *rejects* a submit if the plan allows that the pool rejects jobs. This is an ordinary
+//!   event of a witness. [`find_rejection`] searches for events that lead to a rejection.
+//!
+//! A pool with an unbounded queue neither refuses nor rejects a job.
 #![tactic(auto)]
 
 mod best_first;

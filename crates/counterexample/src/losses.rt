@@ -1,8 +1,9 @@
-//! The losses of choices. A vector of weights gives each state a weight, and no event increases it.
-//! The loss of a choice is the amount by which the choice decreases this weight.
+//! The losses of choices. A vector of weights gives each state a weight, and no event increases the
+//! weight of the state. The loss of a choice is the amount by which the choice decreases this
+//! weight.
 //!
-//! If the total of a vector exceeds a bound by `e`, a walk that violates this bound loses at most
-//! `e` in all. So a guided walk prefers choices with small losses.
+//! The total of a vector can exceed a bound by an amount `e`. A walk that violates this bound then
+//! loses at most `e` in all. So a guided walk prefers choices with small losses.
 
 use crate::choices::Choice;
 use crate::machine::Machine;
@@ -25,8 +26,8 @@ pub(crate) struct Losses<'a> {
     potential: &'a Potential,
 }
 
-/// A body, with the weight of an actor at each position of this body, and the weight that remains
-/// when the actor has ended.
+/// A body and its weights: the weight of an actor at each position of the body, and the weight that
+/// remains when the actor has ended.
 #[derive(Clone, Copy)]
 struct WeightedBody<'a> {
     body: &'a [Action],
@@ -174,9 +175,9 @@ impl<'a> Losses<'a> {
         }
     }
 
-    /// Returns the weight that the state loses when a thread takes the first job of its pool's
-    /// queue. This job must be of the class. Returns `None` if no thread of the pool can take a
-    /// job.
+    /// Returns the weight that the state loses when a thread takes a job of the class. This job
+    /// must be the first one in the queue of the class's pool. Returns `None` if no thread of the
+    /// pool can take a job.
     ///
     /// If the job ends at once and its parent waits for it, the result includes the loss by the
     /// next steps of the parent. The same applies to further ancestors. At most [`MAX_PARENTS`]

@@ -124,9 +124,8 @@ impl<'a> Machine<'a> {
         Ok(Parent::Client(number))
     }
 
-    /// Returns the index of the actor's client kind if the actor is a client, and of its class if
-    /// it is a job. Returns `None` for a client that has not moved and for a job that was not
-    /// created.
+    /// Returns the index of a client's client kind, or the index of a job's class. Returns `None`
+    /// for a client that has not moved and for a job that was not created.
     pub(crate) fn kind_of(&self, actor: Parent) -> Option<usize> {
         match actor {
             Parent::Client(number) => self.active_clients.get(number).map(|client| client.kind),
@@ -171,8 +170,8 @@ impl<'a> Machine<'a> {
         None
     }
 
-    /// Returns the number of the job that the actor's current get names, even if this job is done.
-    /// Returns `None` if the actor is not at a get.
+    /// Returns the number of the job to get, if the actor is at a get. This job may already be
+    /// done. Returns `None` if the actor is not at a get.
     pub(crate) fn waits_for(&self, actor: Parent) -> Option<usize> {
         match self.point(actor)? {
             (_, Some(Action::Get(submit))) => self.child(actor, submit),
@@ -180,9 +179,9 @@ impl<'a> Machine<'a> {
         }
     }
 
-    /// Returns `true` if the actor has not yet passed the get of the job that the submit at
-    /// position `submit` creates. Returns `false` if the actor's body has no such get, or if the
-    /// actor is a queued or done job.
+    /// Returns `true` if the actor has not yet passed a certain get of its body. This is the get of
+    /// the job that the submit at position `submit` creates. Returns `false` if the body has no
+    /// such get, or if the actor is a queued or done job.
     pub(crate) fn is_to_get(&self, actor: Parent, submit: usize) -> bool {
         let Some((position, _)) = self.point(actor) else {
             return false;

@@ -1,5 +1,5 @@
-//! The check that no pool with a queued member of a waiting set starts a further thread. A waiting
-//! set is a set of jobs that wait only for each other.
+//! The check of pools in which members of a waiting set are queued. Such a pool must start no
+//! further thread. A waiting set is a set of jobs that wait only for each other.
 
 ghost use Rattle.std.specs.Prelude.{◌≡◌, ◌<◌, IsTrue, Some, length, slice_get};
 ghost use Rattle.job_bodies.specs.Plan.{pool_at};
@@ -113,8 +113,11 @@ fn has_max_threads(world: &World, pool: usize) -> bool
     state.threads() == state.max()
 }
 
-/// Returns `true` if the pool has at least `core` threads and starts none above `core`, because its
-/// queue is unbounded or its vector in `standing` proves it.
+/// Returns `true` if the pool has at least `core` threads and starts no thread above `core`. The
+/// pool starts none in two cases:
+///
+/// - The pool has an unbounded queue.
+/// - The pool's vector in `standing` proves that the pool never has more than `core` threads.
 fn stays_at_core(plan: &Plan, world: &World, pool: usize, standing: &[Vector]) -> bool
     requires inside { pool < length plan.now.pools }
     requires in_view { pool < length world.now.view.pools }
@@ -142,9 +145,9 @@ fn has_standing(plan: &Plan, pool: usize, standing: &[Vector]) -> bool
     }
 }
 
-/// Returns `true` if a rejected job does not increase the weight of a state under the vector. This
-/// requires that, in each class of a pool that may reject jobs, a done job weighs at most as much
-/// as a queued job.
+/// Returns `true` if a rejected job does not increase the weight of a state under the vector. For
+/// each class whose pool may reject jobs, tests whether a done job weighs at most as much as a
+/// queued job.
 fn rejected_are_light(plan: &Plan, vector: &Vector) -> bool
     requires { IsTrue (vector_fits plan.now vector.now) }
     ensures { result ≡ spec.rejected_are_light plan.now vector.now }

@@ -58,10 +58,11 @@ pub(crate) fn shuffle(keys: &mut [u64], rng: &mut Rng) {
     }
 }
 
-/// The parameters of a fixed order of the choices. They determine
+/// The parameters of a fixed order of the choices. The choices are in three groups: first submits
+/// of clients, other submits, and what idle threads do (take a queued job or end). The parameters
+/// determine
 ///
-/// - the order of three groups: first submits of clients, other submits, and takes of queued jobs
-///   with ends of threads,
+/// - the order of the three groups,
 /// - whether clients that have moved come before new ones,
 /// - whether later choices come before earlier ones, and
 /// - whether later client kinds come before earlier ones.

@@ -186,9 +186,12 @@ impl SearchPool {
         self.core_timeout && self.idle < self.threads && (self.unbounded || self.capacity > 0)
     }
 
-    /// Returns `true` if core threads may time out and an idle thread can end. The pool must have
-    /// another thread or no queued job. If the queue has the capacity 0, each queued job was handed
-    /// to an idle thread, so more threads must be idle than jobs are queued.
+    /// Returns `true` if core threads may time out and an idle thread can end. An idle thread can
+    /// end only if two conditions hold:
+    ///
+    /// - If jobs are queued, the pool must have another thread.
+    /// - If the queue has the capacity 0, more threads must be idle than jobs are queued. The
+    ///   reason is that each queued job was handed to an idle thread.
     pub(crate) fn can_retire(&self) -> bool {
         let queued = self.queue.len() as u64;
         self.core_timeout

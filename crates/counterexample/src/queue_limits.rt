@@ -2,8 +2,8 @@
 //! add jobs to it forever. The search makes a submit to such a queue only if the queue has fewer
 //! jobs than the limit of this submit.
 //!
-//! The limits leave room for the jobs that the running jobs of all pools can have submitted, and
-//! for a few more, which can become running jobs.
+//! The running jobs of all pools can have submitted jobs to the queue. The limits leave room for
+//! all of these jobs. They also leave room for a few more jobs, which can become running jobs.
 
 use crate::pools::most_threads;
 use job_bodies::{Action, Plan};
@@ -64,8 +64,9 @@ impl<'a> QueueLimits<'a> {
 }
 
 /// Returns the maximum number of jobs that a search puts into the pool's unbounded queue. It is the
-/// sum of [`FOR_CLIENTS`] and a number for each thread of each pool: the greatest number of submits
-/// to this queue in one body that the thread can run.
+/// sum of [`FOR_CLIENTS`] and the submits of all threads of all pools to this queue. For this sum,
+/// each thread runs one body. Of the bodies that the thread can run, this is the one with the most
+/// submits to this queue.
 pub(crate) fn most_queued(plan: &Plan, pool: usize) -> u64 {
     let mut jobs = FOR_CLIENTS;
     for (number, from) in plan.pools().iter().enumerate() {
@@ -75,8 +76,8 @@ pub(crate) fn most_queued(plan: &Plan, pool: usize) -> u64 {
     jobs
 }
 
-/// Returns the greatest number of submits to the pool `to` in the body of a class of the pool
-/// `from`.
+/// Counts the submits in the body of each class, and returns the greatest count. Only classes of
+/// the pool with the number `from` and submits to the pool with the number `to` are considered.
 fn most_submits(plan: &Plan, from: usize, to: usize) -> u64 {
     let mut most = 0u64;
     for class in plan.classes() {

@@ -18,7 +18,8 @@ use std::alloc::{AllocError, Global};
 /// but no submit is refused. Returns `None` if
 ///
 /// - the search finds no such events, although there may be some,
-/// - the pool must not reject jobs, or has an unbounded queue and so never rejects a job, or
+/// - the pool must not reject jobs,
+/// - the pool has an unbounded queue, and so never rejects a job, or
 /// - there is no such pool.
 ///
 /// The result is the same for each call with the same arguments.
@@ -90,8 +91,12 @@ fn copies_of(alloc: Global, pools: &[Pool]) -> Result<Vec<Pool>, AllocError>
     Ok(copies)
 }
 
-/// Returns the events up to the first event in which the pool rejects a job. Returns `None` if
-/// there is no such event, or if an event before it is not possible or is a refused submit.
+/// Returns the events up to and including the first event in which the pool rejects a job. Returns
+/// `None` if
+///
+/// - there is no such event,
+/// - an earlier event is not possible, or
+/// - an earlier event is a refused submit.
 fn until_rejected(
     alloc: Global,
     plan: &Plan,
@@ -112,9 +117,12 @@ fn until_rejected(
     }
 }
 
-/// Performs the events in `world`, which must be in the plan's initial state, up to the first event
-/// in which the pool rejects a job. Returns the number of these events. Returns `None` if there is
-/// no such event, or if an event before it is not possible or is a refused submit.
+/// Performs the events in `world` until the pool rejects a job, and returns the number of performed
+/// events. `world` must be in the plan's initial state. Returns `None` if
+///
+/// - the pool rejects no job,
+/// - an earlier event is not possible, or
+/// - an earlier event is a refused submit.
 fn first_rejection(
     plan: &Plan,
     world: &mut World,

@@ -120,9 +120,9 @@ impl<'a> Replay<'a> {
         }
     }
 
-    /// Returns the client of the replay that corresponds to the client `client` of the script. Adds
-    /// this client to the replay if it has not moved yet. Returns `None` if the script has no
-    /// client with this number.
+    /// Maps the client of the script with this number to a client of the replay, and returns the
+    /// client of the replay. If this client has not moved in the replay yet, adds the client to the
+    /// replay. Returns `None` if the script has no client with this number.
     fn client(&mut self, script: &Script, client: usize) -> Result<Option<Parent>, AllocError> {
         if let Some(actor) = self.clients.get(client).copied().unwrap_or(None) {
             return Ok(Some(actor));

@@ -56,9 +56,9 @@ impl Script {
         Ok(())
     }
 
-    /// Returns the events, with each client's number replaced by its number in the plan. Of the
-    /// clients of a client kind, the one that moves first gets the lowest number of the kind, and
-    /// so on.
+    /// Returns the events, with each client's number replaced by its number in the plan. The
+    /// clients of a client kind get the numbers of this kind in the order of their first moves. The
+    /// first to move gets the lowest number.
     pub(crate) fn events(&self, alloc: Global, plan: &Plan) -> Result<Vec<Event>, AllocError> {
         let numbers = self.numbers(alloc, plan)?;
         self.steps

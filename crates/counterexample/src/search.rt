@@ -1,7 +1,11 @@
 //! The search for a witness: several kinds of walks, and then a best-first search. A walk starts in
 //! the plan's initial state and makes possible choices. A guided walk makes the choices that lose
-//! the least weight under a vector. A violation is *permanent* if it is a refused submit, or if
-//! jobs wait only for each other and no later event ends the wait.
+//! the least weight under a vector.
+//!
+//! A violation is *permanent* in two cases:
+//!
+//! - A submit is refused.
+//! - Jobs wait only for each other, and no later event ends this wait.
 
 ghost use Rattle.std.specs.Prelude.{◌≤◌, IfOk};
 
@@ -51,10 +55,12 @@ pub struct SearchResult {
     pub states: usize,
 }
 
-/// Searches for a witness against the plan: events that end in a refused submit, or after which
-/// jobs wait only for each other. A later event may end this wait. Visits at most `states` states.
-/// If the search finds no witness, the plan may still have one. The result is the same for each
-/// call with the same arguments.
+/// Searches for a witness against the plan. A witness is a list of events. Either the last event is
+/// a refused submit, or some jobs wait only for each other after the last event. A later event may
+/// end this wait.
+///
+/// Visits at most `states` states. If the search finds no witness, the plan may still have one. The
+/// result is the same for each call with the same arguments.
 ///
 /// The contract promises nothing about the events that are found. Pass them to
 /// [`confirmed`](crate::confirmed), which replays them.
@@ -184,8 +190,9 @@ impl Search<'_> {
     }
 
     /// Performs the best-first search, which may visit all remaining states. Returns a probable
-    /// witness if the search finds a permanent violation. Stores the events of a violation that is
-    /// not permanent in `stuck_now`, if `stuck_now` has no events yet.
+    /// witness if the search finds a permanent violation. The search can also find a violation that
+    /// is not permanent. If `stuck_now` has no events yet, stores the events of this violation
+    /// there.
     fn best_first(
         &mut self,
         potentials: &[Potential],
@@ -211,9 +218,10 @@ impl Search<'_> {
         }
     }
 
-    /// Performs a walk by these rules. If there is a vector `potential`, it guides the walk.
-    /// Returns a probable witness if the walk finds a permanent violation. Stores the events of a
-    /// violation that is not permanent in `stuck_now`, if `stuck_now` has no events yet.
+    /// Performs a walk by these rules. If `potential` is given, this vector guides the walk.
+    /// Returns a probable witness if the walk finds a permanent violation. The walk can also find a
+    /// violation that is not permanent. If `stuck_now` has no events yet, stores the events of this
+    /// violation there.
     fn walk_once(
         &mut self,
         rules: Rules,
@@ -262,7 +270,8 @@ impl Search<'_> {
         }
     }
 
-    /// Returns the rules of a walk that makes its choices in fixed order `number`.
+    /// Returns the rules of a walk with a fixed order of choices. `number` is the number of this
+    /// order.
     fn fixed_rules(&self, number: usize) -> Result<Rules, AllocError> {
         Ok(Rules {
             keys: fixed_order(self.alloc, &self.choices.all, number)?,
@@ -285,8 +294,8 @@ impl Search<'_> {
     }
 
     /// Returns the rules of the random walk with this number. In every eighth walk, any number of
-    /// clients may move. In the other walks, at most 1 to 7 clients may move. This limit grows by 1
-    /// after every 64 walks.
+    /// clients may move. Each other walk has a limit on the number of clients that may move. In the
+    /// first 64 walks, this limit is between 1 and 7. It grows by 1 after every 64 walks.
     fn random_rules(&mut self, number: usize) -> Result<Rules, AllocError> {
         let mut rules = self.fixed_rules(number)?;
         shuffle(&mut rules.keys, &mut self.rng);
@@ -299,9 +308,9 @@ impl Search<'_> {
     }
 }
 
-/// Returns the limit on the number of states that one walk visits: 12 times the sum of the maximums
-/// and queue capacities of all pools, plus 128. A pool with an unbounded queue adds its core size
-/// and [`most_queued`] to the sum.
+/// Returns the maximum number of states that one walk may visit. It is 12 times a sum, plus 128.
+/// Each pool adds its maximum and its queue capacity to the sum. A pool with an unbounded queue
+/// adds its core size and [`most_queued`] instead.
 fn longest_walk(plan: &Plan) -> usize {
     let mut room = 0u64;
     for (number, pool) in plan.pools().iter().enumerate() {
@@ -317,10 +326,11 @@ fn longest_walk(plan: &Plan) -> usize {
     room.saturating_mul(12).saturating_add(128) as usize
 }
 
-/// Shortens the script, whose events end in `violation`, and returns the result as a probable
-/// witness. The shorter script ends in the same violation or in a refused submit. If the jobs wait
-/// only for each other once some idle threads have ended, the witness also has the events that end
-/// these threads.
+/// Shortens the script, and returns the result as a probable witness. The given script ends in
+/// `violation`. The shorter script ends in the same violation or in a refused submit.
+///
+/// Some violations need idle threads to end: only then do jobs wait only for each other. The
+/// witness then also has the events that end these threads.
 fn answer_of(
     alloc: Global,
     plan: &Plan,

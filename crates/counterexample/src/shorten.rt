@@ -15,8 +15,9 @@ const MAX_REPLAYED: u64 = 6_000_000;
 const WHOLE_REPLAYS: u64 = 24;
 /// The maximum number of rounds, each of which tries every kind of removal.
 const MAX_ROUNDS: usize = 8;
-/// The maximum number of times that the size of the parts to remove is halved. It is large enough
-/// for every script.
+/// The maximum number of times that a removal halves the size of its parts. A removal first tries
+/// to remove large parts of a script, and then smaller ones. The maximum is large enough for every
+/// script.
 const MAX_HALVES: usize = 40;
 
 /// The state of the shortening of a script: the script so far, and the number of events that may
@@ -60,8 +61,11 @@ pub(crate) fn shorten_script(
 }
 
 impl Shortener<'_> {
-    /// Tries to remove all events in which a thread ends, if there are any, then all events of jobs,
-    /// and then all events in which a thread takes a job from a queue.
+    /// Tries to remove all events of a kind, for each of these kinds in order:
+    ///
+    /// - events in which a thread ends, if there are any,
+    /// - events of jobs, and
+    /// - events in which a thread takes a job from a queue.
     fn without_kinds(&mut self) -> Result<(), AllocError> {
         if self
             .script
@@ -114,8 +118,9 @@ impl Shortener<'_> {
         Ok(())
     }
 
-    /// Tries, for each event, to remove this event and all equal later events. These are the later
-    /// steps of the same actor, or the later takes or ends of threads of the same pool.
+    /// Tries, for each event, to remove this event and all equal later events. Two steps of the
+    /// same actor are equal events. If threads of the same pool take jobs, these are equal events
+    /// too. The same applies if threads of the same pool end.
     fn with_actors_still(&mut self) -> Result<(), AllocError> {
         for from in (0..self.script.steps.len()).rev() {
             if let Some(act) = self.script.steps.get(from).copied() {
@@ -125,10 +130,13 @@ impl Shortener<'_> {
         Ok(())
     }
 
-    /// Replays the script without the events for which `is_out` returns `true`, and skips events
-    /// that are no longer possible. The performed events become the script if they are fewer and
-    /// still end in the violation or in a refused submit. Does nothing if the replay would be too
-    /// long.
+    /// Replays the script without the events for which `is_out` returns `true`. Skips events that
+    /// are no longer possible. Does nothing if the replay would be too long.
+    ///
+    /// The performed events become the new script if two conditions hold:
+    ///
+    /// - There are fewer events than before.
+    /// - The events still end in the violation or in a refused submit.
     fn try_without<F: Fn(usize, Event) -> bool>(&mut self, is_out: F) -> Result<(), AllocError>
         requires { F.IsAlwaysCallable is_out }
     {

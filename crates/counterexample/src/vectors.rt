@@ -56,8 +56,9 @@ struct MissedVectors {
 }
 
 impl MissedVectors {
-    /// Returns `true` if the pool's lightest vector of this kind has a total of at most `limit`.
-    /// Otherwise returns `false`, and records this vector if there is one.
+    /// Returns `true` if the pool's lightest vector of this kind has a total of at most `limit`. If
+    /// the total is larger, records this vector and returns `false`. Also returns `false` if there
+    /// is no vector of this kind.
     fn holds(
         &mut self,
         growing: &ResizedPlan,
@@ -86,10 +87,14 @@ impl MissedVectors {
         Ok(false)
     }
 
-    /// Gives `rank` to each pool that has no rank and has enough threads: the total of its lightest
-    /// blocked vector for this rank is below the number of threads that the pool has while a job is
-    /// queued. Returns whether any pool got the rank. If none did, records the blocked vectors that
-    /// were found, because their totals are too large.
+    /// Gives `rank` to each pool that has no rank and has enough threads. A pool has enough threads
+    /// if the first of these numbers is less than the second:
+    ///
+    /// - the total of the pool's lightest blocked vector for this rank, and
+    /// - the number of threads that the pool has while a job is queued.
+    ///
+    /// Returns whether any pool got the rank. If none did, records the blocked vectors that were
+    /// found, because their totals are too large.
     fn rank_pools(
         &mut self,
         growing: &ResizedPlan,

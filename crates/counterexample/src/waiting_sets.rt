@@ -19,8 +19,8 @@ pub(crate) struct JobSet {
 
 impl JobSet {
     /// Returns the greatest set of jobs that wait only for each other, which may be empty. If
-    /// `permanent` is `true`, the members must wait forever: each pool that has one of them in its
-    /// queue must have `max` threads.
+    /// `permanent` is `true`, the members must wait forever: if a member is queued in a pool, this
+    /// pool must have `max` threads.
     pub(crate) fn greatest(
         alloc: Global,
         machine: &Machine,
@@ -97,8 +97,8 @@ impl JobSet {
     /// Removes members until each remaining member waits only for members. If `permanent` is
     /// `true`, also removes each queued job in a pool with fewer than `max` threads.
     ///
-    /// There are at most 2 rounds more than pools: each round between the first and the last finds
-    /// fewer closed pools.
+    /// The number of rounds is at most the number of pools plus 2. The reason is that each round
+    /// between the first and the last finds fewer closed pools than the round before.
     fn shrink(
         &mut self,
         alloc: Global,
@@ -115,8 +115,13 @@ impl JobSet {
     }
 
     /// Returns, for each pool, whether it is closed. The queued jobs of a closed pool wait only for
-    /// members: each running job is a member, and no thread is idle or all idle threads can end. If
-    /// `permanent` is `true`, a closed pool must also have `max` threads, all busy.
+    /// members. A pool is closed if two conditions hold:
+    ///
+    /// - Each running job of the pool is a member.
+    /// - No thread of the pool is idle, or all its idle threads can end.
+    ///
+    /// If `permanent` is `true`, a closed pool must also have `max` threads, and all of them must
+    /// be busy.
     fn closed_pools(
         &self,
         alloc: Global,

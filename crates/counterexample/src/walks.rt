@@ -23,8 +23,8 @@ const FOR_A_LOSS: u64 = 10_000_000_000_000;
 pub(crate) enum Violation {
     /// The last event is a refused submit.
     Refused,
-    /// Some jobs wait only for each other, and each pool that has one of these jobs in its queue
-    /// has `max` threads.
+    /// Some jobs wait only for each other. If one of these jobs is queued in a pool, this pool has
+    /// `max` threads.
     StuckForever,
     /// Some jobs wait only for each other, either already or once idle threads end. A later event
     /// may end this wait.
@@ -78,16 +78,17 @@ pub(crate) struct Walk<'a> {
     pub(crate) ready: Vec<Vec<Parent>>,
     /// For each client kind, the number of its clients that have started their bodies.
     pub(crate) begun: Vec<u64>,
-    /// The choices that ended in a rejected submit since the last choice with another outcome.
+    /// The choices that ended in a rejected submit. A choice with any other outcome clears this
+    /// list.
     pub(crate) rejected: Vec<usize>,
     /// Whether an actor has stopped since this flag was last cleared. An actor stops at a get that
     /// must wait, and a client also stops at the end of its body.
     pub(crate) has_blocked: bool,
 }
 
-/// Performs a walk by these rules from the plan's initial state. If there is a vector `potential`,
-/// it guides the walk. After each choice, performs the steps that need no further choice. The walk
-/// ends at a violation, when no choice is possible, or at the limit of states.
+/// Performs a walk by these rules from the plan's initial state. If `potential` is given, this
+/// vector guides the walk. After each choice, performs the steps that need no further choice. The
+/// walk ends at a violation, when no choice is possible, or at the limit of states.
 pub(crate) fn perform_walk<'a>(
     alloc: Global,
     plan: &'a Plan,
@@ -329,8 +330,8 @@ impl<'a> Walk<'a> {
     }
 
     /// Performs the actor's steps up to its next submit, a get that must wait, or its end. At a
-    /// submit, adds the actor to those that are ready for it. If a job ends for which its parent
-    /// waits, continues with the steps of the parent.
+    /// submit, adds the actor to those that are ready for this submit. If a job ends while its
+    /// parent waits for this job, continues with the steps of the parent.
     pub(crate) fn settle(&mut self, actor: Parent) -> Result<(), AllocError> {
         let mut actor = actor;
         for _ in 0..u64::MAX {
@@ -360,7 +361,7 @@ impl<'a> Walk<'a> {
         Ok(())
     }
 
-    /// Adds the actor, which is at a submit, to the actors that are ready for it.
+    /// Adds the actor, which is at a submit, to the actors that are ready for this submit.
     fn add_ready(&mut self, actor: Parent, position: usize) -> Result<(), AllocError> {
         let place = self.choices.place_of(&self.machine, actor, position);
         if let Some(ready) = place.and_then(|place| self.ready.get_mut(place)) {

@@ -2,9 +2,11 @@
 
 ghost use Rattle.event_lines.specs.Laws.{EventLinesAreCanonical};
 
-/// States that each event line has exactly one spelling. For a well-formed plan, a text parses as a
-/// list of lines exactly when the lines are valid and the text is their canonical text. The newline
-/// after the last line may be missing.
+/// States that each event line has exactly one spelling. Consider a well-formed plan, a text and a
+/// list of lines. The text parses as this list if and only if both of these conditions hold:
+///
+/// - Each line of the list is valid.
+/// - The text is the canonical text of the list. The newline after the last line may be missing.
 pub fn event_lines_are_canonical()
     ensures { EventLinesAreCanonical }
 {}

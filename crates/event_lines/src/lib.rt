@@ -1,5 +1,5 @@
-//! The lines of a replay. The lines of its input have events and questions (`client 0`, `take p`,
-//! `stuck 0 1`), and the lines of its output have their results (`1: started job 0`).
+//! The input and output lines of a replay. An input line has an event or a question, such as
+//! `client 0`, `take p` or `stuck 0 1`. An output line has the result, such as `1: started job 0`.
 //!
 //! [`EventLines`] parses the input line by line. The functions for the output append one line at a
 //! time. Each output line begins with the number of the input line to which it replies.

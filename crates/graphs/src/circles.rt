@@ -9,8 +9,8 @@ use crate::node_set::NodeSet;
 use std::alloc::{AllocError, Global};
 
 impl Graph {
-    /// Returns the first node that is on a circle, of the nodes with the number `first` or a higher
-    /// one. Returns `None` if none of these nodes is on a circle.
+    /// Returns the first node that is on a circle. Skips the nodes with numbers below `first`.
+    /// Returns `None` if no other node is on a circle.
     ///
     /// # Errors
     ///

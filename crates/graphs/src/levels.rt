@@ -17,7 +17,8 @@ fn number_at(numbers: &[u64], place: usize) -> u64
     }
 }
 
-/// Returns the least level that is above the levels of the nodes, or 0 if there are none.
+/// Returns the least level that is above the levels of these nodes, or 0 if there are no nodes.
+/// `levels` has the level of each node of the graph.
 fn level_above(levels: &[u64], nodes: &[usize]) -> u64
     requires { (node : ℕ) → slice_index levels.now node < 2 ^ 32 }
     ensures { result ≡ spec.level_above levels.now nodes.now }
@@ -29,7 +30,8 @@ fn level_above(levels: &[u64], nodes: &[usize]) -> u64
     highest
 }
 
-/// Returns, for each node, the least level that is above the levels of its successors in `levels`.
+/// Returns a new level for each node: the least level that is above the old levels of its
+/// successors. `levels` has the old levels.
 fn next_levels(alloc: Global, graph: &Graph, levels: &[u64]) -> Result<Vec<u64>, AllocError>
     requires { (node : ℕ) → slice_index levels.now node < 2 ^ 32 }
     ensures { IfOk result (λ next. next.items ≡ map (spec.level_above levels.now) graph.now) }

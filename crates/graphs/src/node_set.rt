@@ -93,7 +93,7 @@ impl NodeSet {
         Ok(())
     }
 
-    /// Adds each node to which a path from a node in the set leads.
+    /// Adds all nodes that can be reached from the nodes in the set.
     pub(crate) fn add_all(&mut self, graph: &Graph) -> Result<(), AllocError>
         requires closed { IsClosed graph.now }
         requires as_many { length self.old.is_found.items ≡ length graph.now }

@@ -9,8 +9,8 @@ use crate::node_set::NodeSet;
 use std::alloc::{AllocError, Global};
 
 impl Graph {
-    /// Returns, for each node, whether it is in `first` or a path from a node in `first` leads to
-    /// it.
+    /// Returns, for each node, whether it can be reached from a node in `first`. Each node in
+    /// `first` counts as reached.
     ///
     /// # Errors
     ///

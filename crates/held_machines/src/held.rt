@@ -87,8 +87,8 @@ impl<M: Machine + Drop> Held<M> {
         self.history
     }
 
-    /// Performs the event if it is possible and returns a receipt for it. Returns `None` if the
-    /// event is not possible.
+    /// Performs the event, if it is possible, and returns a receipt for the event. Returns `None`
+    /// if the event is not possible.
     ///
     /// # Errors
     ///

@@ -1,10 +1,11 @@
-//! Machines whose states are stored together with the events that led to them. A lock can protect
-//! such a machine.
+//! Machines with a history. The state of such a machine is stored together with the events that led
+//! to this state. A lock can protect the machine.
 //!
-//! A [`Machine`] is specified by an initial state and a next state for each event. [`Held`] stores
-//! the state of a machine and its history: the list of the events that it performed. A replay of
-//! the history from the initial state always leads to the stored state. [`Locked`] protects a
-//! `Held` by a lock, for threads that perform events of the same machine.
+//! The specification of a [`Machine`] gives the initial state, and the next state after each
+//! possible event. [`Held`] stores the state of a machine and its history: the list of the events
+//! that the machine performed. A replay of the history from the initial state always leads to the
+//! stored state. [`Locked`] protects a `Held` by a lock, for threads that perform events of the
+//! same machine.
 #![tactic(auto)]
 
 mod held;

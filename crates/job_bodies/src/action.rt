@@ -11,9 +11,9 @@ pub enum Action {
     /// The actor submits a job of the class with this index to the pool of the class, and
     /// continues. This is what Java's `submit` does.
     Submit(usize),
-    /// The actor waits for the job that it submitted at this position of the same body, as in
-    /// Java's `Future.get`. If the body repeats, the actor waits for the latest job that it
-    /// submitted there. A body has at most one get for each of its submits.
+    /// The actor waits for a job that it submitted, as in Java's `Future.get`. The number is the
+    /// position of the submit in the same body. If the body repeats, the actor waits for the latest
+    /// job that it submitted at this position. A body has at most one get for each of its submits.
     Get(usize),
 }
 

@@ -1,4 +1,4 @@
-//! The checks of the lists of a plan, in the order in which their faults are reported.
+//! The checks of the lists of a plan. Faults are reported in the order of these checks.
 
 ghost use Rattle.std.specs.Prelude.{◌≡◌, List, length, map, take};
 ghost use Rattle.support.specs.Reading.{check_each};

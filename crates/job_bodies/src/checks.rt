@@ -54,8 +54,8 @@ pub(crate) fn check_client(clients: &[Client], index: usize) -> Result<(), PlanF
     ensure(valid, PlanFault::at_entry(Part::Client, index, BAD_NUMBER))
 }
 
-/// Checks that the body has at most [`MAX_ACTIONS`] actions. A fault names the entry with this
-/// body, which is at `index` in the list for `part`.
+/// Checks that the body has at most [`MAX_ACTIONS`] actions. The body belongs to the entry at
+/// `index` in the list for `part`. A fault names this entry.
 pub(crate) fn check_length(part: Part, index: usize, body: &[Action]) -> Result<(), PlanFault>
     ensures { result ≡ check_length part index body.now }
 {
@@ -65,8 +65,8 @@ pub(crate) fn check_length(part: Part, index: usize, body: &[Action]) -> Result<
 
 /// Returns true if at least one of these actions is a get of the submit at position `submit`.
 ///
-/// `got` must be the table of these actions: its element at each position is true if one of the
-/// actions is a get of the submit at this position.
+/// `got` must be the table of these actions: `got[p]` is true if one of the actions is a get of the
+/// submit at position `p`.
 fn has_get_in_table(actions: &[Action], got: &[bool; MAX_ACTIONS], submit: usize) -> bool
     requires { IsTableOf actions.now got.now }
     ensures { result ≡ has_get_of actions.now submit }
@@ -77,8 +77,8 @@ fn has_get_in_table(actions: &[Action], got: &[bool; MAX_ACTIONS], submit: usize
     }
 }
 
-/// Adds an action to the table `got`. If the action is a get, sets the element at the position of
-/// its submit to true.
+/// Adds an action to the table `got`. If the action is a get of the submit at position `p`, sets
+/// `got[p]` to true.
 fn add_to_table(got: &mut [bool; MAX_ACTIONS], action: Action)
     ensures { (actions : List Action)
         → IsTableOf actions got.old
@@ -91,9 +91,14 @@ fn add_to_table(got: &mut [bool; MAX_ACTIONS], action: Action)
     }
 }
 
-/// Returns true if a get at `position` of the body may name the position `submit`. There must be a
-/// submit at this earlier position, and no earlier get may name it. `got` is the table of the
-/// actions before `position`.
+/// Returns true if a get is valid. The get is at `position` of the body, and it names the position
+/// `submit`. It is valid if these conditions hold:
+///
+/// - The position `submit` is before `position`.
+/// - There is a submit at this earlier position.
+/// - No action before `position` is a get of the same submit.
+///
+/// `got` is the table of the actions before `position`.
 fn is_valid_get(body: &[Action], got: &[bool; MAX_ACTIONS], position: usize, submit: usize) -> bool
     requires position { position < length body.now }
     requires table { IsTableOf (take position body.now) got.now }
@@ -108,7 +113,7 @@ fn is_valid_get(body: &[Action], got: &[bool; MAX_ACTIONS], position: usize, sub
 ///
 /// - `classes` is the number of the plan's classes.
 /// - `got` is the table of the actions before `position`.
-/// - A fault names the entry with this body, which is at `index` in the list for `part`.
+/// - The body belongs to the entry at `index` in the list for `part`. A fault names this entry.
 fn check_action(
     classes: usize,
     part: Part,
@@ -133,7 +138,7 @@ fn check_action(
 /// Checks each action of the body, in order.
 ///
 /// - `classes` is the number of the plan's classes.
-/// - A fault names the entry with this body, which is at `index` in the list for `part`.
+/// - The body belongs to the entry at `index` in the list for `part`. A fault names this entry.
 #[tactic(auto, using(crate::proofs::Loops::check_each_turn))]
 pub(crate) fn check_body(
     classes: usize,

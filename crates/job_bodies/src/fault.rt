@@ -43,8 +43,8 @@ impl PlanFault {
         }
     }
 
-    /// Creates a fault with this number that belongs to the entry at `index` in the list for
-    /// `part`.
+    /// Creates a fault with this number that belongs to an entry. The entry is at `index` in the
+    /// list for `part`, such as the list of pools.
     pub fn at_entry(part: Part, index: usize, number: u8) -> PlanFault
         ensures { result ≡ at_entry part index number }
     {
@@ -56,8 +56,8 @@ impl PlanFault {
         }
     }
 
-    /// Creates a fault with this number that belongs to the action at position `action` of a body.
-    /// The body is that of the entry at `index` in the list for `part`.
+    /// Creates a fault with this number that belongs to an action. The action is at position
+    /// `action` in the body of an entry. This entry is at `index` in the list for `part`.
     pub fn at_action(part: Part, index: usize, action: usize, number: u8) -> PlanFault
         ensures { result ≡ at_action part index action number }
     {

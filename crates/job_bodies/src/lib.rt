@@ -1,10 +1,10 @@
 //! Plans: pools of threads, classes of jobs and client kinds. Each class and each client kind has a
 //! body of actions.
 //!
-//! [`Plan::build`] creates a plan from lists or returns their first fault. The type [`Plan`]
-//! guarantees that a plan is well-formed, so the crates that use it do not check this again. A
-//! parser of plans makes the same checks with [`is_valid_name`], [`Pool::has_valid_sizes`] and
-//! [`is_within`].
+//! [`Plan::build`] creates a plan from lists, or returns the first fault of the lists. The type
+//! [`Plan`] guarantees that a plan is well-formed, so the crates that use this type do not check
+//! plans again. A parser of plans makes the same checks as [`Plan::build`]. It uses
+//! [`is_valid_name`], [`Pool::has_valid_sizes`] and [`is_within`].
 #![tactic(auto)]
 
 mod action;

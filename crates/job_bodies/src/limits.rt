@@ -15,10 +15,11 @@ pub const MAX_CLASSES: usize = 256;
 pub const MAX_CLIENT_KINDS: usize = 256;
 /// The maximum number of actions of a body. The minimum is 0.
 pub const MAX_ACTIONS: usize = 256;
-/// The maximum of each size of a pool (core, maximum and queue capacity), and of the count of a
-/// client kind. The minimum is 1, or 0 for the queue capacity of a pool that may reject jobs.
+/// The maximum of each of these numbers: the core size, the maximum and the queue capacity of a
+/// pool, and the count of a client kind. The minimum is 1. A queue capacity can also be 0 if the
+/// pool may reject jobs.
 pub const MAX_SIZE: u64 = 1_000_000;
-/// The maximum of a pool for which the plan gives no maximum: 2^28 - 1. The queue of such a pool is
+/// The `max` of a pool if its plan sets no maximum: 2^28 - 1. The queue of such a pool is
 /// unbounded, and its core threads may time out. No system has room for that many threads. Java's
 /// `ThreadPoolExecutor` allows them: it packs the number of its threads in 29 bits.
 pub const MAX_THREADS: u64 = 268_435_455;

@@ -15,19 +15,20 @@ use std::marker::Model;
 /// `AbortPolicy`. The queue is like an `ArrayBlockingQueue` or a `LinkedBlockingQueue`.
 /// `PoolState::offer` of `pool_machine` defines what the pool does with a submitted job.
 ///
-/// The sizes have the ranges of the constructor in the Javadoc: the maximum is at least 1 and at
-/// least core, and the capacity is at least 1. There are these differences:
+/// The sizes have the ranges that the Javadoc of the constructor gives. The maximum is at least 1
+/// and at least the core size, and the capacity is at least 1. There are these differences:
 ///
-/// - Core is at least 1.
-/// - No size is above [`MAX_SIZE`], with one exception. The maximum of a pool [without a maximum of
-///   its own](Pool::has_no_max) is [`MAX_THREADS`].
+/// - The core size is at least 1.
+/// - No size is above [`MAX_SIZE`], with one exception. If the pool [has no maximum of its
+///   own](Pool::has_no_max), its `max` is [`MAX_THREADS`].
 /// - If `may_reject` is true, the capacity can also be 0, that of a `SynchronousQueue`.
 #[derive(Debug, Drop)]
 pub struct Pool {
     /// The name of the pool, as plans and answers show it.
     pub name: String,
-    /// The core pool size in threads: from 1 to `max`. While the pool has fewer threads, each
-    /// submitted job starts one. The core threads never end, unless `core_timeout` is true.
+    /// The core pool size in threads: from 1 to `max`. While the pool has fewer threads than
+    /// `core`, each submitted job starts a thread. The core threads never end, unless
+    /// `core_timeout` is true.
     pub core: u64,
     /// The maximum pool size in threads: from `core` to 1,000,000, or [`MAX_THREADS`] if the pool
     /// [has no maximum of its own](Pool::has_no_max).
@@ -48,19 +49,19 @@ pub struct Pool {
     /// should ever be refused.
     pub may_reject: bool,
     /// Whether the queue is unbounded, like a `LinkedBlockingQueue` without a capacity. The pool
-    /// then refuses no job, and `queue` has no effect on what it does. Unless core threads may time
-    /// out, the pool also starts no thread above core, and `max` has no effect.
+    /// then refuses no job, and `queue` has no effect on what the pool does. If core threads may
+    /// not time out, the pool never has more than `core` threads, so `max` has no effect either.
     ///
-    /// A plan that is read from a text has fixed values for sizes without an effect. For `queue`,
-    /// this is 1,000,000. For `max`, it is `core`, because the totals of a certificate count `max`
-    /// threads.
+    /// A plan that is read from a text has fixed values for sizes without an effect: 1,000,000 for
+    /// `queue`, and `core` for `max`. The value for `max` is `core` because the totals of a
+    /// certificate count `max` threads.
     pub unbounded: bool,
-    /// Whether core threads may time out, as after Java's `allowCoreThreadTimeOut(true)`. An idle
-    /// thread can then end, unless it is the last thread and jobs are queued. So a pool with a
-    /// queued job may have only one thread.
+    /// Whether core threads may time out, as after Java's `allowCoreThreadTimeOut(true)`. Any idle
+    /// thread can then end, except that the last thread does not end while jobs are queued. So a
+    /// pool with a queued job may have only one thread.
     ///
-    /// If a thread ends while jobs are queued, Java replaces it. So a pool can have threads above
-    /// core even if its queue is unbounded.
+    /// Java replaces a thread that ends while jobs are queued. So a pool can have more than `core`
+    /// threads even if its queue is unbounded.
     pub core_timeout: bool,
 }
 
@@ -73,8 +74,9 @@ impl Model for Pool {
 impl Pool {
     /// Returns whether the sizes are in range:
     ///
-    /// - Core is from 1 to 1,000,000.
-    /// - The maximum is from core to 1,000,000, or the pool [has no maximum](Pool::has_no_max).
+    /// - The core size is from 1 to 1,000,000.
+    /// - The maximum is from the core size to 1,000,000, or the pool [has no
+    ///   maximum](Pool::has_no_max).
     /// - The queue is from its [least capacity](Pool::least_queue) to 1,000,000.
     pub fn has_valid_sizes(&self) -> bool
         ensures { result ≡ has_valid_sizes self.now }
@@ -99,16 +101,16 @@ impl Pool {
         if self.may_reject { 0 } else { 1 }
     }
 
-    /// Returns the least number of threads that the pool has while a job is in its queue: core, or
-    /// 1 if core threads may time out.
+    /// Returns the least number of threads that the pool has while a job is in its queue. This is
+    /// the core size, or 1 if core threads may time out.
     pub fn least_threads(&self) -> u64
         ensures { result ≡ spec.least_threads self.now }
     {
         if self.core_timeout { 1 } else { self.core }
     }
 
-    /// Returns whether a certificate needs no vector that bounds the pool's queue. This is so if
-    /// the pool may reject jobs or its queue is unbounded.
+    /// Returns true if the pool may reject jobs or its queue is unbounded. A certificate then needs
+    /// no vector that bounds the pool's queue.
     pub fn needs_no_bound(&self) -> bool
         ensures { result ≡ spec.needs_no_bound self.now }
     {
@@ -142,7 +144,7 @@ impl Model for Class {
     ghost view = { λ k. record { name = string_bytes k.name; pool = k.pool; body = k.body.items } };
 }
 
-/// A client kind. Clients are threads outside the pools that submit jobs to the pools.
+/// A client kind. Clients are threads outside the pools. They submit jobs to the pools.
 #[derive(Debug, Drop)]
 pub struct Client {
     /// The name of the client kind, as plans and answers show it.
@@ -188,19 +190,18 @@ impl Plan {
     ///
     /// # Errors
     ///
-    /// Returns the first fault of the lists, with the entry that has it and, if an action has it,
-    /// the action. The checks run in this order:
+    /// Returns the first fault of the lists. The fault of an entry names the entry, and the fault
+    /// of an action also names the action. The checks run in this order:
     ///
-    /// 1. Fault 2 of the text, if a list of pools, classes or client kinds has too many entries.
-    /// 2. Fault 2 of a class, and then of a client kind, if its body has too many actions.
-    /// 3. Faults of each pool, then of each class, then of each client kind. Fault 6 if its name is
-    ///    invalid, and fault 7 if an earlier entry of the list has the same name. Fault 8 if a size
-    ///    of the pool or the count of the client kind is out of range, and fault 9 if the pool of
-    ///    the class does not exist.
-    /// 4. Faults of each action of each class, and then of each client kind. Fault 8 if a number of
-    ///    units of work is out of range, and fault 10 if a submit names a class that does not
-    ///    exist. Fault 13 if a get does not name an earlier submit, or names the same submit as an
-    ///    earlier get.
+    /// 1. The lengths of the lists. A list with too many entries is fault 2 of the text.
+    /// 2. The length of each body, first of the classes and then of the client kinds. A body with
+    ///    too many actions is fault 2 of the class or client kind.
+    /// 3. The values of each pool, then of each class, then of each client kind. An invalid name is
+    ///    fault 6. The name of an earlier entry of the same list is fault 7. A size or a count out
+    ///    of range is fault 8. A pool that does not exist is fault 9.
+    /// 4. Each action of each class, and then of each client kind. Units of work that are out of
+    ///    range are fault 8. A submit of a class that does not exist is fault 10. A get is fault 13
+    ///    if it does not name an earlier submit, or if an earlier get names the same submit.
     pub fn build(
         _alloc: Global,
         pools: Vec<Pool>,

@@ -21,8 +21,8 @@ pub fn number_of(text: &[u8]) -> Option<usize>
     }
 }
 
-/// Parses the number that the decimal digits at the start of a text spell. Returns this number and
-/// the text after the digits. Returns `None` if
+/// Parses the decimal number at the start of a text. Returns this number and the text after its
+/// digits. Returns `None` if
 ///
 /// - the text does not begin with a digit,
 /// - the first of several digits is `0`, or

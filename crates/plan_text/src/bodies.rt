@@ -1,7 +1,7 @@
-//! Parsing of bodies, action by action. A *slot* is a name that a body gives to a submitted job, to
-//! get the job later: `submit CLASS as SLOT` fills the slot, and `get SLOT` empties it. The parsers
-//! replace each class name by the index of the class. They replace the slot of a get by the
-//! position of the submit that filled the slot.
+//! Parsing of bodies, action by action. A *slot* is a name for a submitted job:
+//! `submit CLASS as SLOT` fills the slot, and `get SLOT` gets the job and empties the slot. The
+//! parsers replace each class name by the index of the class. A parsed get has the position of the
+//! submit that filled the slot, instead of the slot.
 
 ghost use Rattle.std.specs.Prelude.{◌≡◌, List, ℕ, map, OnOk, Some};
 ghost use Rattle.support.specs.Reading as each;
@@ -22,8 +22,8 @@ use std::alloc::Global;
 use support::number::{BAD_ACTION, NO_SUCH_CLASS, SLOT_EMPTY, SLOT_OPEN};
 use support::{ReadError, read_each};
 
-/// The position of an action in a plan: the action at index `action` in the body of an entry. The
-/// entry is at `index` in the list for `part`.
+/// The position of an action in a plan. The action is at index `action` of a body. The body belongs
+/// to the entry at `index` in a list: the classes or the client kinds, as `part` says.
 #[derive(Clone, Copy)]
 struct ActionPlace {
     part: Part,
@@ -178,9 +178,9 @@ fn client_of<'a>(
 /// `names` are the names of the plan's pools and classes. Frees each entry after its class is
 /// built.
 ///
-/// Returns a fault for the first action to which one of these cases applies:
+/// Returns a fault for the first invalid action. An action is invalid in these cases:
 ///
-/// - The action is malformed.
+/// - It is malformed.
 /// - It submits a class that does not exist.
 /// - It fills a slot that is already filled.
 /// - It gets from an empty slot.

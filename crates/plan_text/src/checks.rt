@@ -14,8 +14,9 @@ use std::alloc::Global;
 use support::ReadError;
 use support::number::{BAD_NAME, BAD_NUMBER, DOUBLE_NAME, NO_SUCH_POOL};
 
-/// Adds the name of the entry at `index` to `names`, the list of the names of earlier entries.
-/// Returns a fault if the name is not valid, or if it is already in `names`.
+/// Adds a name to `names`, which has the names of the earlier entries. The name is that of the
+/// entry at `index` in the list for `part`. Returns a fault if the name is not valid, or if it is
+/// already in `names`.
 fn check_name<'a>(
     names: &mut Names<'a>,
     part: Part,
@@ -79,8 +80,8 @@ fn check_client<'a>(
     Ok(())
 }
 
-/// Returns the names of the pools, in order, if all names are valid and distinct and all sizes are
-/// valid. Returns the first fault otherwise.
+/// Returns the names of the pools, in order. All names must be valid and distinct, and all sizes
+/// must be valid. Otherwise returns the first fault.
 #[tactic(auto, unfolding(crate::specs::Checks::check_pools))]
 pub fn check_pools<'a>(alloc: Global, pools: &'a [Pool]) -> Result<Names<'a>, TextError>
     ensures { Gives (λ names. names) result (spec.check_pools pools.now) }
@@ -92,8 +93,8 @@ pub fn check_pools<'a>(alloc: Global, pools: &'a [Pool]) -> Result<Names<'a>, Te
     Ok(names)
 }
 
-/// Returns the names of the classes, in order, if all names are valid and distinct and the pool of
-/// each class is one of `pools`. Returns the first fault otherwise.
+/// Returns the names of the classes, in order. All names must be valid and distinct, and the pool
+/// of each class must be one of `pools`. Otherwise returns the first fault.
 #[tactic(auto, unfolding(crate::specs::Checks::check_classes))]
 pub fn check_classes<'a>(
     alloc: Global,

@@ -1,5 +1,5 @@
-//! The parsing of a plan's bytes as a TOML document, with checks of their number, their encoding
-//! and the top-level keys.
+//! The parsing of a plan's bytes as a TOML document. It checks the number of bytes, their encoding,
+//! and the top-level keys of the document.
 
 ghost use Rattle.std.specs.Prelude.{◌≡◌, map, option_map, string_bytes};
 ghost use Rattle.std.specs.BTreeMap.{keys};

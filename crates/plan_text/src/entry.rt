@@ -38,8 +38,8 @@ fn count_of(number: i64) -> u64
 }
 
 impl<'a> Entry<'a> {
-    /// Returns the entry whose table is `value`. The entry is at `index` in the list for `part`.
-    /// Returns a fault of the entry in these cases:
+    /// Creates the entry whose table is `value`. The entry is at `index` in the list for `part`,
+    /// such as the list of pools. Returns a fault that names this entry in these cases:
     ///
     /// - The value is not a table.
     /// - The table has a key that is not one of `keys`.

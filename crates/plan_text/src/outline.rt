@@ -1,6 +1,6 @@
-//! The outline of a text: its tables, with the offsets of their keys, of the values, and of the
-//! elements of arrays. [`Places`](crate::Places) uses it to find the parts of a plan. All offsets
-//! are in bytes.
+//! The outline of a text: a list of its tables. For each table, the outline has the offsets of the
+//! keys, of the values, and of the elements of arrays. [`Places`](crate::Places) uses the outline
+//! to find the parts of a plan. All offsets are in bytes.
 
 use crate::token::{Kind, Token};
 use std::alloc::{AllocError, Global};
@@ -12,9 +12,9 @@ pub(crate) struct Key {
     pub(crate) end: usize,
     /// The offset of the key's value.
     pub(crate) value: usize,
-    /// The offsets of the elements of an array, or of the keys of an inline table. If the array or
-    /// inline table is empty or ends with a comma, the last offset is that of the closing bracket.
-    /// For any other value, the list is empty.
+    /// The offset of each element of an array, or of each key of an inline table. If the array or
+    /// inline table is empty or ends with a comma, the offset of its closing bracket is added at
+    /// the end. For any other value, the list is empty.
     pub(crate) elements: Vec<usize>,
 }
 
@@ -31,7 +31,7 @@ pub(crate) struct Table {
     pub(crate) keys: Vec<Key>,
 }
 
-/// The state of the parser of an outline within a line.
+/// The part of a line that the parser is in.
 #[derive(Clone, Copy)]
 enum LineState {
     /// At the start of a line.
@@ -48,8 +48,8 @@ enum LineState {
     Rest,
 }
 
-/// The parser of an outline: its state, and the tables in the part of the text that it has
-/// processed.
+/// The parser of an outline: its state within the current line, and the tables that it has found so
+/// far.
 #[derive(Drop)]
 struct Outline {
     at: LineState,

@@ -75,8 +75,8 @@ fn name_of(text: &str) -> Option<&str>
     }
 }
 
-/// Parses the number of units of a `work` action, which is a number from 1 to [`MAX_WORK`] in
-/// digits without a leading zero. Returns `None` for any other text.
+/// Parses the units of a `work` action: a number from 1 to [`MAX_WORK`], in digits without a
+/// leading zero. Returns `None` for any other text.
 #[tactic(auto, unfolding(crate::specs::ParsedActions::parse_units))]
 fn parse_units(text: &str) -> Option<u32>
     ensures { result ≡ spec.parse_units text.now }

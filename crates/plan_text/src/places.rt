@@ -32,29 +32,29 @@ impl<'a> Places<'a> {
     }
 
     /// Returns the position of an entry's header, such as `[[pool]]`. The entry is at `index`,
-    /// counted from 0, in the list `list`. Returns `None` if no such header was found.
+    /// counted from 0, in the list named `list`. Returns `None` if no such header was found.
     pub fn entry(&self, list: &str, index: usize) -> Option<TextPlace> {
         let table = self.table(list, index)?;
         Some(place_at(self.text, table.header))
     }
 
-    /// Returns the position of the key `key` of an entry. The entry is at `index` in the list
-    /// `list`. Returns `None` if no such key was found.
+    /// Returns the position of a key in an entry. The key is named `key`, and the entry is at
+    /// `index` in the list named `list`. Returns `None` if no such key was found.
     pub fn key(&self, list: &str, index: usize, key: &str) -> Option<TextPlace> {
         let key = self.key_of(self.table(list, index)?, key)?;
         Some(place_at(self.text, key.start))
     }
 
-    /// Returns the position of the value of the key `key` of an entry. The entry is at `index` in
-    /// the list `list`. Returns `None` if no such key was found.
+    /// Returns the position of a value in an entry. The key of the value is named `key`, and the
+    /// entry is at `index` in the list named `list`. Returns `None` if no such key was found.
     pub fn value(&self, list: &str, index: usize, key: &str) -> Option<TextPlace> {
         let key = self.key_of(self.table(list, index)?, key)?;
         Some(place_at(self.text, key.value))
     }
 
-    /// Returns the position of an element of an array, such as an action of a body. The array is
-    /// the value of the key `key` of an entry, and the entry is at `index` in the list `list`.
-    /// Elements are counted from 0. Returns `None` if no such element was found.
+    /// Returns the position of an element of an array, such as an action of a body. The array is a
+    /// value in an entry. The key of the array is named `key`, and the entry is at `index` in the
+    /// list named `list`. Elements are counted from 0. Returns `None` if no such element was found.
     pub fn element(
         &self,
         list: &str,

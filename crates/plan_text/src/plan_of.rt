@@ -25,10 +25,13 @@ use support::number::MEMORY;
 ///
 /// - If `queue` is an integer, it is the capacity of the queue, and `max` is the maximum.
 ///   `max = "unbounded"` is then out of range.
-/// - If `queue = "unbounded"`, the queue is unbounded. The `queue` of the plan is then 1,000,000
-///   and has no effect. With `core_timeout = true`, the maximum is `max`, or [`MAX_THREADS`] for
-///   `max = "unbounded"`. Without it, `max` has no effect, and the maximum is core. In both cases,
-///   a `max` that is an integer must be in range.
+/// - If `queue = "unbounded"`, the queue is unbounded. The parsed pool has a `queue` of 1,000,000,
+///   which has no effect. If `max` is an integer, it must be in range.
+///
+/// The maximum of a pool with an unbounded queue depends on `core_timeout`:
+///
+/// - If `core_timeout = true`, the maximum is `max`, or [`MAX_THREADS`] for `max = "unbounded"`.
+/// - Otherwise `max` has no effect, and the maximum is the core size.
 ///
 /// [`MAX_THREADS`]: job_bodies::MAX_THREADS
 ///

@@ -38,10 +38,10 @@ pub fn sizes_of(core: u64, core_timeout: bool, max: Option<u64>, queue: Option<u
 /// Returns the maximum of a pool with an unbounded queue. A `max` of `None` means the text
 /// `unbounded`. The first of these rules that applies gives the result:
 ///
-/// 1. If `max` is a number that is not from core to [`MAX_SIZE`], the result is `MAX_SIZE + 1`. The
-///    check of the sizes then reports a fault, as for any other pool.
+/// 1. If `max` is a number outside the range from `core` to [`MAX_SIZE`], the result is
+///    `MAX_SIZE + 1`. The check of the sizes then reports a fault, as for any other pool.
 /// 2. If core threads may time out, the result is `max`, or [`MAX_THREADS`] for `None`.
-/// 3. Otherwise `max` has no effect, and the result is core.
+/// 3. Otherwise `max` has no effect, and the result is `core`.
 fn max_over_unbounded(core: u64, core_timeout: bool, max: Option<u64>) -> u64
     ensures { result ≡ spec.max_over_unbounded core core_timeout max }
 {

@@ -3,8 +3,8 @@
 /// The kind of a token.
 #[derive(Clone, Copy, PartialEq, Eq)]
 pub(crate) enum Kind {
-    /// A key without quotes, a number, or any other token that is not of one of the kinds below. It
-    /// ends before white space, a quote, a `#` or a mark.
+    /// A token of none of the kinds below, such as a number or a key without quotes. It ends before
+    /// white space, a quote, a `#` or a mark.
     Word,
     /// A string, including its quotes. A single-line string without a closing quote ends at the end
     /// of its line.

@@ -96,7 +96,8 @@ impl Tokens {
         }
     }
 
-    /// Processes a byte outside of all tokens and comments that began before it.
+    /// Processes a byte that does not continue an earlier token or comment. The byte can begin a
+    /// new one.
     fn begin(&mut self, offset: usize, byte: u8) -> Result<(), AllocError> {
         self.open = OpenToken::Nothing;
         match byte {
@@ -143,8 +144,8 @@ impl Tokens {
         }
     }
 
-    /// Processes a byte of a string that began with one quote. If the first three bytes of the
-    /// string are quotes, it is a multi-line string.
+    /// Processes the next byte of a string. At first, each string is treated as a single-line
+    /// string. If its first three bytes are quotes, it becomes a multi-line string.
     fn line(&mut self, text: Text, offset: usize, byte: u8) -> Result<(), AllocError> {
         if text.quotes == 1 {
             if byte == text.quote && offset == text.start.saturating_add(2) {

@@ -13,16 +13,18 @@ use std::alloc::{AllocError, Global};
 
 /// Writes a plan as TOML.
 ///
-/// If the text is not longer than a plan's text may be, [`read_plan`](crate::read_plan) parses it
-/// as the same plan, except for sizes that have no effect. These are sizes of pools with an
-/// unbounded queue: the parsed `queue` is 1,000,000, and the parsed maximum is core unless core
-/// threads may time out.
+/// If the text has at most [`MAX_PLAN_BYTES`](job_bodies::MAX_PLAN_BYTES) bytes,
+/// [`read_plan`](crate::read_plan) can parse it. The parsed plan then equals `plan`, except for
+/// sizes that have no effect. These are sizes of pools with an unbounded queue:
+///
+/// - The parsed `queue` is 1,000,000.
+/// - If core threads may not time out, the parsed maximum is the core size.
 ///
 /// An unbounded queue is written as `queue = "unbounded"`. The `max` of a pool is written as a
 /// number, or as `max = "unbounded"` if the pool has no maximum of its own.
 ///
-/// A submit that a get names fills a slot of its own. The name of this slot is `s`, followed by the
-/// position of the submit in its body. Other submits fill no slot.
+/// A submit fills a slot if the body has a get of this submit. The slot is named `s`, followed by
+/// the position of the submit in its body. Other submits fill no slot.
 ///
 /// # Errors
 ///

@@ -6,8 +6,11 @@ ghost use Rattle.job_bodies.specs.WellFormed.{has_valid_sizes};
 ghost use Rattle.pool_machine.specs.PoolState.{PoolView, IsSound, new_pool};
 ghost use Rattle.pool_machine.specs.Laws.{IsInvariant, HasSizesOf, QueuesHaveThreads, LoadIsOffered, FailureConditions};
 
-/// Proves that no event changes the sizes of a pool (core, maximum and capacity), whether its queue
-/// is unbounded, or whether its core threads may time out.
+/// Proves that no event changes these properties of a pool:
+///
+/// - Its sizes: core, maximum and capacity.
+/// - Whether its queue is unbounded.
+/// - Whether its core threads may time out.
 pub fn sizes_stay()
     ensures { (first : PoolView) → IsInvariant (HasSizesOf first) }
 {}
@@ -23,9 +26,11 @@ pub fn pools_stay_sound()
     ensures kept { IsInvariant IsSound }
 {}
 
-/// Proves that a pool with a queued job has at least core threads, or at least one thread if its
-/// core threads may time out. A pool queues a job only if it has at least core threads. While jobs
-/// are queued, no thread ends if the pool would then have too few.
+/// Proves that a pool with a queued job has enough threads: at least as many as its core size. If
+/// its core threads may time out, one thread is enough. The reasons are:
+///
+/// - A pool queues a job only if it has at least as many threads as its core size.
+/// - While jobs are queued, no thread ends if the pool would then have too few.
 pub fn queues_have_threads()
     ensures start { (pool : Pool) → QueuesHaveThreads (new_pool pool) }
     ensures kept { IsInvariant QueuesHaveThreads }
@@ -44,18 +49,19 @@ pub fn load_is_offered()
     ensures { LoadIsOffered }
 {}
 
-/// Proves when the operations of a pool fail:
+/// Proves when the operations of a pool fail. Each operation fails in these cases, and in no
+/// others:
 ///
-/// - The pool refuses a job exactly when its queue is bounded and full, and it has its maximum of
-///   threads.
-/// - [`PoolState::take`](crate::PoolState::take) fails exactly when no worker is idle or the queue
-///   is empty.
-/// - [`PoolState::retire`](crate::PoolState::retire) fails exactly when no worker is idle, when the
-///   pool needs its threads, or when its queue is bounded with capacity 0 and each idle worker has
-///   a job in it.
+/// - The pool refuses a job if its queue is bounded and full, and it has its maximum of threads.
+/// - [`PoolState::take`](crate::PoolState::take) fails if no worker is idle or the queue is empty.
+/// - [`PoolState::retire`](crate::PoolState::retire) fails if no worker is idle, or if the pool
+///   needs its threads. It also fails if the queue is bounded with capacity 0, and each idle worker
+///   has a job in the queue.
 ///
-/// A pool whose core threads may not time out needs its threads if it has at most core threads. A
-/// pool whose core threads may time out needs its thread if it has only one and a job is queued.
+/// The pool needs its threads in these cases:
+///
+/// - Its core threads may not time out, and it has at most as many threads as its core size.
+/// - Its core threads may time out, it has only one thread, and a job is queued.
 pub fn failure_conditions()
     ensures { (pool : PoolView) → IsSound pool → FailureConditions pool }
 {}

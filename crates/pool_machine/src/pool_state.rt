@@ -17,8 +17,9 @@ use std::marker::Model;
 /// them.
 ///
 /// A worker that finished a job is idle until it takes the head of the queue. So the queue can be
-/// full while workers are idle. The rules are those of Java's `ThreadPoolExecutor`. Its queue is an
-/// `ArrayBlockingQueue`, a `SynchronousQueue` if the capacity is 0, or an unbounded queue.
+/// full while workers are idle. The rules are those of Java's `ThreadPoolExecutor` with one of
+/// three queues: an `ArrayBlockingQueue`, a `SynchronousQueue` (if the capacity is 0), or an
+/// unbounded queue.
 #[derive(Drop)]
 pub struct PoolState {
     core: u64,
@@ -60,9 +61,9 @@ impl Model for PoolState {
 }
 
 impl PoolState {
-    /// Creates a pool of these sizes with an empty queue. If the pool is prestarted, it has core
-    /// idle workers at first. Otherwise it has no threads. The sizes must be
-    /// [valid](Pool::has_valid_sizes). Allocates no memory.
+    /// Creates a pool of these sizes with an empty queue. A prestarted pool first has as many
+    /// threads as its core size, and all of them are idle. Any other pool first has no threads. The
+    /// sizes must be [valid](Pool::has_valid_sizes). Allocates no memory.
     pub fn new(alloc: Global, pool: &Pool) -> PoolState
         requires { IsTrue (has_valid_sizes pool.now) }
         ensures { result ≡ new_pool pool.now }
@@ -83,8 +84,8 @@ impl PoolState {
     /// Offers the job with this number to the pool, as Java's `execute` does. The first of these
     /// rules that applies decides what happens:
     ///
-    /// 1. If the pool has fewer than core threads, a new thread starts the job, even if workers are
-    ///    idle.
+    /// 1. If the pool has fewer threads than its core size, a new thread starts the job, even if
+    ///    workers are idle.
     /// 2. If the queue has room, the job is appended to the queue. An unbounded queue always has
     ///    room. A queue of capacity 0, like Java's `SynchronousQueue`, has room for one job for
     ///    each idle worker.
@@ -175,10 +176,13 @@ impl PoolState {
     /// Ends an idle worker, if one may end, and returns whether a worker ended. If none may end,
     /// the pool is unchanged. Allocates no memory.
     ///
-    /// An idle worker may end if the pool has more than core threads, whether or not jobs are
-    /// queued. If core threads may time out, it may also end if the pool has another thread or no
-    /// queued job. In a bounded queue of capacity 0, each job was handed to an idle worker. Such a
-    /// worker does not end.
+    /// An idle worker may end in these cases:
+    ///
+    /// - The pool has more threads than its core size, whether or not jobs are queued.
+    /// - Core threads may time out, and the pool has another thread or no queued job.
+    ///
+    /// There is one exception. In a bounded queue of capacity 0, each job was handed to an idle
+    /// worker. Such a worker does not end.
     pub fn retire(&mut self) -> bool
         ensures ended { OnTrue result (retired self.old ≡ Some self.new) }
         ensures nothing { OnFalse result (retired self.old ≡ None) }
@@ -210,16 +214,16 @@ impl PoolState {
         self.unbounded || 0 < self.capacity || (self.queue.len() as u64) < self.idle
     }
 
-    /// Returns the core size, which is from 1 to the maximum. While the pool has fewer than core
-    /// threads, each offered job starts a new thread.
+    /// Returns the core size, which is from 1 to the maximum. While the pool has fewer threads than
+    /// its core size, each offered job starts a new thread.
     pub fn core(&self) -> u64
         ensures { result ≡ self.now.core }
     {
         self.core
     }
 
-    /// Returns the maximum number of threads, which is from core to `MAX_SIZE`, or `MAX_THREADS` if
-    /// the pool has no maximum of its own.
+    /// Returns the maximum number of threads, which is from the core size to `MAX_SIZE`. If the
+    /// pool has no maximum of its own, returns `MAX_THREADS`.
     pub fn max(&self) -> u64
         ensures { result ≡ self.now.max }
     {

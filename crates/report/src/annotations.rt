@@ -1,5 +1,6 @@
-//! The annotations of an answer: its faults, or its warnings and the finding. An annotation is a
-//! remark about the plan's file, or about a place in it.
+//! The annotations of an answer. An annotation is a remark about the plan's file, or about a place
+//! in it. If the plan's text has faults, the annotations are about these faults. Otherwise they are
+//! about the warnings and the finding.
 
 ghost use Rattle.std.specs.Prelude.{◌≡◌, ◌∷◌, ◌++◌, [], IfOk, string_bytes};
 ghost use Rattle.report.specs.Annotations.{Adds, remarks_in};
@@ -124,8 +125,8 @@ pub(crate) fn push(
 // ---- findings
 
 /// Returns one annotation for each warning, and one for the finding. If the finding is not SAFE,
-/// also returns those that [`push_sizes_found`] appends: one for each size to change or, if no
-/// sizes were found, one with the reason.
+/// also returns the annotations of [`push_sizes_found`]. These are one for each size to change, or
+/// one with the reason if no sizes were found.
 pub(crate) fn annotations_of(
     alloc: Global,
     places: &PlanPlaces,
@@ -233,8 +234,9 @@ fn push_warning(
     push(alloc, found, rule, &warning.what, Some(warning.place))
 }
 
-/// Appends the annotations of the answer NOT SAFE: one with the first line of `description`, and
-/// those of [`push_sizes_found`]. `description` is the text that describes the witness.
+/// Appends the annotations of the answer NOT SAFE. The first annotation has the first line of
+/// `description`, which is the text that describes the witness. The others are those of
+/// [`push_sizes_found`].
 fn push_not_safe(
     alloc: Global,
     found: &mut Vec<Annotation>,
@@ -262,8 +264,9 @@ fn first_line(text: &str) -> &str
     }
 }
 
-/// Returns the place of the name of the pool that refuses the last submit. Returns `None` if the
-/// witness does not end with a refused submit, or if the place is not known.
+/// Returns the place of a pool's name in the plan. The pool is the one that refuses the last
+/// submit. Returns `None` if the witness does not end with a refused submit, or if the place is not
+/// known.
 fn ending_place(places: &PlanPlaces, ending: &Ending) -> Option<TextPlace>
     ensures { result ≡ spec.ending_place places.now ending.now }
 {

@@ -65,8 +65,8 @@ fn add_all(
     Ok(())
 }
 
-/// Updates the queue of the pool for one step. Appends a job that the step adds to the queue of
-/// this pool. Removes the first job if a thread of this pool takes it. Any other step leaves the
+/// Updates the queue of the pool for one step. If the step adds a job to this queue, appends the
+/// job. If a thread of this pool takes the first job, removes this job. Any other step leaves the
 /// queue unchanged.
 fn add(queue: &mut VecDeque<usize>, step: EventStep, pool: usize) -> Result<(), AllocError>
     ensures { OnOk result (queue.new.items ≡ shown.queue_with pool queue.old.items step) }

@@ -1,5 +1,5 @@
-//! The events of a witness: who acts in each of them, and what it does. A witness is a list of
-//! events after which a submit is refused or jobs wait only for each other.
+//! The events of a witness: the actor of each event, and what this actor does. A witness is a list
+//! of events after which a submit is refused or jobs wait only for each other.
 
 ghost use Rattle.std.specs.Prelude.{◌≡◌, IfOk};
 ghost use Rattle.job_bodies.specs.WellFormed.{IsWellFormed};
@@ -43,12 +43,11 @@ pub(crate) struct EventStep {
     /// of a body, and for an event of a pool.
     pub(crate) action: Option<usize>,
     pub(crate) outcome: Outcome,
-    /// The pool that the event changed, with the numbers of its threads and idle threads after the
-    /// event. For a refused or rejected submit, this is the pool that refused or rejected it. It is
-    /// `None` if the event concerns no pool.
+    /// The pool that the event changed, and the counts of its threads and idle threads after the
+    /// event. For a refused or rejected submit, this is the pool that refused or rejected it. The
+    /// field is `None` if the event concerns no pool.
     pub(crate) pool: Option<PoolCounts>,
-    /// The index of the class of the job that a thread took from a queue. It is `None` if no thread
-    /// took a job.
+    /// The class index of the taken job, if a thread took a job from a queue. Otherwise `None`.
     pub(crate) taken: Option<usize>,
 }
 
@@ -142,15 +141,15 @@ fn actor_of(kinds: &Clients, world: &World, event: Event) -> Actor
     }
 }
 
-/// Returns the index of the class of the job with this number. Returns 0 if the job is not live.
+/// Returns the class index of the job with this number. Returns 0 if the job is not live.
 fn class_of(world: &World, number: usize) -> usize
     ensures { result ≡ performed.class_seen world.now.view number }
 {
     world.job(number).map_or(0, |job| job.class)
 }
 
-/// Returns the position of the event's actor in its body before the event. Returns 0 if the actor
-/// is a pool, a client that does not exist, or a job that does not run.
+/// Returns the position that the actor of the event has in its body before the event. Returns 0 if
+/// the actor is a pool, a client that does not exist, or a job that does not run.
 fn position_of(world: &World, event: Event) -> usize
     ensures { result ≡ performed.position_seen world.now.view event }
 {
@@ -201,8 +200,8 @@ fn changed_pool(plan: &Plan, world: &World, actor: Actor, outcome: Outcome) -> O
     }
 }
 
-/// Returns the index of the class of the job that a thread took from a queue. Returns `None` if no
-/// thread took a job. `world` is the world after the event.
+/// Returns the class index of the job that a thread took from a queue. Returns `None` if no thread
+/// took a job. `world` is the world after the event.
 fn taken_class(world: &World, outcome: Outcome) -> Option<usize>
     ensures { result ≡ performed.taken_seen world.now.view outcome }
 {

@@ -14,8 +14,8 @@ use job_bodies::Plan;
 use plan_text::TextPlace;
 use std::alloc::{AllocError, Global};
 
-/// Returns the commands of GitHub Actions for the finding about a plan and for its warnings. `file`
-/// is the name of the plan's file.
+/// Returns the commands of GitHub Actions for the finding about a plan, and for the plan's
+/// warnings. `file` is the name of the plan's file.
 ///
 /// # Errors
 ///

@@ -36,9 +36,9 @@ pub(crate) struct AnswerParts {
     pub(crate) witness: Value,
 }
 
-/// Returns the JSON text of the finding about a plan and of its warnings. `file` is the name of the
-/// plan's file, and `text` is the content of this file. `places` has the place of each entry of the
-/// plan in `text`.
+/// Returns the JSON text of an answer: the finding about a plan, and the plan's warnings. `file` is
+/// the name of the plan's file, and `text` is the content of this file. `places` says where in
+/// `text` each entry of the plan is.
 ///
 /// # Errors
 ///
@@ -151,7 +151,7 @@ fn answer_value(
 
 /// Returns the JSON text of the answer `FAULTS`. `faults` lists the faults that are reported, and
 /// `omitted` is the number of those that are left out. `file` is the name of the plan's file, and
-/// `text` its content.
+/// `text` is the content of this file.
 fn faulty_line(
     alloc: Global,
     file: &str,

@@ -13,8 +13,8 @@ use serde_json::Value;
 use std::alloc::{AllocError, Global};
 
 /// Converts a body to a JSON list of its actions. `index` is the index of the class or client kind
-/// that has this body. `places` has the places of all classes if a class has this body, and
-/// otherwise those of all client kinds.
+/// that has this body. If a class has it, `places` has the places of all classes. If a client kind
+/// has it, `places` has the places of all client kinds.
 pub(crate) fn body_value(
     alloc: Global,
     plan: &Plan,
@@ -84,8 +84,9 @@ fn action_value(
     }
 }
 
-/// Returns the slot of a submit as a JSON number. The slot is the position `submit` of the submit
-/// in its body, and the get of its job has the same slot. Returns null if the body has no such get.
+/// Returns the slot of a submit as a JSON value. The slot is the number `submit`, which is the
+/// position of the submit in its body. The get of the submitted job has the same slot. If the body
+/// has no such get, the value is null.
 fn slot_value(body: &[Action], submit: usize) -> Value
     ensures { view result ≡ spec.slot_data body.now submit }
 {

@@ -16,9 +16,10 @@ use serde_json::Value;
 use std::alloc::{AllocError, Global};
 use weights::{Bound, Vector};
 
-/// Converts a pool's bound to JSON: its kind, its total, and the shares of client kinds and pools
-/// in the total. The kind is `standing` if the total limits the jobs in the queue at one time, and
-/// `lifetime` if it limits the jobs that are ever submitted to the pool. The value is null if
+/// Converts a pool's bound to JSON: its kind, its total, and the shares that client kinds and pools
+/// have in the total. The kind is `standing` if the total limits the jobs in the queue at one time.
+/// The kind is `lifetime` if the total limits the jobs that are ever submitted to the pool. The
+/// value is null if
 ///
 /// - there is no bound,
 /// - the vector of the bound does not fit the plan, or
@@ -90,7 +91,8 @@ fn bound_object(
         .done()
 }
 
-/// Converts the share of each client kind in the total of a bound to JSON. Skips shares of 0.
+/// Returns a JSON list with the share of each client kind in the total of a bound. Skips shares of
+/// 0.
 fn clients_value(alloc: Global, plan: &Plan, shares: &[u64]) -> Result<Value, AllocError>
     ensures { IfOk result (λ value. view value ≡ spec.clients_data plan.now shares.now) }
 {
@@ -101,7 +103,8 @@ fn clients_value(alloc: Global, plan: &Plan, shares: &[u64]) -> Result<Value, Al
     Ok(Value::from(values))
 }
 
-/// Converts the share of each pool's threads in the total of a bound to JSON. Skips shares of 0.
+/// Returns a JSON list with the share of each pool's threads in the total of a bound. Skips shares
+/// of 0.
 fn threads_value(alloc: Global, plan: &Plan, shares: &[u64]) -> Result<Value, AllocError>
     ensures { IfOk result (λ value. view value ≡ spec.threads_data plan.now shares.now) }
 {
@@ -134,10 +137,14 @@ fn push_share(
     Ok(())
 }
 
-/// Creates a JSON object with two numbers. `most` is the maximum number of core threads that wait
-/// at counted gets at once. A counted get can block a thread that other jobs need. `left` is the
-/// number of threads that the pool has at least while a job is queued, minus `most` and not below
-/// 0. The value is null if the vector `blocked` does not fit the plan.
+/// Creates a JSON object with two numbers:
+///
+/// - `most` is the maximum number of core threads that wait at counted gets at once. A counted get
+///   can block a thread that other jobs need.
+/// - `left` is the least number of threads that the pool has while a job is queued, minus `most`.
+///   It is never below 0.
+///
+/// The value is null if `blocked` is a vector that does not fit the plan.
 #[tactic(auto, unfolding(crate::specs::JsonPools::waiting_data))]
 pub(crate) fn blocked_value(
     alloc: Global,

@@ -15,7 +15,7 @@ use serde_json::Value;
 use size_search::{Cause, NoSizes};
 use std::alloc::{AllocError, Global};
 
-/// Converts the reason why no sizes were found to a JSON object. The object has the kind of the
+/// Returns a JSON object for the reason why no sizes were found. The object has the kind of the
 /// reason, its place in the plan's text, and a message. It also has the members `action`, `class`,
 /// `client` and `pool`. Each of these is null unless the reason names it.
 pub(crate) fn cause_value(

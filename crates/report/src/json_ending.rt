@@ -1,6 +1,6 @@
-//! The ending of a witness as JSON: the pool that refuses a submit, or the jobs that wait only for
-//! each other and what each of them waits for. A witness is a list of events after which a submit
-//! is refused or jobs wait only for each other.
+//! The ending of a witness as JSON. It has the pool that refuses a submit, or the jobs that wait
+//! only for each other. For each of these jobs, it also says what the job waits for. A witness is a
+//! list of events after which a submit is refused or jobs wait only for each other.
 
 ghost use Rattle.std.specs.Prelude.{◌≡◌, ◌++◌, ◌∷◌, [], map, flat_map, IfOk, OnOk, slice_get};
 ghost use Rattle.serde_json.specs.View.{view};
@@ -75,8 +75,8 @@ fn refusing_pool(alloc: Global, plan: &Plan, ending: &Ending) -> Result<Value, A
     }
 }
 
-/// Returns, for each of the jobs `members`, a JSON value that says what the job waits for. Skips
-/// jobs that are done or not live.
+/// Returns, for each job in `members`, a JSON value that says what the job waits for. Skips jobs
+/// that are done or not live.
 fn wait_values(
     alloc: Global,
     plan: &Plan,
@@ -137,9 +137,9 @@ fn push_wait(
     }
 }
 
-/// Appends a JSON object with the number of a waiting job, its pool, and the jobs `awaited` for
-/// which it waits. `place` is `queue` if the job waits in the pool's queue, and `get` if it waits
-/// at a get.
+/// Appends a JSON object that says what a job waits for. The object has the number of the job, the
+/// name of its pool, and the numbers of the jobs in `awaited`. The job waits for these jobs.
+/// `place` is `queue` if the job waits in the pool's queue, and `get` if it waits at a get.
 #[tactic(auto, using(std::proofs::lemmas::List::map_push), unfolding(crate::specs::JsonEnding::wait_data))]
 fn push_wait_for(
     values: &mut Vec<Value>,
@@ -177,8 +177,9 @@ pub(crate) fn action_at(plan: &Plan, class: usize, position: usize) -> Option<Ac
     }
 }
 
-/// Returns a list with the number of the job for which the job `number` waits at this action. The
-/// list is empty if the action is not a get, or if the awaited job is not live.
+/// Returns the number of the awaited job, in a list of one element. The waiting job has the number
+/// `number` and waits at this action. The list is empty if the action is not a get, or if the
+/// awaited job is not live.
 fn awaited(
     alloc: Global,
     world: &World,
@@ -196,8 +197,9 @@ fn awaited(
     Ok(jobs)
 }
 
-/// Returns the number of the latest live job that the job `number` created by the submit at the
-/// position `submit` of its body. Returns `None` if there is no such job.
+/// Returns the number of the live job that a submit created. The submit is at the position `submit`
+/// in the body of the job with the number `number`. If several live jobs match, returns the number
+/// of the latest one. Returns `None` if no live job matches.
 pub(crate) fn child_of(world: &World, number: usize, submit: usize) -> Option<usize>
     ensures { result ≡ live_child world.now.view.jobs (parent.Job number) submit }
 {

@@ -14,8 +14,9 @@ use plan_text::TextPlace;
 use serde_json::Value;
 use std::alloc::{AllocError, Global};
 
-/// Returns the place, in the plan's text, of the action with this index in the actor's body.
-/// Returns `None` if the place is not known, if the actor is a pool, or if `action` is `None`.
+/// Returns the place of an action in the plan's text. `action` is the index of the action in the
+/// actor's body. Returns `None` if the place is not known, if the actor is a pool, or if `action`
+/// is `None`.
 pub(crate) fn actor_place(
     places: &PlanPlaces,
     actor: Actor,

@@ -4,11 +4,11 @@
 //! Consecutive similar steps form a run, and each run is one JSON object. Steps are similar if
 //!
 //! - their actors are clients of one kind, with consecutive numbers,
-//! - their actions and outcomes are the same: each client works, starts its body again, or submits
-//!   a job that is queued, started or rejected, and
-//! - the submitted jobs have consecutive numbers.
+//! - their actions and outcomes are the same, and
+//! - the jobs that they submit have consecutive numbers.
 //!
-//! Any other step is a run of its own.
+//! In similar steps, each client works, starts its body again, or submits a job that is queued,
+//! started or rejected. Any other step is a run of its own.
 
 ghost use Rattle.std.specs.Prelude.{◌≡◌, ◌+◌, ◌==◌, ◌++◌, ◌∷◌, [], map, IfOk, OnOk};
 ghost use Rattle.serde_json.specs.View.{view};
@@ -202,8 +202,8 @@ fn pool_value(
 }
 
 /// Returns a JSON object with the state of a pool after these steps: its name, the jobs in its
-/// queue, and the numbers of its threads and of its idle threads. The two numbers are those in
-/// `counts`.
+/// queue, the number of its threads, and the number of its idle threads. `counts` has the last two
+/// numbers.
 #[tactic(auto, unfolding(crate::specs::JsonEvents::pool_state_data))]
 fn pool_state_value(
     alloc: Global,

@@ -1,5 +1,5 @@
-//! Faults as JSON: the number, the place and the message of each, and the range of the allowed
-//! numbers if the fault has one.
+//! Faults as JSON. Each fault has its number, its place and a message. For a number that is out of
+//! range, the fault also has the range of the allowed numbers.
 
 ghost use Rattle.std.specs.Prelude.{◌≡◌, ◌∷◌, ◌++◌, IfOk, OnOk, map};
 ghost use Rattle.serde_json.specs.Data.{array};
@@ -14,7 +14,7 @@ use serde_json::{Value, json};
 use std::alloc::{AllocError, Global};
 
 /// Converts the faults of a plan's text to a JSON list. The list does not have the faults that are
-/// left out.
+/// only counted in `faults.omitted`.
 pub(crate) fn faults_value(alloc: Global, faults: &Faults) -> Result<Value, AllocError>
     ensures { IfOk result (λ value. view value ≡ spec.faults_data faults.now) }
 {

@@ -11,8 +11,8 @@ use std::alloc::{AllocError, Global};
 /// A JSON object that is being built. If memory runs out, the object keeps the error until
 /// [`done`](Object::done) returns it. So a function that builds an object has no early return.
 ///
-/// This makes proofs fast, because most of a proof's time is for what a function drops at its early
-/// returns.
+/// This makes proofs fast. An early return drops values, and most of a proof's time is spent on
+/// such drops.
 #[derive(Drop)]
 pub(crate) struct Object {
     alloc: Global,

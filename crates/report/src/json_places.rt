@@ -48,8 +48,8 @@ pub(crate) fn pool_places_at(pools: &[PoolPlaces], pool: usize) -> PoolPlaces
     }
 }
 
-/// Returns the place of the name of the class or client kind at this index, or `None` if the place
-/// is not known.
+/// Returns the place of the name of a class or client kind, or `None` if the place is not known.
+/// `index` is the index of this class or client kind.
 pub(crate) fn name_place(bodies: &[BodyPlaces], index: usize) -> Option<TextPlace>
     ensures { result ≡ spec.name_place bodies.now index }
 {
@@ -79,8 +79,15 @@ fn place_at(actions: &[Option<TextPlace>], action: usize) -> Option<TextPlace>
     }
 }
 
-/// Returns the place of what the reason `cause` names: a class, an action, the `core_timeout` of a
-/// pool or, if sizes are above the limit, a pool's name. Returns `None` if the place is not known.
+/// Returns the place of what a reason names. `cause` is a reason why no sizes were found, and names
+/// one of these:
+///
+/// - a class,
+/// - an action,
+/// - the `core_timeout` of a pool, or
+/// - the name of a pool, if sizes are above the limit.
+///
+/// Returns `None` if the place is not known.
 pub(crate) fn cause_place(places: &PlanPlaces, cause: NoSizes) -> Option<TextPlace>
     ensures { result ≡ spec.cause_place places.now cause }
 {

@@ -39,8 +39,8 @@ pub(crate) fn plan_value(
         .done()
 }
 
-/// Converts the text of a plan with faults to JSON. The result has the form of a plan without
-/// pools, classes and client kinds.
+/// Creates the JSON of a plan whose text has faults. It has the text, and empty lists of pools,
+/// classes and client kinds.
 #[tactic(auto, unfolding(crate::specs::JsonPlan::plan_object))]
 pub(crate) fn text_only_value(alloc: Global, text: &[u8]) -> Result<Value, AllocError>
     ensures { IfOk result (λ value. view value ≡ spec.text_only_data text.now) }

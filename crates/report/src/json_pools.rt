@@ -1,6 +1,6 @@
 //! Pools as JSON. Each pool has its sizes, and the names of the pools for which its jobs wait. If a
-//! certificate accepts the plan, it also has the bound of its queue and the maximum number of its
-//! core threads that wait.
+//! certificate accepts the plan, each pool also has the bound of its queue, and the maximum number
+//! of its core threads that wait.
 //!
 //! Some members exist only in certain pools. `may_reject` and `rejects_after` exist only if the
 //! plan allows the pool to reject jobs. `rejects_after` is the number of events after which the
@@ -22,9 +22,9 @@ use job_bodies::{Plan, Pool};
 use serde_json::Value;
 use std::alloc::{AllocError, Global};
 
-/// Converts the pools of a plan to JSON. `parts` has the certificate's part for each pool.
-/// `rejections` has the number of events after which each pool rejects a job, or `None` if this
-/// number is not known. Both lists are empty if no certificate accepts the plan.
+/// Converts the pools of a plan to JSON. `parts` has the certificate's part for each pool. For each
+/// pool, `rejections` has the number of events after which this pool rejects a job, or `None` if
+/// the number is not known. Both lists are empty if no certificate accepts the plan.
 pub(crate) fn pools_value(
     alloc: Global,
     plan: &Plan,
@@ -144,7 +144,7 @@ fn rejecting_object(
         .done()
 }
 
-/// Converts the number of events after which a pool rejects a job to JSON. The value is null if
+/// Returns, as JSON, the number of events after which a pool rejects a job. The value is null if
 /// this number is not known.
 fn rejects_value(rejection: Option<u64>) -> Value
     ensures { view result ≡ spec.rejects_data rejection }

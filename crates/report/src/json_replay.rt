@@ -20,7 +20,8 @@ use std::alloc::{AllocError, Global};
 use support::push_number;
 
 /// Converts the event lines of a witness to a JSON list. The list has one line for each event. If
-/// jobs wait only for each other after the events, it also has a `stuck` line with their numbers.
+/// jobs wait only for each other after the events, the list also has a `stuck` line with the
+/// numbers of these jobs.
 pub(crate) fn replay_value(
     alloc: Global,
     plan: &Plan,

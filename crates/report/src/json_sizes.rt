@@ -87,8 +87,8 @@ fn size_value(alloc: Global, changes: Vec<Value>, fit: &Pool) -> Result<Value, A
         .done()
 }
 
-/// Returns a JSON value for each size of a pool that changes. `declared` is the pool in the plan,
-/// and `fit` is the pool with the sizes that were found. The list is empty if `declared` is `None`.
+/// Returns one JSON value for each changed size of a pool. `declared` is the pool in the plan, and
+/// `fit` is the pool with the sizes that were found. The list is empty if `declared` is `None`.
 fn changes_of(
     alloc: Global,
     places: PoolPlaces,
@@ -174,8 +174,8 @@ fn push_queue(
     push_change(alloc, values, "queue", place, declared.queue, fit.queue)
 }
 
-/// Appends the change of the size `key` from `now` to `value`. Appends nothing if the two are
-/// equal.
+/// Appends the change of a size from `now` to `value`. `key` is the name of the size, such as
+/// `core`. Appends nothing if the two values are equal.
 #[tactic(auto, using(std::proofs::lemmas::List::map_push))]
 fn push_change(
     alloc: Global,
@@ -197,7 +197,8 @@ fn push_change(
     Ok(())
 }
 
-/// Creates a JSON object for the change of the size `key` from `now` to `value`.
+/// Creates a JSON object for the change of a size from `now` to `value`. `key` is the name of the
+/// size, such as `core`.
 #[tactic(auto, unfolding(crate::specs::JsonSizes::change_data))]
 fn change_value(
     alloc: Global,

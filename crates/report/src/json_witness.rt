@@ -23,7 +23,7 @@ use job_bodies::Plan;
 use serde_json::Value;
 use std::alloc::{AllocError, Global};
 
-/// Converts a witness against the plan to JSON.
+/// Converts a witness to JSON. The witness shows that the plan is not safe.
 ///
 /// # Errors
 ///

@@ -6,9 +6,10 @@ ghost use Rattle.report.specs.LostSubmits as spec;
 use job_bodies::{Action, Class, Client, Plan, has_get_of};
 use std::alloc::{AllocError, Global};
 
-/// Returns texts such as `client visitor submits append without a get`. There is one for each class
-/// of the pool and each body that submits a job of this class and never gets it. The texts about
-/// client kinds come first, then those about classes, each in plan order.
+/// Returns texts such as `client visitor submits append without a get`. Each text is about a body
+/// and a class of the pool. It says that the body submits a job of this class and never gets the
+/// job. The texts about bodies of client kinds come first, then those about bodies of classes, each
+/// in plan order.
 pub(crate) fn lost_texts(alloc: Global, plan: &Plan, pool: usize) -> Result<Vec<String>, AllocError>
     ensures { IfOk result
         (λ texts. map string_bytes texts.items ≡ spec.lost_texts plan.now pool) }
@@ -91,9 +92,9 @@ fn push_class(
     push_body(alloc, texts, plan, pool, "class", &class.name, &class.body)
 }
 
-/// Appends a text for each class of the pool, if the body submits a job of this class and never
-/// gets it. `kind` is `client` or `class`, and `name` is the name of the client kind or class with
-/// this body.
+/// Appends texts about the body, at most one for each class of the pool. A class has a text if the
+/// body submits a job of the class and never gets the job. `kind` is `client` or `class`, and
+/// `name` is the name of the client kind or class with this body.
 fn push_body(
     alloc: Global,
     texts: &mut Vec<String>,

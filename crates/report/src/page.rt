@@ -10,9 +10,9 @@ use job_bodies::Plan;
 use report_page::page_of;
 use std::alloc::{AllocError, Global};
 
-/// Returns the HTML page of the finding about a plan and of its warnings. `file` is the name of the
-/// plan's file, and `text` is the content of this file. `places` has the place of each entry of the
-/// plan in `text`.
+/// Returns the HTML page of an answer: the finding about a plan, and the plan's warnings. `file` is
+/// the name of the plan's file, and `text` is the content of this file. `places` says where in
+/// `text` each entry of the plan is.
 ///
 /// # Errors
 ///

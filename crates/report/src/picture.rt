@@ -1,7 +1,7 @@
 //! The picture of a plan, as a Graphviz graph. A pool is a box with its sizes and classes. The
-//! clients are outside of the boxes. An arrow stands for the submits of a class, a dashed line for
-//! the gets, and a bold dashed line for gets of which at least one is counted. A counted get can
-//! block a thread that other jobs need.
+//! clients are outside of the boxes. An arrow stands for submits of a class's jobs, and a dashed
+//! line stands for gets of its jobs. The dashed line is bold if at least one of these gets is
+//! counted. A counted get can block a thread that other jobs need.
 
 ghost use Rattle.std.specs.Prelude.{◌≡◌, IfOk, option_map, string_bytes};
 ghost use Rattle.support.specs.Pushed.{Pushes};
@@ -199,11 +199,11 @@ fn push_bound(
     }
 }
 
-/// Appends the bound of the pool's queue. If there is no bound for a queue of limited capacity,
-/// appends that the pool may reject jobs. Appends nothing if
+/// Appends the bound of the pool's queue. If the queue has a limited capacity and no bound, appends
+/// that the pool may reject jobs. Appends nothing if
 ///
-/// - there is no bound for an unbounded queue,
-/// - the bound does not limit the jobs in an unbounded queue, or
+/// - the queue has an unlimited capacity and no bound,
+/// - the queue has an unlimited capacity, and the bound does not limit its jobs, or
 /// - the vector of the bound does not fit the plan.
 fn push_bound_of(
     text: &mut String,

@@ -1,4 +1,5 @@
-//! Queue capacities that are enough for the pools of a plan, by the bounds of a certificate.
+//! Queue capacities that are enough for the pools of a plan. They are computed from the bounds of a
+//! certificate.
 
 ghost use Rattle.std.specs.Prelude.{◌≡◌, IfOk, nat_le};
 ghost use Rattle.std.specs.List.{list_all, enumerate_from};
@@ -73,7 +74,7 @@ pub fn total_of(plan: &Plan, vector: &Vector) -> Option<u64>
 }
 
 /// Returns whether the total of the bound limits the number of jobs of the pool. If the queue is
-/// bounded, returns `true`, because the conditions on the bound demand it. If the queue is
+/// bounded, returns `true`, because the conditions on the bound demand this limit. If the queue is
 /// unbounded, all of these must hold:
 ///
 /// - The vector fits the plan.
@@ -97,9 +98,12 @@ pub(crate) fn is_unbounded(plan: &Plan, pool: usize) -> bool
     }
 }
 
-/// Returns whether the bound's vector fits the plan, gives each job of the pool a weight of at
-/// least 1, and gives no weight to the threads of a pool without a maximum. In a standing vector,
-/// only queued jobs need the weight of at least 1.
+/// Returns whether all of these hold for the bound's vector:
+///
+/// - The vector fits the plan.
+/// - The vector gives each job of the pool a weight of at least 1. In a standing vector, only
+///   queued jobs need this weight.
+/// - The vector gives no weight to the threads of a pool without a maximum.
 fn counts_jobs(plan: &Plan, pool: usize, bound: &Bound) -> bool
     ensures { result ≡ spec.counts_jobs plan.now pool bound.now }
 {
@@ -146,8 +150,8 @@ fn counts_classes(pool: usize, bound: &Bound, classes: &[Class]) -> bool
         .all(|(number, class)| counts_if_of(pool, bound, number, class))
 }
 
-/// Returns whether the class belongs to another pool, or [`counts_class`] returns `true` for it.
-/// `number` is the number of the class.
+/// Returns `true` if the class does not belong to the pool, and otherwise the result of
+/// [`counts_class`]. `number` is the number of the class.
 fn counts_if_of(pool: usize, bound: &Bound, number: usize, class: &Class) -> bool
     ensures { result ≡ spec.counts_if_of pool bound.now (number, class.now) }
 {

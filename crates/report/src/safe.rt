@@ -1,7 +1,11 @@
-//! The text for a plan that a certificate accepts. For each pool it lists the bound of its queue,
-//! the pools for which its jobs wait, and the maximum number of its core threads that wait at
-//! counted gets at once. A counted get can block a thread that other jobs need. If the certificate
-//! has no bound for a queue of limited capacity, the text also lists the submits to its pool.
+//! The text for a plan that a certificate accepts. For each pool, the text lists
+//!
+//! - the bound of the pool's queue,
+//! - the pools for which its jobs wait,
+//! - the maximum number of its core threads that wait at counted gets at once, and
+//! - the submits to the pool, if its queue has a limited capacity and no bound in the certificate.
+//!
+//! A counted get can block a thread that other jobs need.
 
 ghost use Rattle.std.specs.Prelude.{◌≡◌, ◌++◌};
 ghost use Rattle.std.specs.List.{list_any, enumerate_from};
@@ -17,9 +21,9 @@ use job_bodies::{Plan, Pool};
 use std::alloc::{AllocError, Global};
 use weights::{Bound, Vector};
 
-/// Appends the lines of each pool for which the certificate has a part, and a last line with what
-/// the certificate guarantees. `rejections` has the number of events after which each pool rejects
-/// a job, or `None` if this number is not known.
+/// Appends the lines of each pool for which the certificate has a part. Then appends a last line
+/// with what the certificate guarantees. For each pool, `rejections` has the number of events after
+/// which this pool rejects a job, or `None` if the number is not known.
 pub(crate) fn push_safe(
     alloc: Global,
     text: &mut String,
@@ -36,8 +40,8 @@ pub(crate) fn push_safe(
 }
 
 /// Returns the words for what the certificate guarantees: no submit is refused, and no jobs wait
-/// for each other forever. If [`may_reject_jobs`] returns `true` for a pool, the words exclude
-/// submits to such pools.
+/// for each other forever. If [`may_reject_jobs`] returns `true` for a pool, the first part covers
+/// only submits to other pools.
 pub(crate) fn safe_words(plan: &Plan, cert: &Cert) -> &'static str
     ensures { result.now ≡ spec.safe_words plan.now cert.now }
 {
@@ -58,8 +62,8 @@ fn any_may_reject(plan: &Plan, parts: &[PoolCert]) -> bool
         .any(|(number, part)| may_reject_jobs(plan, number, part))
 }
 
-/// Returns whether the pool with this number has a queue of limited capacity for which the
-/// certificate has no bound. If a certificate accepts the plan, such a pool may reject jobs.
+/// Returns whether the pool with this number has a queue of limited capacity, and no bound in the
+/// certificate. If a certificate accepts the plan, such a pool may reject jobs.
 fn may_reject_jobs(plan: &Plan, number: usize, part: &PoolCert) -> bool
     ensures { result ≡ spec.may_reject_jobs plan.now (number, part.now) }
 {

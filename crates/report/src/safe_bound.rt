@@ -1,7 +1,8 @@
-//! The line of a pool's threads and queue in the text for a plan that a certificate accepts. It has
-//! the number of threads, the bound of the queue, and the shares in the bound. The bound is the
-//! total of a vector. The share of a client kind is the weight of all its clients. The share of a
-//! pool is the weight of all its threads.
+//! The line about a pool's threads and queue. The line is part of the text for a plan that a
+//! certificate accepts. It has the number of threads, the bound of the queue, and the shares that
+//! client kinds and pools have in the bound. The bound is the total of a vector. The share of a
+//! client kind is the weight of all its clients. The share of a pool is the weight of all its
+//! threads.
 
 ghost use Rattle.std.specs.Prelude.{◌≡◌, ◌++◌, IsTrue, OnOk, map, string_bytes};
 ghost use Rattle.support.specs.Pushed.{Pushes};
@@ -113,9 +114,9 @@ fn push_no_bound(
     }
 }
 
-/// Appends the reason why the pool's unbounded queue has no bound: the texts about the bodies that
-/// submit a job to the pool and never get it. If there is no such body, appends
-/// `no bound is known`.
+/// Appends the reason why the pool's unbounded queue has no bound. The reason is the texts of
+/// [`lost_texts`], about bodies that submit a job to the pool and never get this job. If there are
+/// no such bodies, appends `no bound is known`.
 fn push_growth(
     alloc: Global,
     text: &mut String,
@@ -143,8 +144,9 @@ fn push_rejection(text: &mut String, rejection: Option<u64>) -> Result<(), Alloc
     }
 }
 
-/// Appends the capacity of the pool's queue, the bound of the queue, and the shares of client kinds
-/// and pools in the bound. Appends nothing if the vector of the bound does not fit the plan.
+/// Appends the capacity of the pool's queue, the bound of the queue, and the shares that client
+/// kinds and pools have in the bound. Appends nothing if the vector of the bound does not fit the
+/// plan.
 fn push_bounded(
     alloc: Global,
     text: &mut String,
@@ -177,7 +179,7 @@ fn never_words(pool: &Pool) -> &'static str
     }
 }
 
-/// Appends the bound of a queue, and the shares of client kinds and pools in the bound.
+/// Appends the bound of a queue, and the shares that client kinds and pools have in the bound.
 fn push_places(
     alloc: Global,
     text: &mut String,
@@ -324,8 +326,8 @@ fn push_workers(
     Ok(())
 }
 
-/// Appends the text of the share of a client kind or of a pool, such as `8 from threads of web`.
-/// `from` is the text between the number and the name. Appends nothing if the share is 0.
+/// Appends the share of a client kind or of a pool as text, such as `8 from threads of web`. `from`
+/// is the text between the number and the name. Appends nothing if the share is 0.
 #[tactic(auto, using(std::proofs::lemmas::List::map_push))]
 fn push_share(
     alloc: Global,

@@ -1,6 +1,7 @@
-//! The line of a pool's waits in the text for a plan that a certificate accepts: the pools for which
-//! its jobs wait, and the maximum number of its core threads that wait at counted gets at once. A
-//! counted get can block a thread that other jobs need.
+//! The line about a pool's waits. The line is part of the text for a plan that a certificate
+//! accepts. It names the pools for which jobs of this pool wait. It also has the maximum number of
+//! the pool's core threads that wait at counted gets at once. A counted get can block a thread that
+//! other jobs need.
 
 ghost use Rattle.std.specs.Prelude.{◌≡◌, ◌++◌, IfOk, OnOk, map, string_bytes};
 ghost use Rattle.support.specs.Pushed.{Pushes};
@@ -12,9 +13,9 @@ use job_bodies::{Plan, Pool};
 use std::alloc::{AllocError, Global};
 use weights::Vector;
 
-/// Appends the line with the pools for which the pool's jobs wait. The line also has the maximum
-/// number of core threads that wait at counted gets at once, if this number is known and not 0. A
-/// counted get can block a thread that other jobs need.
+/// Appends the line that names the pools for which jobs of this pool wait. The line also has the
+/// maximum number of core threads that wait at counted gets at once, if this number is known and
+/// not 0. A counted get can block a thread that other jobs need.
 pub(crate) fn push_waits(
     alloc: Global,
     text: &mut String,
@@ -97,8 +98,8 @@ pub(crate) fn waited_names(
     Ok(names)
 }
 
-/// Appends the name of the pool `other`, if jobs of the pool `number` wait for jobs of the pool
-/// `other`.
+/// Appends the name of `pool` if jobs of a waiting pool wait for jobs of `pool`. `number` is the
+/// number of the waiting pool, and `other` is the number of `pool`.
 #[tactic(auto, using(std::proofs::lemmas::List::map_push))]
 fn push_if_waited(
     alloc: Global,

@@ -21,8 +21,8 @@ use plan_text::TextPlace;
 use serde_json::Value;
 use std::alloc::{AllocError, Global};
 
-/// Returns the SARIF log with the finding about a plan and its warnings, on one line. `file` is the
-/// name of the plan's file.
+/// Returns a SARIF log on one line, with the finding about a plan and the plan's warnings. `file`
+/// is the name of the plan's file.
 ///
 /// # Errors
 ///
@@ -42,7 +42,7 @@ pub fn finding_sarif(
     log_of(alloc, file, &annotations)
 }
 
-/// Returns the SARIF log with the faults of a plan's text, on one line. `file` is the name of the
+/// Returns a SARIF log on one line, with the faults of a plan's text. `file` is the name of the
 /// plan's file.
 ///
 /// # Errors
@@ -56,8 +56,8 @@ pub fn faults_sarif(alloc: Global, file: &str, faults: &Faults) -> Result<String
     log_of(alloc, file, &annotations)
 }
 
-/// Returns the SARIF log with a fault that has no place in the plan's text, on one line. `number`
-/// is the number of the fault, and `words` is its message. `file` is the name of the plan's file.
+/// Returns a SARIF log on one line, with a fault that has no place in the plan's text. `number` is
+/// the number of the fault, and `words` is its message. `file` is the name of the plan's file.
 ///
 /// # Errors
 ///

@@ -1,5 +1,5 @@
-//! Annotations about sizes: one for each size to change or, if no sizes were found, one with the
-//! reason.
+//! Annotations about sizes: one for each size to change, or one with the reason if no sizes were
+//! found.
 
 ghost use Rattle.std.specs.Prelude.{◌≡◌, IfOk, decimal, option_map, string_bytes};
 ghost use Rattle.report.specs.Annotations.{Adds};
@@ -162,8 +162,9 @@ fn push_queue(
     push_change(alloc, found, rule, place, pool, "queue", queue)
 }
 
-/// Appends an annotation if the size `key` changes. The first element of `size` is the declared
-/// value, and the second element is the value that was found.
+/// Appends an annotation if a size of the pool changes. `key` is the name of the size, such as
+/// `core`. The first element of `size` is the declared value, and the second element is the value
+/// that was found.
 fn push_change(
     alloc: Global,
     found: &mut Vec<Annotation>,

@@ -8,9 +8,9 @@ ghost use Rattle.report.specs.Sizes as spec;
 use job_bodies::{Plan, Pool};
 use std::alloc::AllocError;
 
-/// Appends a line with the sizes of each pool, and a last line with the number of sizes that
-/// change, such as `changes 1`. Returns this number. If a size changes, its declared value follows
-/// it: `pool pages: core 1, max 1, queue 2 (now 1)`.
+/// Appends one line for each pool, with the sizes of this pool. Then appends a last line with the
+/// number of sizes that change, such as `changes 1`, and returns this number. If a size changes,
+/// its declared value follows the new value, as in `pool pages: core 1, max 1, queue 2 (now 1)`.
 ///
 /// # Errors
 ///
@@ -95,9 +95,8 @@ fn push_size(text: &mut String, declared: u64, fit: u64) -> Result<(), AllocErro
     }
 }
 
-/// Returns the number of sizes of the pool that change. If the maximum [has no
-/// effect](has_useless_max), returns 1 if any size changes and 0 otherwise, because then only the
-/// core size has an effect.
+/// Returns how many sizes of the pool change. If the maximum [has no effect](has_useless_max), only
+/// the core size has an effect. The result is then 1 if any size changes, and 0 otherwise.
 fn pool_changes(declared: &Pool, fit: &Pool) -> u64
     ensures { result ≡ spec.pool_changes declared.now fit.now }
 {

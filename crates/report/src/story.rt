@@ -17,9 +17,9 @@ use interleaving::{Event, World};
 use job_bodies::Plan;
 use std::alloc::{AllocError, Global};
 
-/// Appends a description of the events from the plan's initial state, the state of the pools after
-/// them, and what each of the jobs `members` waits for. Ignores the first event that is not
-/// possible, and all later events.
+/// Appends a description of the events, which start from the plan's initial state. Then appends the
+/// state of the pools after the events, and what each job in `members` waits for. Ignores the first
+/// event that is not possible, and all later events.
 ///
 /// # Errors
 ///
@@ -38,8 +38,8 @@ pub(crate) fn push_story(
     push_parts(text, alloc, plan, &world, &steps, members)
 }
 
-/// Appends the parts of the text: what the steps did, the pools after these steps, and what each of
-/// the jobs `members` waits for. `world` is the world after the steps.
+/// Appends the parts of the text: what the steps did, the state of the pools after these steps, and
+/// what each job in `members` waits for. `world` is the world after the steps.
 fn push_parts(
     text: &mut String,
     alloc: Global,

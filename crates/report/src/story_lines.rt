@@ -26,7 +26,7 @@ const LAST_LINES: usize = 10;
 pub(crate) struct Line<'a> {
     pub(crate) text: &'a str,
     pub(crate) times: usize,
-    /// The number of steps that this line and all lines before it show.
+    /// The number of steps that are shown up to and including this line.
     pub(crate) end: usize,
 }
 
@@ -110,7 +110,7 @@ fn push_shortened(text: &mut String, lines: &[Line<'_>]) -> Result<(), AllocErro
     push_each(text, &lines[last..])
 }
 
-/// Returns the number of steps that the line with this index and all lines before it show. Returns
+/// Returns the number of steps that are shown up to and including the line with this index. Returns
 /// 0 if there is no such line.
 fn end_at(lines: &[Line<'_>], index: usize) -> usize
     ensures { result ≡ spec.end_of (slice_get (map line_seen lines.now) index) }

@@ -14,7 +14,7 @@ use std::alloc::AllocError;
 
 /// Appends a line for each pool, such as `pool db: threads 10 of 10, idle 0, queued 190 of 190`.
 /// For a pool with an unbounded queue, the line ends with, for example, `queued 190 of unbounded`.
-/// For a pool without a maximum, it has, for example, `threads 10 of unbounded`.
+/// For a pool without a maximum, the line has, for example, `threads 10 of unbounded`.
 ///
 /// # Errors
 ///
@@ -74,8 +74,8 @@ fn has_no_max(state: &PoolState) -> bool
     state.has_core_timeout() && state.is_unbounded() && state.max() == MAX_THREADS
 }
 
-/// Returns the greatest number of threads that the pool can have: its maximum. If the queue is
-/// unbounded and core threads never time out, this is the core size.
+/// Returns the greatest number of threads that the pool can have. This is the core size if the
+/// queue is unbounded and core threads never time out. Otherwise it is the maximum.
 fn most_threads(state: &PoolState) -> u64
     ensures { result ≡ spec.most_threads state.now }
 {

@@ -141,8 +141,9 @@ fn push_submit(text: &mut String, class: &str, answer: &str) -> Result<(), Alloc
     text.push_str(answer)
 }
 
-/// Appends that the actor submitted a job of the class `class`, which the pool `pool` refused or
-/// rejected. `answer` is the text between the two names, such as ` (refused by `.
+/// Appends that the actor submitted a job, and that a pool refused or rejected the job. `class` is
+/// the name of the job's class, and `pool` is the name of this pool. `answer` is the text between
+/// the two names, such as ` (refused by `.
 fn push_not_taken(
     text: &mut String,
     class: &str,

@@ -14,14 +14,14 @@ use job_bodies::Plan;
 use std::alloc::{AllocError, Global};
 
 /// A turn: consecutive steps of one actor, such as `client web: works, submits page (queued)`. A
-/// client's turn ends when the client starts its body again. A thread that times out is a turn of
-/// its own.
+/// client's turn ends when the client starts its body again. A step in which a thread times out is
+/// a turn of its own.
 #[derive(Drop)]
 pub(crate) struct Turn {
     pub(crate) actor: Actor,
     pub(crate) text: String,
-    /// Whether the next step must begin a new turn. This is so if in the last step of this turn the
-    /// client starts its body again or a thread times out.
+    /// Whether the next step must begin a new turn. This is so in two cases: the last step of this
+    /// turn starts the client's body again, or a thread times out in this step.
     pub(crate) is_ended: bool,
     /// The number of steps in this turn and in all turns before it.
     pub(crate) end: usize,
@@ -61,8 +61,8 @@ fn push_turns(
     push_turns_from(turns, alloc, plan, turn, rest, steps.len())
 }
 
-/// Appends `turn`, and then the turns of `steps`, which follow it. The first of these steps become
-/// part of `turn` if they continue it. `all` is at least the number of steps in all turns.
+/// Appends `turn`, and then the turns of `steps`. If the first of these steps continue `turn`, they
+/// become part of it. `all` must be at least `turn.end` plus the number of `steps`.
 fn push_turns_from(
     turns: &mut Vec<Turn>,
     alloc: Global,
@@ -83,9 +83,9 @@ fn push_turns_from(
     Ok(())
 }
 
-/// Returns the last turn after one more step. If the step continues `turn`, this is `turn`,
-/// extended by the step. Otherwise appends `turn` to `turns`, and returns a new turn that begins
-/// with the step.
+/// Adds one more step, and returns the last turn. If the step continues `turn`, the last turn is
+/// `turn` with this step at its end. Otherwise appends `turn` to `turns`, and the last turn is a
+/// new one that begins with the step.
 fn after_step(
     turns: &mut Vec<Turn>,
     alloc: Global,
@@ -136,8 +136,8 @@ fn new_turn(
     })
 }
 
-/// Returns whether a step of this actor with this outcome ends its turn. It does if the client
-/// starts its body again or a thread times out.
+/// Returns whether a step of this actor with this outcome ends the actor's turn. The turn ends if
+/// the client starts its body again or a thread times out.
 fn ends_turn(plan: &Plan, actor: Actor, outcome: Outcome) -> bool
     ensures { result ≡ spec.ends_turn plan.now actor outcome }
 {
@@ -147,8 +147,8 @@ fn ends_turn(plan: &Plan, actor: Actor, outcome: Outcome) -> bool
     }
 }
 
-/// Returns whether a thread times out in this step: it ends in a pool whose core threads may time
-/// out.
+/// Returns whether a thread times out in this step. This is so if the step ends a thread of a pool
+/// whose core threads may time out.
 fn is_timeout(plan: &Plan, actor: Actor, outcome: Outcome) -> bool
     ensures { result ≡ spec.is_timeout plan.now actor outcome }
 {

@@ -60,7 +60,7 @@ fn push_each(
 }
 
 /// Appends a line that says what the job with this number waits for. Appends nothing if the job
-/// does not wait in a queue or at a get of a live job.
+/// waits neither in a queue nor at a get of a live job.
 fn push_wait(text: &mut String, plan: &Plan, world: &World, number: usize) -> Result<(), AllocError>
     ensures { Pushes result text.old text.new (seen.wait_seen plan.now world.now.view number) }
 {
@@ -98,8 +98,10 @@ fn push_in_queue(text: &mut String, pool: &str) -> Result<(), AllocError>
     )
 }
 
-/// Appends a line that says for which job the job `number` waits at this action. Appends nothing if
-/// the action is not a get, or if the awaited job is not live.
+/// Appends a line that says what a job waits for at this action, such as
+/// `job 0 (report) waits for job 1 (section)`. `number` is the number of the waiting job, and
+/// `class` is the index of its class. Appends nothing if the action is not a get, or if the awaited
+/// job is not live.
 fn push_get(
     text: &mut String,
     plan: &Plan,
@@ -138,8 +140,9 @@ fn push_awaited(
     text.push('\n')
 }
 
-/// Returns the index of the class whose job the body of the class `class` submits at the position
-/// `submit`. Returns 0 if there is no submit at this position.
+/// Returns the class index of the job that a submit creates. `class` is the index of the class
+/// whose body has the submit, and `submit` is the position of the submit in this body. Returns 0 if
+/// there is no submit at this position.
 fn submitted_in(plan: &Plan, class: usize, submit: usize) -> usize
     ensures { result ≡ spec.submitted_in plan.now class submit }
 {

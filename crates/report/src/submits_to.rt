@@ -11,7 +11,8 @@ use std::alloc::AllocError;
 
 /// Appends a line for each submit to the pool with this index. The submits of the classes come
 /// before those of the client kinds, each in plan order. The line says whether a future is open at
-/// the submit: a job was submitted before, and its get comes later.
+/// the submit. A future is open if a job was submitted before this submit, and the get of that job
+/// comes after this submit.
 pub(crate) fn push_submits(text: &mut String, plan: &Plan, pool: usize) -> Result<(), AllocError>
     ensures { Pushes result text.old text.new (spec.submits_text plan.now pool) }
 {

@@ -74,7 +74,7 @@ fn push_queue(text: &mut String, declared: &Pool, fit: &Pool) -> Result<(), Allo
     )
 }
 
-/// Appends the advice for a plan for which no sizes were found.
+/// Appends the advice that belongs to `cause`, which is the reason why no sizes were found.
 fn push_advice_for_cause(text: &mut String, cause: NoSizes) -> Result<(), AllocError>
     ensures { Pushes result text.old text.new (spec.cause_advice_text cause) }
 {

@@ -6,7 +6,7 @@ ghost use Rattle.report.specs.Uri as spec;
 
 use std::alloc::{AllocError, Global};
 
-/// Returns the URI reference, as RFC 3986 defines it, of the file with this name.
+/// Returns a URI reference to the file with this name. RFC 3986 defines URI references.
 pub(crate) fn uri_of(alloc: Global, name: &str) -> Result<String, AllocError>
     ensures { IfOk result (λ uri. string_bytes uri ≡ spec.uri_text name.now) }
 {

@@ -7,8 +7,8 @@ ghost use Rattle.report.specs.Waits as spec;
 
 use job_bodies::{Action, Class, Plan};
 
-/// Returns whether some job of the pool `pool` gets a job of the pool `other`. The two can be the
-/// same pool.
+/// Returns whether some job of the first pool gets a job of the second pool. `pool` is the number
+/// of the first pool, and `other` is the number of the second pool. The two can be the same pool.
 pub fn waits_for(plan: &Plan, pool: usize, other: usize) -> bool
     ensures { result ≡ spec.waits_for plan.now pool other }
 {

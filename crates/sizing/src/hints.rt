@@ -1,6 +1,7 @@
 //! Hints for standard error about likely mistakes in files. A hint says that a file lacks its
-//! second text, has a text of another kind, has wrong line ends, or what to do about its fault.
-//! Other functions of this file return why a file could not be read or written.
+//! second text, that it has a text of another kind, or that it has wrong line ends. Other hints say
+//! what to do about the fault of a file. Other functions of this file return why a file could not
+//! be read or written.
 
 use plan_text::read_plan;
 use sizing_cli::{
@@ -16,8 +17,8 @@ const PLAN: &str = "a plan";
 
 const CERTIFICATE: &str = "a certificate";
 
-/// A likely mistake in a file that the arguments name. The mistake explains why the command found a
-/// fault in a text.
+/// A likely mistake in a file. The arguments of the command line name this file. The mistake
+/// explains why the command found a fault in a text.
 #[derive(Clone, Copy)]
 pub(crate) enum Hint<'a> {
     /// The file has only one text, but the command also needs a second text. The field is the name
@@ -39,7 +40,8 @@ pub(crate) enum Hint<'a> {
     ReturnsInEvents,
     /// The plan in the file has a fault.
     FaultyPlan,
-    /// The file has no certificate of the plan in the file `plan`, which has no fault.
+    /// The file has no certificate of the plan. `plan` is the name of another file, which has the
+    /// plan. The plan itself has no fault.
     NoCertificateOf {
         plan: &'a str,
     },
@@ -61,9 +63,9 @@ pub(crate) fn reason_of(rt: &impl Files, name: &str) -> &'static str {
     }
 }
 
-/// Returns the reason why the file could not be written, or an empty text if it is not known. Opens
-/// the file again to find the reason, but neither creates nor changes it. Opens only a regular
-/// file, because opening a pipe could block.
+/// Returns the reason why the file could not be written, or an empty text if the reason is not
+/// known. To find the reason, opens the file again, but neither creates nor changes this file.
+/// Opens only a regular file, because opening a pipe could block.
 pub(crate) fn reason_unwritten(rt: &impl Files, name: &str) -> &'static str {
     if is_special(rt, name) {
         return "";
@@ -126,8 +128,8 @@ pub(crate) fn hint_of<'a>(
     Some((name, hint_of_second(cli.command, &text, plan)?))
 }
 
-/// Returns the content of the file, up to one byte more than the command's input may have. Returns
-/// `None` if the file cannot be read.
+/// Returns the content of the file. Reads at most one byte more than the maximum length of the
+/// command's input. Returns `None` if the file cannot be read.
 fn text_of(rt: &impl Files, alloc: Global, command: Command, name: &str) -> Option<Vec<u8>> {
     StdFiles::new(rt)
         .read(alloc, name, most_bytes(command) + 1)
@@ -200,9 +202,12 @@ fn hint_of_recording<'a>(text: &[u8]) -> Option<Hint<'a>> {
 }
 
 /// Returns a hint about the second file, which has the content `text`. `plan` is the name of the
-/// first file, or `None` if that was read from standard input; the first file must show no known
-/// mistake. Returns `None` if the second file shows none either, for `ask`, because its answer
-/// already explains the mistake, and for commands that read only one text.
+/// first file, or `None` if the first text was read from standard input. The first file must show
+/// no known mistake. Returns `None`
+///
+/// - if the second file shows no known mistake,
+/// - for `ask`, because its answer already explains the mistake, and
+/// - for commands that read only one text.
 fn hint_of_second<'a>(command: Command, text: &[u8], plan: Option<&'a str>) -> Option<Hint<'a>> {
     match command {
         Command::OnRecording(RecordingCommand::Conform) => hint_of_recording(text),
@@ -220,7 +225,7 @@ fn hint_of_second<'a>(command: Command, text: &[u8], plan: Option<&'a str>) -> O
 }
 
 /// Returns a hint about a file of events. `has_plan` says whether the plan is known to have no
-/// fault, so that the events have one.
+/// fault. If so, the fault is in the events.
 fn hint_of_events<'a>(text: &[u8], has_plan: bool) -> Option<Hint<'a>> {
     if let Some(hint) = hint_of_misplaced(text, "events") {
         return Some(hint);

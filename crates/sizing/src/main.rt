@@ -45,7 +45,8 @@ fn main(rt: HostRuntime) -> ExitCode {
     }
 }
 
-/// Prints a hint to standard error if a file that the arguments name shows a likely mistake.
+/// Prints a hint to standard error if one of the files shows a likely mistake. `words` are the
+/// arguments of the command line, which name the files.
 fn advise(rt: &HostRuntime, words: &[&str]) {
     if let Some((name, hint)) = hint_of(rt, rt.alloc(), words) {
         let _ = print_hint(rt, name, hint);

@@ -16,8 +16,8 @@ use std::marker::Model;
 /// these numbers are close to each other. Most look-ups then index a table and compute no hash.
 ///
 /// Each slot of the table has at most one entry: a number and its value. The index of a number's
-/// slot is the number modulo the length of the table. If another number occupies this slot at an
-/// insertion, the value is stored in a second map, the overflow map. A look-up checks the slot
+/// slot is the number modulo the length of the table. If another number already occupies the slot,
+/// an insertion stores the value in a second map, the overflow map. A look-up checks the slot
 /// first.
 #[derive(Drop)]
 pub struct IdMap<V> {
@@ -56,7 +56,7 @@ impl<V> IdMap<V> {
         }
     }
 
-    /// Returns the value stored for key `number`, or `None` if there is none.
+    /// Returns the value stored for the key `number`, or `None` if there is none.
     #[inline(always)]
     #[tactic(auto, unfolding(crate::specs::Numbered::value_at))]
     pub fn get(&self, number: usize) -> Option<&V>
@@ -75,7 +75,7 @@ impl<V> IdMap<V> {
         self.overflow.get(number)
     }
 
-    /// Returns whether a value is stored for key `number`.
+    /// Returns whether a value is stored for the key `number`.
     #[inline(always)]
     pub fn contains(&self, number: usize) -> bool
         ensures { result ≡ is_some (value_at self.now number) }
@@ -83,7 +83,7 @@ impl<V> IdMap<V> {
         self.get(number).is_some()
     }
 
-    /// Returns a mutable reference to the value stored for key `number`, or `None` if there is
+    /// Returns a mutable reference to the value stored for the key `number`, or `None` if there is
     /// none.
     #[inline(always)]
     pub fn get_mut(&mut self, number: usize) -> Option<&mut V>
@@ -96,7 +96,8 @@ impl<V> IdMap<V> {
         self.overflow.get_mut(number)
     }
 
-    /// Stores `value` for key `number`. Replaces the earlier value of this key, if there is one.
+    /// Stores `value` for the key `number`. Replaces the earlier value of this key, if there is
+    /// one.
     ///
     /// # Errors
     ///
@@ -125,7 +126,8 @@ impl<V> IdMap<V> {
         Ok(())
     }
 
-    /// Removes the value stored for key `number` and returns it, or `None` if there was none.
+    /// Removes the value stored for the key `number`, and returns this value. Returns `None` if
+    /// there was no value for the key.
     #[inline(always)]
     #[tactic(auto, unfolding(crate::specs::Numbered::value_at, crate::specs::Numbered::count_of))]
     pub fn remove(&mut self, number: usize) -> Option<V>

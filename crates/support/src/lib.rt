@@ -3,7 +3,7 @@
 //! - The map [`IdMap`], and the counter [`Counter`].
 //! - The numbers and names of faults, and the start of a fault's text.
 //! - The writing of numbers in decimal digits.
-//! - The reading of the elements of a list, and its errors.
+//! - The function [`read_each`], which reads the elements of a list, and the error [`ReadError`].
 //! - Lemmas about lists whose elements are given by index.
 #![tactic(auto)]
 

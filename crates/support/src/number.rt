@@ -30,8 +30,10 @@ pub const BAD_ACTION: u8 = 11;
 /// A submit fills a slot that is already filled.
 pub const SLOT_OPEN: u8 = 12;
 /// A get names an empty slot. In a plan that is built from lists, a get names the position of a
-/// submit instead of a slot. The fault is then that the body has no earlier submit at this
-/// position, or that an earlier get names the same position.
+/// submit instead of a slot. The fault is then one of these:
+///
+/// - The body has no earlier submit at this position.
+/// - An earlier get names the same position.
 pub const SLOT_EMPTY: u8 = 13;
 
 // ---- out of memory
@@ -57,9 +59,9 @@ pub const CERT_TOO_LONG: u8 = 34;
 
 /// A run exceeds one of its limits.
 pub const RUN_TOO_LARGE: u8 = 40;
-/// A client or a pool has a receipt for an event of another client or pool, or for an event that is
-/// not in the history. A receipt is a thread's record of an event that the thread performed. The
-/// history lists the events of a run in order.
+/// A client or a pool has a wrong receipt. The event of the receipt belongs to another client or
+/// pool, or it is not in the history. A receipt is a thread's record of an event that the thread
+/// performed. The history lists the events of a run in order.
 pub const STRANGE: u8 = 41;
 /// The results of several threads contradict each other. In a run, the history and the receipts are
 /// not those of a complete run. In a search, the parts of the search do not fit together.

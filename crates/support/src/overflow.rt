@@ -12,8 +12,8 @@ use std::alloc::{AllocError, Global};
 use std::collections::HashMap;
 use std::marker::Model;
 
-/// A map from numbers to values, for the entries of an [`IdMap`](crate::IdMap) whose slot was
-/// occupied when they were inserted.
+/// A map from numbers to values, as a part of an [`IdMap`](crate::IdMap). It has the entries whose
+/// slot was occupied when they were inserted.
 ///
 /// Look-ups in this map are rare, so its methods are not inlined. A caller first checks whether the
 /// map is empty, because a look-up in an empty map would still hash the number.
@@ -52,7 +52,7 @@ impl<V> OverflowMap<V> {
         self.map.is_empty()
     }
 
-    /// Returns the value stored for key `number`, or `None` if there is none.
+    /// Returns the value stored for the key `number`, or `None` if there is none.
     #[inline(never)]
     pub(crate) fn get(&self, number: usize) -> Option<&V>
         ensures { option_copied result ≡ lookup (nat_eq number) self.now }
@@ -60,7 +60,7 @@ impl<V> OverflowMap<V> {
         self.map.get(&number)
     }
 
-    /// Returns a mutable reference to the value stored for key `number`, or `None` if there is
+    /// Returns a mutable reference to the value stored for the key `number`, or `None` if there is
     /// none.
     #[inline(never)]
     pub(crate) fn get_mut(&mut self, number: usize) -> Option<&mut V>
@@ -70,7 +70,8 @@ impl<V> OverflowMap<V> {
         self.map.get_mut(&number)
     }
 
-    /// Stores `value` for key `number`. Replaces the earlier value of this key, if there is one.
+    /// Stores `value` for the key `number`. Replaces the earlier value of this key, if there is
+    /// one.
     ///
     /// # Errors
     ///
@@ -92,7 +93,8 @@ impl<V> OverflowMap<V> {
         Ok(())
     }
 
-    /// Removes the value stored for key `number` and returns it, or `None` if there was none.
+    /// Removes the value stored for the key `number`, and returns this value. Returns `None` if
+    /// there was no value for the key.
     #[inline(never)]
     pub(crate) fn remove(&mut self, number: usize) -> Option<V>
         ensures value { result ≡ lookup (nat_eq number) self.old }
@@ -104,7 +106,7 @@ impl<V> OverflowMap<V> {
         self.map.remove(&number)
     }
 
-    /// Removes the value stored for key `number`, if there is one.
+    /// Removes the value stored for the key `number`, if there is one.
     #[inline(always)]
     pub(crate) fn forget(&mut self, number: usize)
     where

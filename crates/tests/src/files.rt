@@ -8,8 +8,8 @@
 //! number of inputs. Three other parts have expected answers:
 //!
 //! - A part `answer` is the expected answer to each input of the row.
-//! - A part `answers` is a table. Its line `ONE | TWO => ANSWER` has the expected answer to each
-//!   input in which `ONE` replaces `$1` and `TWO` replaces `$2`.
+//! - A part `answers` is a table. Its line `ONE | TWO => ANSWER` is a case for each input: `ONE`
+//!   replaces `$1` and `TWO` replaces `$2` in the input, and `ANSWER` is the expected answer.
 //! - A part `lines` is a table, too. The left sides of its lines are appended to each input, and
 //!   the right sides are the lines of the expected answer.
 //!
@@ -20,8 +20,8 @@
 //! - `$(one_pool 1 1 2 2)`: a sample plan with these sizes.
 //! - `$(standing_cert)`: a sample certificate. `$(standing_cert OLD NEW)` is the same certificate
 //!   with `NEW` in place of its first `OLD`.
-//! - `^<64 TEXT^>`: the text 64 times. In it, `^#` is the number of the repetition, from 0, and
-//!   `^+` is that number plus 1.
+//! - `^<64 TEXT^>`: 64 copies of the text. In the text, `^#` is the number of the copy, counted
+//!   from 0, and `^+` is the number of the copy, counted from 1.
 //! - `^<to 64 X^>`: the byte X, repeated until the input or answer has 64 bytes.
 //! - `^n`, `^r`, `^t` and `^s`: a newline, a carriage return, a tab and a space. `^xff` is the byte
 //!   `ff`.

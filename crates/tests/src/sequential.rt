@@ -18,14 +18,15 @@ use std::alloc::{AllocError, Global};
 /// - `replay`, `check`, `explain`, `conform`, `learn` and `learn strict`: the input of the command.
 ///   The answer is the output, with the exit status on the last line. The test then repeats the
 ///   command with a source and a sink that transfer a small piece in each call. If the input is
-///   short, the test also repeats the command once for each call of the source and of the sink, so
-///   that this call fails. The answer has a note for each unexpected result.
+///   short, the test also repeats the command with failures: in each repetition, a different call
+///   of the source or of the sink fails. The answer has a note for each unexpected result.
 /// - `check and explain`: an input of both commands. The answer is the output of `check`. If the
 ///   output of `explain` is different, it follows in the answer.
 /// - `prefixes of a replay`, `prefixes of a check` and `prefixes of an explain`: an input of the
 ///   command. The test runs the command on each proper prefix of the input, from the shortest to
-///   the longest. The answer has the output for the empty prefix. It then has each output that
-///   differs from the one before it, with the length of the prefix.
+///   the longest. The answer has the output for the empty prefix. If the output for a longer prefix
+///   differs from the output before it, the answer also has this output and the length of the
+///   prefix.
 /// - `words`: the arguments of a command line, each followed by a newline.
 pub struct SequentialCommands;
 

@@ -22,9 +22,10 @@ use std::alloc::{AllocError, Global};
 /// The answer has a line for each of these lines: the outcome of the event or the result of the
 /// look-up. What follows in the line depends on the kind of the input:
 ///
-/// - If the kind is `facts`, each result of a look-up that changed follows.
-/// - If the kind is `sets`, the sets among the first six jobs that wait only for each other follow.
-/// - If the kind is `outcomes`, nothing follows.
+/// - `facts`: each changed result of a look-up.
+/// - `sets`: each set of jobs that wait only for each other. Only the first six jobs can be
+///   members.
+/// - `outcomes`: nothing.
 ///
 /// If the kind is `counts`, the answer is only one line: the number of events that were possible,
 /// and the counts of the world after the last event. If the text of the plan has a fault, the

@@ -1,6 +1,6 @@
-//! The conditions of the blocked vector of a pool. This vector bounds the number of the pool's jobs
-//! that wait at counted gets. [`Rule`] explains the names of the rows, and [`Counted`] explains
-//! counted gets.
+//! The conditions of the blocked vector of a pool. This vector bounds how many jobs of the pool
+//! wait at counted gets. [`Rule`] explains the names of the rows, and [`Counted`] explains counted
+//! gets.
 
 ghost use Rattle.std.specs.Prelude.{◌≡◌, ◌==◌, ◌&&◌, ◌<◌, ◌+◌, ◌∷◌, [], if◌then◌else◌, ℕ, IsTrue, Some, length, map, slice_get};
 ghost use Rattle.std.specs.List.{flat_map};
@@ -20,8 +20,8 @@ use job_bodies::{Action, Class, Plan};
 /// A failing row of a blocked vector: its `left` is greater than its `right`.
 pub type BlockedFault = Row;
 
-/// Passes condition B1 (see [`Rule`]) for the action at `position` of class `number` to the
-/// visitor. Does nothing if the action is not a counted get.
+/// Passes condition B1 (see [`Rule`]) to the visitor if `action` is a counted get. Otherwise does
+/// nothing. The action is at `position` in the body of the class at index `number`.
 fn visit_counted_row<C: Counted, V: RowVisitor>(
     counted: &C,
     vector: &Vector,
@@ -46,7 +46,7 @@ fn visit_counted_row<C: Counted, V: RowVisitor>(
     }
 }
 
-/// Passes condition B1 for each counted get of class `number` to the visitor.
+/// Passes condition B1 to the visitor for each counted get of the class at index `number`.
 fn visit_counted_rows<C: Counted, V: RowVisitor>(
     plan: &Plan,
     counted: &C,
@@ -67,8 +67,8 @@ fn visit_counted_rows<C: Counted, V: RowVisitor>(
     }
 }
 
-/// Passes condition B1 for each counted get of class `number` to the visitor. Does nothing if the
-/// class does not belong to the pool.
+/// Passes condition B1 to the visitor for each counted get of the class at index `number`. Does
+/// nothing if the class does not belong to the pool.
 fn visit_counted_rows_of<C: Counted, V: RowVisitor>(
     plan: &Plan,
     pool: usize,
@@ -90,7 +90,7 @@ fn visit_counted_rows_of<C: Counted, V: RowVisitor>(
     }
 }
 
-/// Passes condition B1 for each counted get of each class of the pool to the visitor.
+/// Passes condition B1 to the visitor for each counted get of the pool's classes.
 fn visit_all_counted_rows<C: Counted, V: RowVisitor>(
     plan: &Plan,
     pool: usize,
@@ -141,8 +141,8 @@ pub fn visit_blocked_rows<C: Counted, V: RowVisitor>(
     ));
 }
 
-/// Returns the first condition of the pool's blocked vector that fails, in the order of
-/// [`visit_blocked_rows`], or `None` if all hold. Allocates no memory.
+/// Returns the first failing condition of the pool's blocked vector, in the order of
+/// [`visit_blocked_rows`]. Returns `None` if all conditions hold. Allocates no memory.
 pub fn blocked_fault<C: Counted>(
     plan: &Plan,
     pool: usize,

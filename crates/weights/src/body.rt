@@ -23,7 +23,7 @@ pub(crate) enum BodyOwner {
 }
 
 impl BodyOwner {
-    /// Returns the place of the action at `position` of the owner's body.
+    /// Returns the place of an action of the owner's body. The action is at `position`.
     fn place_at(self, position: usize) -> Place
         ensures { result ≡ place_at self position }
     {
@@ -42,8 +42,8 @@ pub(crate) struct Body<'a> {
     pub(crate) weights: &'a [u64],
 }
 
-/// Returns the index of the class that the submit at position `submit` submits, or 0 if there is no
-/// submit at that position.
+/// Returns the index of the submitted class. The submit is at position `submit` of the body.
+/// Returns 0 if there is no submit at this position.
 pub fn submitted_class(actions: &[Action], submit: usize) -> usize
     ensures { result ≡ submitted_class actions.now submit }
 {
@@ -102,7 +102,7 @@ fn action_row(
     Row::new(rule, place, left, right)
 }
 
-/// Passes the condition for each action of the body to the visitor, in order.
+/// Passes one condition to the visitor for each action of the body, in order.
 pub(crate) fn visit_body_rows<V: RowVisitor>(
     get_return: GetReturn,
     plan: &Plan,

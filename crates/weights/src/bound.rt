@@ -67,8 +67,8 @@ impl Bound {
         }
     }
 
-    /// Returns the first condition of the pool's bound that fails, or `None` if all hold. Allocates
-    /// no memory.
+    /// Returns the first failing condition of the pool's bound, or `None` if all conditions hold.
+    /// Allocates no memory.
     pub fn fault(&self, plan: &Plan, pool: usize) -> Option<StandingFault>
         requires fits { IsTrue (vector_fits plan.now (spec.bound_vector self.now)) }
         requires pool { pool < length plan.now.pools }

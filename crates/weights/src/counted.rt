@@ -4,8 +4,8 @@ ghost use Rattle.std.specs.Prelude.{◌≡◌, ℕ, Bool};
 
 /// A rule that decides which gets are counted, such as [`RanksOf`](crate::RanksOf). In the blocked
 /// vector of a pool, a job of the pool weighs at least 1 at each counted get. So the vector bounds
-/// the number of jobs that wait at counted gets. A get need not be counted if the job for which it
-/// waits always makes progress.
+/// the number of jobs that wait at counted gets. If a get waits for a job that always makes
+/// progress, the get does not have to be counted.
 pub trait Counted {
     // Whether the rule has an answer for this position of this class.
     ghost Answers: { Self → ℕ → ℕ → Type 0 };

@@ -1,4 +1,4 @@
-//! The rule by which the ranks and reaches of a certificate decide which gets are counted.
+//! The rule that decides which gets are counted. It uses the ranks and reaches of a certificate.
 
 ghost use Rattle.std.specs.Prelude.{◌≡◌, ◌<◌, IsTrue, Some, length, slice_get};
 ghost use Rattle.job_bodies.specs.Plan.{class_at};
@@ -8,7 +8,8 @@ ghost use Rattle.weights.specs.Ranks as spec;
 use crate::{Counted, Ranks, submitted_class};
 use job_bodies::{Action, Class, Plan};
 
-/// Returns whether the action at `position` of class `number` is a counted get.
+/// Returns whether the action at `position` of the class's body is a counted get. The class is at
+/// index `number`.
 fn is_counted_in(plan: &Plan, ranks: &Ranks, number: usize, class: &Class, position: usize) -> bool
     requires fits { IsTrue (spec.ranks_fit plan.now ranks.now) }
     requires well_formed { IsWellFormed plan.now }
@@ -27,9 +28,9 @@ fn is_counted_in(plan: &Plan, ranks: &Ranks, number: usize, class: &Class, posit
 }
 
 impl Ranks {
-    /// Returns whether the action at `position` of the class's body is a counted get. A get is
-    /// counted exactly when the reach of the class whose job it gets is at least the rank of the
-    /// pool of `class`.
+    /// Returns whether the action at `position` of the class's body is a counted get. A get waits
+    /// for a job. If the reach of this job's class is at least the rank of the pool of `class`, the
+    /// get is counted. Otherwise the get is not counted.
     pub fn is_counted(&self, plan: &Plan, class: usize, position: usize) -> bool
         requires fits { IsTrue (spec.ranks_fit plan.now self.now) }
         requires class { class < length plan.now.classes }

@@ -1,6 +1,6 @@
 //! The test that a vector has the shape of a plan, and that each of its numbers is at most
-//! [`MAX_WEIGHT`]. Positions of a body are from 0, before its first action, to its length, after
-//! its last action.
+//! [`MAX_WEIGHT`]. A body with `n` actions has the positions 0 to `n`. Position 0 is before the
+//! first action, and position `n` is after the last action.
 
 ghost use Rattle.std.specs.Prelude.{◌≡◌, ◌+◌, ◌==◌, length, map};
 ghost use Rattle.std.specs.List.{list_all, enumerate_from};
@@ -76,8 +76,8 @@ impl Vector {
         true
     }
 
-    /// Returns whether the vector has, for each client kind, a number for each position of its
-    /// body.
+    /// Returns whether the vector has the right number of weights for each client kind: one for
+    /// each position of the body.
     fn has_client_shapes(&self, plan: &Plan) -> bool
         requires { length self.now.clients ≡ length plan.now.clients }
         ensures { result

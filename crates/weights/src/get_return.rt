@@ -5,7 +5,8 @@ ghost use Rattle.weights.specs.GetReturn.{get_rule};
 
 use crate::Rule;
 
-/// The part of a done job's weight that a get gives to the actor that performs the get.
+/// The weight that a get gives to its actor: the whole weight of the done job, or nothing. The
+/// actor is the job or the client that performs the get.
 #[derive(Clone, Copy, PartialEq, Eq)]
 pub enum GetReturn {
     /// The whole weight of the done job, as in standing and blocked vectors.

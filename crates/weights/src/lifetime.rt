@@ -15,11 +15,11 @@ ghost use Rattle.weights.specs.Visits.{Visits};
 use crate::{FirstFault, GetReturn, Place, Row, RowVisitor, Rule, StandingFault, Vector};
 use job_bodies::{Class, Plan, Pool};
 
-/// Returns the number of jobs that a pool accepts before it can refuse one. This is the capacity of
-/// its queue plus its maximum, minus its prestarted threads.
+/// Returns the number of jobs that a pool accepts before it can refuse a job. This number is the
+/// capacity of the queue plus the maximum of the pool, minus the number of prestarted threads.
 ///
-/// If core threads may time out, it is only the capacity of the queue, because Java then starts
-/// threads without a job.
+/// If core threads may time out, the number is only the capacity of the queue, because Java then
+/// starts threads without a job.
 pub(crate) fn lifetime_limit(pool: &Pool) -> u64
     requires { IsTrue (has_valid_sizes pool.now) }
     ensures { result ≡ lifetime.lifetime_limit pool.now }
@@ -47,8 +47,8 @@ fn visit_worker_rows<V: RowVisitor>(plan: &Plan, vector: &Vector, visitor: &mut 
     }
 }
 
-/// Passes condition L2 for each of `weights` to the visitor. `weights` are the weights of a job of
-/// the class: of a queued job, at each position of the body, and of a done job.
+/// Passes condition L2 to the visitor for each weight in `weights`. These are the weights of a job
+/// of the class: when it is queued, at each position of its body, and when it is done.
 fn visit_l2_rows<V: RowVisitor>(class: usize, weights: &[u64], visitor: &mut V)
     ensures { Visits V.HasSeen visitor.old visitor.new
         (map (λ weight. row L2 (place.Class class) 1 weight) weights.now) }
@@ -58,8 +58,8 @@ fn visit_l2_rows<V: RowVisitor>(class: usize, weights: &[u64], visitor: &mut V)
     }
 }
 
-/// Passes condition L2 for each weight of class `number` to the visitor. Does nothing if the class
-/// does not belong to the pool.
+/// Passes condition L2 to the visitor for each weight of the class at index `number`. Does nothing
+/// if the class does not belong to the pool.
 fn visit_l2_rows_of<V: RowVisitor>(
     plan: &Plan,
     pool: usize,
@@ -79,7 +79,7 @@ fn visit_l2_rows_of<V: RowVisitor>(
     }
 }
 
-/// Passes condition L2 for each weight of each class of the pool to the visitor.
+/// Passes condition L2 to the visitor for each weight of the pool's classes.
 fn visit_all_l2_rows<V: RowVisitor>(plan: &Plan, pool: usize, vector: &Vector, visitor: &mut V)
     requires { IsTrue (spec.vector_fits plan.now vector.now) }
     ensures { let all = flat_map (λ entry. map (λ weight. row L2 (place.Class entry.0) 1 weight) (spec.class_weights vector.now entry.0)) (classes_of plan.now pool) in
@@ -109,8 +109,8 @@ impl Vector {
         self.visit_room_rows(plan, pool, visitor);
     }
 
-    /// Passes L2 for each weight of each class of the pool, and then L3, to the visitor. Does
-    /// nothing if the queue of the pool is unbounded.
+    /// Passes the conditions L2 and L3 to the visitor: first L2 for each weight of the pool's
+    /// classes, and then L3. Does nothing if the queue of the pool is unbounded.
     fn visit_room_rows<V: RowVisitor>(&self, plan: &Plan, pool: usize, visitor: &mut V)
         requires fits { IsTrue (spec.vector_fits plan.now self.now) }
         requires pool { pool < length plan.now.pools }
@@ -130,8 +130,8 @@ impl Vector {
         ));
     }
 
-    /// Returns the first condition of the pool's lifetime vector that fails, in the order of
-    /// [`Vector::visit_lifetime_rows`], or `None` if all hold. Allocates no memory.
+    /// Returns the first failing condition of the pool's lifetime vector, in the order of
+    /// [`Vector::visit_lifetime_rows`]. Returns `None` if all conditions hold. Allocates no memory.
     pub fn lifetime_fault(&self, plan: &Plan, pool: usize) -> Option<StandingFault>
         requires fits { IsTrue (spec.vector_fits plan.now self.now) }
         requires pool { pool < length plan.now.pools }

@@ -18,8 +18,9 @@ use job_bodies::{Action, Class, Plan};
 /// A failing row of ranks: its `left` is greater than its `right`.
 pub type RankFault = Row;
 
-/// Returns condition K2 for the get at `position` of class `number`. It requires that the reach of
-/// this class is at least the reach of the class whose job it gets.
+/// Returns condition K2 for a get. The get is at `position` in the body of the class at index
+/// `number`, and it waits for a job. K2 requires that the reach of the class at index `number` is
+/// at least the reach of the job's class.
 fn get_row(
     plan: &Plan,
     ranks: &Ranks,
@@ -43,8 +44,8 @@ fn get_row(
     )
 }
 
-/// Returns condition K3 for the submit at `position` of class `number`. It requires that the level
-/// of this class is above the level of the submitted class.
+/// Returns condition K3 for a submit. The submit is at `position` in the body of the class at index
+/// `number`. K3 requires that the level of this class is above the level of the submitted class.
 fn submit_row(plan: &Plan, ranks: &Ranks, number: usize, position: usize, submitted: usize) -> Row
     requires fits { IsTrue (spec.ranks_fit plan.now ranks.now) }
     requires class { number < length plan.now.classes }
@@ -61,8 +62,9 @@ fn submit_row(plan: &Plan, ranks: &Ranks, number: usize, position: usize, submit
     )
 }
 
-/// Passes the condition for the action at `position` of class `number` to the visitor: K2 for a
-/// get, or K3 for a submit. Does nothing for other actions, which have no condition.
+/// Passes the condition for an action to the visitor: K2 for a get, or K3 for a submit. Does
+/// nothing for other actions, which have no condition. The action is at `position` in the body of
+/// the class at index `number`.
 fn visit_action_row<V: RowVisitor>(
     plan: &Plan,
     ranks: &Ranks,
@@ -90,8 +92,8 @@ fn visit_action_row<V: RowVisitor>(
     }
 }
 
-/// Returns condition K1 for class `number`. It requires that the reach of the class is at least the
-/// rank of the class's pool.
+/// Returns condition K1 for the class at index `number`. K1 requires that the reach of the class is
+/// at least the rank of its pool.
 fn own_row(plan: &Plan, ranks: &Ranks, number: usize, class: &Class) -> Row
     requires fits { IsTrue (spec.ranks_fit plan.now ranks.now) }
     requires well_formed { IsWellFormed plan.now }
@@ -108,7 +110,8 @@ fn own_row(plan: &Plan, ranks: &Ranks, number: usize, class: &Class) -> Row
     )
 }
 
-/// Passes the condition for each get and each submit of class `number` to the visitor.
+/// Passes the conditions for the actions of the class at index `number` to the visitor: K2 for each
+/// get, and K3 for each submit.
 fn visit_action_rows<V: RowVisitor>(
     plan: &Plan,
     ranks: &Ranks,
@@ -127,8 +130,8 @@ fn visit_action_rows<V: RowVisitor>(
     }
 }
 
-/// Passes the conditions for class `number` to the visitor. First comes K1. Then come, in the order
-/// of the body, K2 for each get and K3 for each submit.
+/// Passes the conditions for the class at index `number` to the visitor. The first one is K1. The
+/// others are K2 for each get and K3 for each submit, in the order of the body.
 fn visit_class_rows<V: RowVisitor>(
     plan: &Plan,
     ranks: &Ranks,
@@ -147,8 +150,9 @@ fn visit_class_rows<V: RowVisitor>(
 }
 
 impl Ranks {
-    /// Passes all conditions of the ranks to the visitor. For each class, these are K1, and then,
-    /// in the order of the body, K2 for each get and K3 for each submit.
+    /// Passes all conditions of the ranks to the visitor, class by class. The first one for each
+    /// class is K1. The others are K2 for each get and K3 for each submit, in the order of the
+    /// body.
     pub fn visit_rank_rows<V: RowVisitor>(&self, plan: &Plan, visitor: &mut V)
         requires { IsTrue (spec.ranks_fit plan.now self.now) }
         ensures { Visits V.HasSeen visitor.old visitor.new (spec.rank_rows plan.now self.now) }
@@ -158,8 +162,8 @@ impl Ranks {
         }
     }
 
-    /// Returns the first condition of the ranks that fails, or `None` if all hold. Allocates no
-    /// memory.
+    /// Returns the first failing condition of the ranks, or `None` if all conditions hold.
+    /// Allocates no memory.
     pub fn fault(&self, plan: &Plan) -> Option<RankFault>
         requires { IsTrue (spec.ranks_fit plan.now self.now) }
         ensures { result ≡ first_failing (spec.rank_rows plan.now self.now) }

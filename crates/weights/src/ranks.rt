@@ -18,8 +18,8 @@ pub struct Ranks {
     /// The reach of each class. A certificate requires that the reach is at least the rank of the
     /// class's pool. It must also be at least the reach of each class whose jobs this class gets.
     pub reach: Vec<u64>,
-    /// The level of each class. A certificate requires that the level is above the level of each
-    /// class that the class submits.
+    /// The level of each class. If a class A submits jobs of a class B, a certificate requires that
+    /// the level of A is above the level of B.
     pub levels: Vec<u64>,
 }
 

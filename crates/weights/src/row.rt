@@ -21,14 +21,13 @@ pub enum Rule {
     /// The weight of an actor before a submit is at least its weight afterwards plus the weight of
     /// the queued job.
     V3,
-    /// The weight of a job at its first position is at most the weight of the queued job plus the
-    /// weight of a worker of its pool.
+    /// A job at its first position weighs at most as much as the queued job plus a worker of its
+    /// pool.
     V4,
     /// A get increases the weight of the actor that performs it by at most the weight of the done
     /// job.
     V5,
-    /// The weight of a job at its end is at least the weight of the done job plus the weight of a
-    /// worker of its pool.
+    /// A job at its end weighs at least as much as the done job plus a worker of its pool.
     V6,
     /// A client that repeats weighs at least as much at its end as at its start.
     V7,
@@ -43,17 +42,18 @@ pub enum Rule {
     /// In the lifetime vector of a pool with a bounded queue, a job of the pool always weighs at
     /// least 1: when it is queued, at each position of its body, and when it is done.
     L2,
-    /// If the queue of a pool is bounded, the total of the pool's lifetime vector is at most the
-    /// capacity of the queue plus the maximum of the pool, minus its prestarted threads. If core
-    /// threads may time out, it is at most the capacity of the queue.
+    /// If the queue of a pool is bounded, the total of the pool's lifetime vector has a limit. The
+    /// limit is the capacity of the queue plus the maximum of the pool, minus the number of its
+    /// prestarted threads. If core threads may time out, the limit is only the capacity of the
+    /// queue.
     L3,
     /// In a lifetime vector, a get does not increase the weight of the actor that performs it. In
     /// such a vector, this rule replaces V5.
     L5,
     /// In the blocked vector of a pool, a job of the pool weighs at least 1 at each counted get.
     B1,
-    /// The total of the blocked vector of a pool is less than the core size of the pool. If core
-    /// threads may time out, the total is 0.
+    /// The total of a pool's blocked vector is less than the core size of the pool. If core threads
+    /// may time out, the total is 0.
     B2,
 }
 

@@ -16,8 +16,8 @@ use crate::body::{Body, BodyOwner, visit_body_rows};
 use crate::{GetReturn, Place, Row, RowVisitor, Rule, Vector};
 use job_bodies::{Class, Client, Plan};
 
-/// Returns condition V4 for class `number`. It requires that a job at its first position weighs at
-/// most as much as the queued job plus a worker of its pool.
+/// Returns condition V4 for the class at index `number`. V4 requires that a job at its first
+/// position weighs at most as much as the queued job plus a worker of its pool.
 fn take_row(plan: &Plan, vector: &Vector, number: usize, class: &Class) -> Row
     requires fits { IsTrue (spec.vector_fits plan.now vector.now) }
     requires well_formed { IsWellFormed plan.now }
@@ -36,8 +36,8 @@ fn take_row(plan: &Plan, vector: &Vector, number: usize, class: &Class) -> Row
     )
 }
 
-/// Returns condition V6 for class `number`. It requires that a job at its end weighs at least as
-/// much as the done job plus a worker of its pool.
+/// Returns condition V6 for the class at index `number`. V6 requires that a job at its end weighs
+/// at least as much as the done job plus a worker of its pool.
 fn end_row(plan: &Plan, vector: &Vector, number: usize, class: &Class) -> Row
     requires fits { IsTrue (spec.vector_fits plan.now vector.now) }
     requires well_formed { IsWellFormed plan.now }
@@ -56,8 +56,8 @@ fn end_row(plan: &Plan, vector: &Vector, number: usize, class: &Class) -> Row
     )
 }
 
-/// Passes the conditions for class `number` to the visitor: V4, then the conditions for its
-/// actions, and then V6.
+/// Passes the conditions for the class at index `number` to the visitor: V4, then the conditions
+/// for its actions, and then V6.
 fn visit_class_rows<V: RowVisitor>(
     get_return: GetReturn,
     plan: &Plan,
@@ -82,8 +82,8 @@ fn visit_class_rows<V: RowVisitor>(
     visitor.visit(end_row(plan, vector, number, class));
 }
 
-/// Returns condition V7 for client kind `number`. It requires that a client weighs at least as much
-/// at its end as at its start.
+/// Returns condition V7 for the client kind at index `number`. V7 requires that a client weighs at
+/// least as much at its end as at its start.
 fn loop_row(plan: &Plan, vector: &Vector, number: usize, client: &Client) -> Row
     requires fits { IsTrue (spec.vector_fits plan.now vector.now) }
     requires well_formed { IsWellFormed plan.now }
@@ -100,8 +100,8 @@ fn loop_row(plan: &Plan, vector: &Vector, number: usize, client: &Client) -> Row
     )
 }
 
-/// Passes the conditions for client kind `number` to the visitor: those for its actions, and then
-/// V7 if the kind repeats.
+/// Passes the conditions for the client kind at index `number` to the visitor: those for its
+/// actions, and then V7 if the kind repeats.
 fn visit_client_rows<V: RowVisitor>(
     get_return: GetReturn,
     plan: &Plan,

@@ -16,8 +16,8 @@ ghost use Rattle.weights.specs.Visits.{Visits};
 use crate::{FirstFault, GetReturn, Place, Row, RowFault, RowVisitor, Rule, StandingFault, Vector};
 use job_bodies::{Class, Plan};
 
-/// Passes condition S1 for class `number` to the visitor. Does nothing if the class does not belong
-/// to the pool.
+/// Passes condition S1 for the class at index `number` to the visitor. Does nothing if the class
+/// does not belong to the pool.
 fn visit_queued_row<V: RowVisitor>(
     plan: &Plan,
     pool: usize,
@@ -68,8 +68,8 @@ impl Vector {
         self.visit_capacity_rows(plan, pool, visitor);
     }
 
-    /// Passes S1 for each class of the pool, and then S2, to the visitor. Does nothing if the queue
-    /// of the pool is unbounded.
+    /// Passes the conditions S1 and S2 to the visitor: first S1 for each class of the pool, and
+    /// then S2. Does nothing if the queue of the pool is unbounded.
     fn visit_capacity_rows<V: RowVisitor>(&self, plan: &Plan, pool: usize, visitor: &mut V)
         requires fits { IsTrue (spec.vector_fits plan.now self.now) }
         requires pool { pool < length plan.now.pools }
@@ -83,8 +83,8 @@ impl Vector {
         visitor.visit(Row::new(Rule::S2, Place::Total, self.total(plan), sizes.queue));
     }
 
-    /// Returns the first of the conditions V2 to V7 that fails, in the order of
-    /// [`Vector::visit_rows`], or `None` if all hold. Allocates no memory.
+    /// Returns the first failing condition among V2 to V7, in the order of [`Vector::visit_rows`].
+    /// Returns `None` if all these conditions hold. Allocates no memory.
     pub fn first_fault(&self, plan: &Plan) -> Option<RowFault>
         requires { IsTrue (spec.vector_fits plan.now self.now) }
         ensures { result ≡ first_failing (rows DoneWeight plan.now self.now) }
@@ -94,8 +94,8 @@ impl Vector {
         first.found
     }
 
-    /// Returns the first condition of the pool's standing vector that fails, in the order of
-    /// [`Vector::visit_standing_rows`], or `None` if all hold. Allocates no memory.
+    /// Returns the first failing condition of the pool's standing vector, in the order of
+    /// [`Vector::visit_standing_rows`]. Returns `None` if all conditions hold. Allocates no memory.
     pub fn standing_fault(&self, plan: &Plan, pool: usize) -> Option<StandingFault>
         requires fits { IsTrue (spec.vector_fits plan.now self.now) }
         requires pool { pool < length plan.now.pools }

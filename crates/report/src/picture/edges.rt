@@ -1,5 +1,6 @@
-//! The edges of a picture: an arrow for submits, a dashed line for gets, and a bold dashed line for
-//! gets of which at least one is counted. A counted get can block a thread that other jobs need.
+//! The edges of a picture: an arrow for submits, and a dashed line for gets. The dashed line is
+//! bold if at least one of these gets is counted. A counted get can block a thread that other jobs
+//! need.
 
 ghost use Rattle.std.specs.Prelude.{◌≡◌, ◌++◌, IsTrue, codes, option_map};
 ghost use Rattle.std.specs.List.{enumerate_from, list_any};
@@ -137,8 +138,9 @@ fn has_get(body: &[Action], class: usize) -> bool
     body.iter().any(|action| gets_class(body, class, *action))
 }
 
-/// Returns whether the body of the class `number` has a counted get of a job of the class `class`.
-/// Returns `false` if there are no ranks, or if the ranks do not fit the plan.
+/// Returns whether the body has a counted get of a job of the class with the index `class`.
+/// `number` is the index of the class that has this body. Returns `false` if there are no ranks, or
+/// if the ranks do not fit the plan.
 fn has_counted_get(
     plan: &Plan,
     ranks: Option<&Ranks>,
@@ -183,8 +185,9 @@ fn is_counted(plan: &Plan, ranks: &Ranks, class: usize, position: usize) -> bool
 
 // ---- lines
 
-/// Appends one edge for `times` submits of jobs of the class `class`. The name of the node at which
-/// the edge starts is `kind` followed by `number`. Appends nothing if `times` is 0.
+/// Appends one edge for `times` submits of jobs of a class. The edge ends at the node of this
+/// class, whose index is `class`. The edge starts at the node whose name is `kind` followed by
+/// `number`, such as `client0`. Appends nothing if `times` is 0.
 fn push_submit_edge(
     text: &mut String,
     kind: &str,
@@ -211,9 +214,10 @@ fn push_times(text: &mut String, times: usize) -> Result<(), AllocError>
     write!(text, " [label=\"{times}\"]")
 }
 
-/// Appends one dashed edge for the gets of jobs of the class `class`. The name of the node at which
-/// the edge starts is `kind` followed by `number`. `counted` says whether one of the gets is
-/// counted; the edge is bold if so. Appends nothing if `gets` is false, because there are no gets.
+/// Appends one dashed edge for gets of jobs of a class. The edge ends at the node of this class,
+/// whose index is `class`. The edge starts at the node whose name is `kind` followed by `number`,
+/// such as `client0`. `counted` says whether one of the gets is counted; if so, the edge is bold.
+/// `gets` says whether there are any gets; if not, appends nothing.
 fn push_get_edge(
     text: &mut String,
     kind: &str,

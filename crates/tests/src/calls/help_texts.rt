@@ -150,7 +150,8 @@ fn arguments_that_ask_for_help(rt: HostRuntime) -> Result<(), Fail> {
     Ok(())
 }
 
-/// Tests that the error says what is wrong if `ask` refuses options that `clap` accepts.
+/// Tests the errors for arguments that `clap` accepts but `ask` refuses. Each error must say what
+/// is wrong.
 #[test]
 fn arguments_that_ask_refuses(rt: HostRuntime) -> Result<(), Fail> {
     assert_eq!(rt; incomplete_error(rt.alloc(), REFUSED)?, None);

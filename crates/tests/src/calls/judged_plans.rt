@@ -24,8 +24,8 @@ fn read(alloc: Global, plan: &str, cert: &str) -> Result<(Plan, Cert), Fail> {
     Ok((plan, cert))
 }
 
-/// The results for a plan and a certificate: the first failing condition of each part of the
-/// certificate, and the total of the vector in the bound of the first pool.
+/// The results for a plan and a certificate. Each part of the certificate has a field with its
+/// first failing condition. `total` is the total of the vector in the first pool's bound.
 #[derive(Clone, Copy, Debug, PartialEq, Eq)]
 struct Findings {
     total: u64,
@@ -174,9 +174,9 @@ fn the_first_condition_that_fails(rt: HostRuntime) -> Result<(), Fail> {
     Ok(())
 }
 
-/// Returns whether the action at this position of the class's body is a counted get, which may
-/// block a thread that other jobs need. Returns `None` if the class or the position does not exist,
-/// or if the ranks do not have the shape of the plan.
+/// Returns whether the action at this position of the class's body is a counted get. A counted get
+/// may block a thread that other jobs need. Returns `None` if the class or the position does not
+/// exist, or if the ranks do not have the shape of the plan.
 fn is_counted(plan: &Plan, ranks: &Ranks, class: usize, position: usize) -> Option<bool> {
     let found = plan.class_at(class)?;
     if position >= found.body.len() || !ranks.fits(plan) {
@@ -185,8 +185,8 @@ fn is_counted(plan: &Plan, ranks: &Ranks, class: usize, position: usize) -> Opti
     Some(RanksOf::new(plan, ranks).counted(class, position))
 }
 
-/// Tests which gets are counted in a plan where jobs of class `a` wait for jobs of class `b`, and
-/// these wait for jobs of class `d`. Which of these gets are counted depends on the ranks.
+/// Tests a plan in which jobs of class `a` wait for jobs of class `b`, and these wait for jobs of
+/// class `d`. The ranks determine which of these gets are counted.
 #[test]
 fn gets_that_are_counted(rt: HostRuntime) -> Result<(), Fail> {
     let (plan, cert) = read(rt.alloc(), THERE_AND_BACK, THERE_AND_BACK_CERT)?;
@@ -211,8 +211,7 @@ fn higher(alloc: Global) -> Result<Ranks, AllocError> {
     })
 }
 
-/// A case: a plan, a certificate, and whether two calls accept them: `accepts_standing`, and then
-/// `accepts`.
+/// A case: a plan, a certificate, the result of `accepts_standing`, and the result of `accepts`.
 type Judged = (&'static str, &'static str, bool, bool);
 
 const JUDGED: &[Judged] = &[

@@ -47,8 +47,9 @@ const BOTH_WAIT: [Event; 4] = [
     Event::Job(1),
 ];
 
-/// A case: the rest of the pool's entry, the number of clients, events, the numbers of the jobs that
-/// may wait only for each other, and the expected result.
+/// A case: the rest of the pool's entry, the number of clients, events, the numbers of some jobs,
+/// and the expected result. The call under test checks whether these jobs wait only for each other
+/// after the events.
 type Case = (
     &'static str,
     u64,
@@ -126,8 +127,12 @@ fn standing(alloc: Global) -> Result<Vec<Vector>, AllocError> {
     Ok(vectors)
 }
 
-/// Tests when jobs that wait only for each other wait permanently. This is so only if each pool
-/// that has one of them in its queue has at least core threads, and starts no thread above core.
+/// Tests whether a wait is permanent. In each case, some jobs wait only for each other. Consider a
+/// pool that has one of these jobs in its queue. The wait is permanent only if this pool satisfies
+/// two conditions:
+///
+/// - The pool has at least as many threads as its core size.
+/// - The pool starts no thread above its core size.
 #[test]
 fn jobs_wait_for_ever_only_at_core(rt: HostRuntime) -> Result<(), Fail> {
     let alloc = rt.alloc();
@@ -155,8 +160,8 @@ fn found_witness(alloc: Global, plan: &Plan) -> Result<Option<Witness>, AllocErr
     }
 }
 
-/// Tests that the search finds events after which the last thread of a pool waits for a job of
-/// this pool, because all other core threads have ended.
+/// Tests that the search ends core threads of a pool until only one thread is left. This last
+/// thread then waits for a job of the same pool.
 #[test]
 fn a_search_ends_core_threads(rt: HostRuntime) -> Result<(), Fail> {
     let alloc = rt.alloc();

@@ -140,8 +140,8 @@ const REFUSED_AFTER_REJECTIONS: [Event; 11] = [
 // The events of `REFUSED_AFTER_REJECTIONS` up to the first rejection.
 const REJECTED: [Event; 3] = [Event::Client(0), Event::Client(1), Event::Client(2)];
 
-/// A case: a plan, events, the numbers of the jobs that may wait only for each other, and the
-/// expected result.
+/// A case: a plan, events, the numbers of some jobs, and the expected result. The call under test
+/// checks whether these jobs wait only for each other after the events.
 type Case = (
     &'static str,
     &'static [Event],
@@ -174,9 +174,9 @@ const CASES: &[Case] = &[
     (REJECTING, &REJECTED, &[], "none"),
 ];
 
-/// Tests which lists of events are witnesses: lists that end with a refused submit, and lists after
-/// which the given jobs wait only for each other. The numbers of these jobs must be in ascending
-/// order. The jobs wait permanently if the pool has all its threads.
+/// Tests whether lists of events are witnesses. A list is a witness if it ends with a refused
+/// submit, or if the given jobs wait only for each other after the events. The numbers of these
+/// jobs must be in ascending order. The jobs wait permanently if the pool has all its threads.
 #[test]
 fn lists_that_are_witnesses(rt: HostRuntime) -> Result<(), Fail> {
     let alloc = rt.alloc();
@@ -206,8 +206,10 @@ fn a_witness_ends_at_its_first_refusal(rt: HostRuntime) -> Result<(), Fail> {
 }
 
 /// Tests that a standing vector can show that jobs wait permanently, because the pool never has
-/// more than its one core thread. The vector shows nothing if it breaks a condition, or if its
-/// total exceeds the queue of 5, as it does for three clients of weight 2.
+/// more than its one core thread. The vector shows nothing in two cases:
+///
+/// - The vector breaks a condition.
+/// - The total of the vector exceeds the queue of 5, such as for three clients of weight 2.
 #[test]
 fn a_standing_vector_shows_that_jobs_wait_for_ever(rt: HostRuntime) -> Result<(), Fail> {
     let alloc = rt.alloc();
@@ -233,8 +235,9 @@ fn a_standing_vector_shows_that_jobs_wait_for_ever(rt: HostRuntime) -> Result<()
     Ok(())
 }
 
-/// Tests that a pool that may reject jobs rejects the first job that finds its thread busy and its
-/// queue full. A pool that must not reject jobs rejects none.
+/// Tests the search for a rejected job. If a pool may reject jobs, it rejects the first job that
+/// arrives while its thread is busy and its queue is full. If a pool must not reject jobs, it
+/// rejects none.
 #[test]
 fn a_full_pool_rejects(rt: HostRuntime) -> Result<(), Fail> {
     let plan = read_plan(rt.alloc(), REJECTING.as_bytes())?;

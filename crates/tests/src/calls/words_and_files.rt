@@ -349,8 +349,8 @@ fn words_without_an_answer(rt: HostRuntime) -> Result<(), Fail> {
 }
 
 /// Tests a certificate that cannot be written, because its folder is missing or its file cannot be
-/// replaced. The call then still writes the whole answer, and returns the error. A file that has a
-/// certificate, even one of another plan, may be overwritten.
+/// replaced. The call then still writes the whole answer, and returns the error. The call may
+/// overwrite a file that has a certificate, even if the certificate belongs to another plan.
 #[test]
 fn an_unwritten_certificate(rt: HostRuntime) -> Result<(), Fail> {
     for name in ["none/kept.json", "cert.json", "older.json"] {

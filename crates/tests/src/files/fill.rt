@@ -36,9 +36,12 @@ fn push_column(filled: &mut String, piece: &str, columns: &[&str]) -> Result<(),
     filled.push_str(piece)
 }
 
-/// Returns the text with a replacement for each `$(NAME)`. The replacement is the text of the row's
-/// part `let NAME`. If the row has no such part, the replacement is the sample certificate with
-/// this name or, if there is none, the sample plan with this name.
+/// Returns the text with a replacement for each `$(NAME)`. The replacement is the first of these
+/// texts that exists:
+///
+/// - the text of the row's part `let NAME`,
+/// - the sample certificate with this name, and
+/// - the sample plan with this name.
 pub fn with_names(alloc: Global, text: &str, row: &Row) -> Result<String, AllocError> {
     let mut filled = String::new(alloc);
     for (number, piece) in text.split("$(").enumerate() {

@@ -11,10 +11,11 @@ pub fn built(alloc: Global, lines: &[u8]) -> Result<String, AllocError> {
     line_of(alloc, plan_of(alloc, lines)?)
 }
 
-/// Returns the text that is written for the plan that is built from the lists in `lines`, or the
-/// fault of the lists. As a test, parses this text and writes the parsed plan again:
+/// Builds a plan from the lists in `lines`, and returns the text that is written for this plan. If
+/// the lists have a fault, returns the fault. As a test, parses the text and writes the parsed plan
+/// again:
 ///
-/// - If the text has a fault, returns the fault instead.
+/// - If the text has a fault, returns this fault instead.
 /// - If the second text differs from the first, returns both texts.
 pub fn written(alloc: Global, lines: &[u8]) -> Result<String, AllocError> {
     let text = match plan_of(alloc, lines)? {

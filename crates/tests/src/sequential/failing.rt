@@ -23,9 +23,9 @@ pub struct Case<'a> {
 }
 
 impl Case<'_> {
-    /// Runs the command again for each call of the source and of the sink, so that this call fails.
-    /// Also runs it with sinks that accept no byte from some call on. Appends a note to the answer
-    /// for each unexpected result.
+    /// Repeats the command with failures. In each repetition, a different call of the source or of
+    /// the sink fails. In further repetitions, the sink accepts no byte after a number of calls.
+    /// Appends a note to the answer for each unexpected result.
     pub fn push_differences(
         &self,
         alloc: Global,

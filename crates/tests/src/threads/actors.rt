@@ -1,4 +1,5 @@
-//! Tests that a run calls its gate for each actor with the units of that actor's work.
+//! Tests that a run calls its gate for each actor. The calls must have the units of this actor's
+//! own work.
 
 use crate::threads::gates::Shares;
 use crate::threads::plans::totals;

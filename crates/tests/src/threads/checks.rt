@@ -1,4 +1,4 @@
-//! Tests of the calls of a check on threads to its gate.
+//! Tests of checks on threads. Each check has a gate, which it calls before each pool.
 
 use cert_check::{CheckFault, PoolGate, check_on};
 use cert_search::{SearchFault, search};
@@ -144,7 +144,8 @@ fn zeros(alloc: Global) -> Result<String, AllocError> {
     Ok(text)
 }
 
-/// Returns the text of a certificate for the plan of [`many_pools`], in which all weights are 0.
+/// Returns the text of a certificate in which all weights are 0. The certificate is for the plan of
+/// [`many_pools`].
 fn cert_of_many(alloc: Global) -> Result<String, AllocError> {
     let zeros = zeros(alloc)?;
     let nobody = format!(in alloc; "{{\"workers\":[{zeros}],\"classes\":[],\"clients\":[]}}")?;
@@ -161,8 +162,9 @@ fn cert_of_many(alloc: Global) -> Result<String, AllocError> {
     Ok(text)
 }
 
-/// Tests that the check and the search return the fault of the gate if the gate refuses one of 64
-/// pools. Both run for each of these pools, with one worker and with a worker for each pool.
+/// Tests a gate that refuses one of 64 pools. The check and the search must return the fault of the
+/// gate. The test refuses each of the pools in turn, with one worker and with a worker for each
+/// pool.
 #[test]
 fn a_no_for_each_of_many_pools(rt: HostRuntime) -> Result<(), Fail> {
     let plan = many_pools(rt.alloc()).expect(&rt, "there is memory");

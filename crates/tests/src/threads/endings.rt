@@ -1,5 +1,5 @@
-//! Tests that runs of plans of many kinds end, with the right numbers of jobs, units and gate
-//! calls.
+//! Tests that runs end, for many kinds of plans. Each run must have the right numbers of jobs,
+//! units and gate calls.
 
 use crate::threads::gates::{Counting, RandomDelay};
 use crate::threads::plans::{TWO_CLIENTS, totals};

@@ -1,5 +1,5 @@
-//! Tests of the check of a run's results, with histories and receipts that are written by hand and
-//! that no run returns.
+//! Tests of the call that checks the results of a run. The histories and receipts in these results
+//! are written by hand, and no run returns them.
 
 use crate::threads::plans::certified;
 use held_machines::Receipt;

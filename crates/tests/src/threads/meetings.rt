@@ -1,6 +1,9 @@
-//! Tests that threads work at the same time. Their gates hold each thread until others work, too. A
-//! run fails if it has one thread, if it has fewer worker threads than the pool has threads, or if
-//! it calls the gate under the lock.
+//! Tests that threads work at the same time. The gate of a run holds each thread until others work,
+//! too. The run fails in three cases:
+//!
+//! - The run has one thread.
+//! - The run has fewer worker threads than the pool has threads.
+//! - The run calls the gate under the lock.
 
 use crate::threads::gates::{HeldActors, Rendezvous};
 use crate::threads::plans::{TWO_CLIENTS, WORKING_CLIENTS, with_certificate};

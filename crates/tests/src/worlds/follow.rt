@@ -8,7 +8,8 @@ use interleaving::{Event, Outcome, World};
 use job_bodies::Plan;
 use std::alloc::{AllocError, Global};
 
-/// Performs the lines of an input in order. Returns the answer to each line, in one line.
+/// Performs the lines of an input in order, and returns the answers. The answer to each line is one
+/// line.
 pub fn followed(
     alloc: Global,
     kind: &str,

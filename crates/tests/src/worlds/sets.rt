@@ -11,7 +11,8 @@ use std::alloc::{AllocError, Global};
 // so the last of them does not exist.
 const JOBS_SHOWN: u32 = 6;
 
-/// Appends each set of jobs that wait only for each other, among the first [`JOBS_SHOWN`] jobs.
+/// Appends each set of jobs that wait only for each other. Only the first [`JOBS_SHOWN`] jobs can
+/// be members of these sets.
 pub fn push_stuck_sets(
     said: &mut String,
     alloc: Global,
