@@ -14,14 +14,14 @@ use support::ReadError;
 /// The fault of a text that is not in canonical form, which is the form that
 /// [`write_cert`](crate::write_cert) writes. The fault does not store the reason.
 #[derive(Clone, Copy, PartialEq, Eq)]
-pub struct NotCanonical;
+pub struct NonCanonical;
 
 /// The error of a parser of canonical form: out of memory, or a text that is not in canonical form.
-pub type CanonicalError = ReadError<NotCanonical>;
+pub type CanonicalError = ReadError<NonCanonical>;
 
 /// Returns the error for a text that is not in canonical form.
 pub fn non_canonical_error() -> CanonicalError {
-    ReadError::Fault(NotCanonical)
+    ReadError::Fault(NonCanonical)
 }
 
 /// Returns the rest of the text after the prefix, or an error if the text does not begin with the

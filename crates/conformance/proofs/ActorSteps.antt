@@ -23,7 +23,7 @@ use Rattle.conformance.proofs.Words.{if_true}
 use Rattle.conformance.proofs.RemovedActor.{RemovedJobs, kept_taken, it_is_settled}
 use Rattle.conformance.proofs.Progress.{settled_jobs}
 use Rattle.conformance.proofs.OtherActors.{decided_then}
-use Rattle.conformance.proofs.AddsResults.{tells_one, tells_then}
+use Rattle.conformance.proofs.AddsResults.{reports_one, reports_then}
 use Rattle.conformance.proofs.OneResult.{reported_one}
 
 abbrev whole_of : EndedPath → ActorPath
@@ -44,7 +44,7 @@ step_taken plan lines old new known then_known actor kept ended_path x y keeps k
     record {
       kept = kept_taken plan lines old new known then_known actor t.family.members.items t.family.is_decided taken;
       decided = λ enough. decided_then known then_known ended_path.path.items actor kept.submitter t.family.members.items t.family.is_decided t.table (decided enough) (its.decided enough) (t.few enough);
-      tells = tells_one (IsSettledResult plan lines) old new actor kept there goes (classified_as actor kept.label kept.pool (whole_of ended_path) t.family) refl
+      tells = reports_one (IsSettledResult plan lines) old new actor kept there goes (classified_as actor kept.label kept.pool (whole_of ended_path) t.family) refl
           (record { reported = its; settled = it_is_settled plan lines old new known then_known actor t.family.members.items t.family.is_decided taken }) x y t.after;
     }
 
@@ -52,5 +52,5 @@ pub step_then : (plan : Plan) (lines : List RecordedLine) (a b c : ActorTable) (
 step_then plan lines a b c known last one next x y z p q = record {
   kept = q.kept;
   decided = q.decided;
-  tells = tells_then (IsSettledResult plan lines) a b c x y z p.tells q.tells;
+  tells = reports_then (IsSettledResult plan lines) a b c x y z p.tells q.tells;
 }

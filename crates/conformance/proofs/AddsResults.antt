@@ -65,8 +65,8 @@ once_right p xs ys none h =
     omega (arith, all, rest, h)
 
 -- ---- no actor
-pub tells_same : (IsSo : ClassifiedActor → Type 0) (old new : ActorTable) → ((one : RecordedActor) → is_some (in_table new one) ≡ is_some (in_table old one)) → (reported : List ClassifiedActor) → AddsResults IsSo old new reported reported
-tells_same IsSo old new same reported = record {
+pub reports_same : (IsSo : ClassifiedActor → Type 0) (old new : ActorTable) → ((one : RecordedActor) → is_some (in_table new one) ≡ is_some (in_table old one)) → (reported : List ClassifiedActor) → AddsResults IsSo old new reported reported
+reports_same IsSo old new same reported = record {
   more = [];
   after = sym (append-nil reported);
   reported = All-nil IsSo;
@@ -77,13 +77,13 @@ tells_same IsSo old new same reported = record {
   fewer = λ who h. sym (same who) ∙ h;
 }
 
-pub tells_none : (IsSo : ClassifiedActor → Type 0) (actors : ActorTable) (reported : List ClassifiedActor) → AddsResults IsSo actors actors reported reported
-tells_none IsSo actors reported = tells_same IsSo actors actors (λ one. refl) reported
+pub reports_none : (IsSo : ClassifiedActor → Type 0) (actors : ActorTable) (reported : List ClassifiedActor) → AddsResults IsSo actors actors reported reported
+reports_none IsSo actors reported = reports_same IsSo actors actors (λ one. refl) reported
 
 -- ---- one removed actor
-pub tells_one : (IsSo : ClassifiedActor → Type 0) (old new : ActorTable) (actor : RecordedActor) (kept : UnsettledActor) → in_table old actor ≡ Some kept → ((one : RecordedActor) → in_table new one ≡ (if is_same_actor actor one then None else in_table old one))
+pub reports_one : (IsSo : ClassifiedActor → Type 0) (old new : ActorTable) (actor : RecordedActor) (kept : UnsettledActor) → in_table old actor ≡ Some kept → ((one : RecordedActor) → in_table new one ≡ (if is_same_actor actor one then None else in_table old one))
     → (one : ClassifiedActor) → one.actor ≡ actor → IsSo one → (before later : List ClassifiedActor) → later ≡ before ++ one ∷ [] → AddsResults IsSo old new before later
-tells_one IsSo old new actor kept there goes one is so before later after = record {
+reports_one IsSo old new actor kept there goes one is so before later after = record {
   more = one ∷ [];
   after = after;
   reported = All-cons IsSo one [] so (All-nil IsSo);
@@ -125,8 +125,8 @@ none_of_kept table who more absent kept = list_any_none (is_reported who) more
 still_gone : (b c : ActorTable) → ((actor : RecordedActor) → is_some (in_table c actor) ≡ true → is_some (in_table b actor) ≡ true) → (actor : RecordedActor) → is_some (in_table b actor) ≡ false → is_some (in_table c actor) ≡ false
 still_gone b c fewer actor gone = by_bool (is_some (in_table c actor)) (λ there. apart (is_some (in_table b actor)) (fewer actor there) gone) (λ absent. absent)
 
-pub tells_then : (IsSo : ClassifiedActor → Type 0) (a b c : ActorTable) (x y z : List ClassifiedActor) → AddsResults IsSo a b x y → AddsResults IsSo b c y z → AddsResults IsSo a c x z
-tells_then IsSo a b c x y z p q = record {
+pub reports_then : (IsSo : ClassifiedActor → Type 0) (a b c : ActorTable) (x y z : List ClassifiedActor) → AddsResults IsSo a b x y → AddsResults IsSo b c y z → AddsResults IsSo a c x z
+reports_then IsSo a b c x y z p q = record {
   more = p.more ++ q.more;
   after = q.after ∙ (ap (λ (l : List ClassifiedActor). l ++ q.more) p.after ∙ append_assoc x p.more q.more);
   reported = All-append IsSo p.more q.more p.reported q.reported;

@@ -17,7 +17,7 @@ use Rattle.conformance.specs.PathState.{has_ended}
 use Rattle.conformance.specs.Label.{HasLabel}
 use Rattle.conformance.specs.Classes.{IsSettled, AreStepsOf}
 use Rattle.conformance.specs.ActorTables.{in_table}
-use Rattle.conformance.specs.ClassifiedActor.{CanBe, IsCorrectResult, IsOnceEach, AreResultsSoFarOf, AreAllResultsOf, AddsSettled, is_reported, is_recorded}
+use Rattle.conformance.specs.ClassifiedActor.{CanBe, IsCorrectResult, IsOnceEach, AreResultsOfPrefix, AreAllResultsOf, AddsSettled, is_reported, is_recorded}
 use Rattle.conformance.specs.Represents.{AreTablesOf}
 use Rattle.conformance.specs.ClassificationResults.{AddsResults}
 use Rattle.conformance.proofs.Words.{by_bool, apart, none_some, is_none_of, or_either}
@@ -60,7 +60,7 @@ reported_stays plan before more keeps reported is t =
 none_settled : (actor : RecordedActor) → IsSettled [] actor → ⊥
 none_settled actor is = apart (has_ended [] actor) (through_of [] actor is) (none_through actor)
 
-pub reported_none : (plan : Plan) → AreResultsSoFarOf plan [] []
+pub reported_none : (plan : Plan) → AreResultsOfPrefix plan [] []
 reported_none plan = record {
   reported = All-nil (IsCorrectResult plan []);
   once = λ actor. none_most (is_reported actor);
@@ -81,7 +81,7 @@ of_reported P actor (t ∷ more) are h = or_either (is_reported actor t) (list_a
     (λ here. subst P (same_actor t.actor actor here) (All-head (λ (one : ClassifiedActor). P one.actor) t more are))
     (λ rest. of_reported P actor more (All-tail (λ (one : ClassifiedActor). P one.actor) t more are) rest)
 
-module _ (plan : Plan) (before : List RecordedLine) (line : RecordedLine) (keeps : KeepsRules (before ++ line ∷ [])) (all more : List ClassifiedActor) (are : AreResultsSoFarOf plan before all) (reported : All (IsCorrectResult plan (before ++ line ∷ [])) more) (settled : All (λ (t : ClassifiedActor). IsSettled (before ++ line ∷ []) t.actor) more)
+module _ (plan : Plan) (before : List RecordedLine) (line : RecordedLine) (keeps : KeepsRules (before ++ line ∷ [])) (all more : List ClassifiedActor) (are : AreResultsOfPrefix plan before all) (reported : All (IsCorrectResult plan (before ++ line ∷ [])) more) (settled : All (λ (t : ClassifiedActor). IsSettled (before ++ line ∷ []) t.actor) more)
     (unsettled : All (λ (t : ClassifiedActor). IsSettled before t.actor → ⊥) more) (once : IsOnceEach more)
     (each : (actor : RecordedActor) → IsSettled (before ++ line ∷ []) actor → IsSettled before actor ⊎ (list_any (is_reported actor) more ≡ true)) where
   earlier_or : (actor : RecordedActor) → IsSettled before actor ⊎ (list_any (is_reported actor) more ≡ true) → list_any (is_reported actor) (all ++ more) ≡ true
@@ -96,7 +96,7 @@ module _ (plan : Plan) (before : List RecordedLine) (line : RecordedLine) (keeps
   still_reported : All (IsCorrectResult plan (before ++ line ∷ [])) all
   still_reported = λ k d low. reported_stays plan before (line ∷ []) keeps (slice_index_or all k d) (all_settled k d low) (are.reported k d low)
 
-  pub reported_then : AreResultsSoFarOf plan (before ++ line ∷ []) (all ++ more)
+  pub reported_then : AreResultsOfPrefix plan (before ++ line ∷ []) (all ++ more)
   reported_then = record {
     reported = All-append (IsCorrectResult plan (before ++ line ∷ [])) all more still_reported reported;
     once = λ actor. by_bool (list_any (is_reported actor) all)
@@ -110,9 +110,9 @@ module _ (plan : Plan) (before : List RecordedLine) (line : RecordedLine) (keeps
     );
   }
 
-pub reported_more : (plan : Plan) (before : List RecordedLine) (line : RecordedLine) → KeepsRules (before ++ line ∷ []) → (earlier old new : List ClassifiedActor) → AreResultsSoFarOf plan before (earlier ++ old) → AddsSettled plan before (before ++ line ∷ []) old new → AreResultsSoFarOf plan (before ++ line ∷ []) (earlier ++ new)
+pub reported_more : (plan : Plan) (before : List RecordedLine) (line : RecordedLine) → KeepsRules (before ++ line ∷ []) → (earlier old new : List ClassifiedActor) → AreResultsOfPrefix plan before (earlier ++ old) → AddsSettled plan before (before ++ line ∷ []) old new → AreResultsOfPrefix plan (before ++ line ∷ []) (earlier ++ new)
 reported_more plan before line keeps earlier old new are t =
-    subst (λ (all : List ClassifiedActor). AreResultsSoFarOf plan (before ++ line ∷ []) all) (append_assoc earlier old t.more ∙ ap (λ (l : List ClassifiedActor). earlier ++ l) (sym t.after))
+    subst (λ (all : List ClassifiedActor). AreResultsOfPrefix plan (before ++ line ∷ []) all) (append_assoc earlier old t.more ∙ ap (λ (l : List ClassifiedActor). earlier ++ l) (sym t.after))
     (reported_then plan before line keeps (earlier ++ old) t.more are t.reported t.settled t.unsettled t.once t.each)
 
 -- ---- the end of the lines
@@ -121,7 +121,7 @@ none_kept actors actor more gone (inl h) = none_some (in_table actors actor) gon
 none_kept actors actor more gone (inr h) = h
 
 module _ (plan : Plan) (lines : List RecordedLine) (keeps : KeepsRules lines) (old new : ActorTable) (known : ClassTable) (kept : AreTablesOf plan lines old known None) (none : (actor : RecordedActor) → in_table new actor ≡ None)
-    (all more : List ClassifiedActor) (are : AreResultsSoFarOf plan lines all) (reported : All (IsCorrectResult plan lines) more) (of_kept : All (λ (t : ClassifiedActor). is_some (in_table old t.actor) ≡ true) more) (once : IsOnceEach more)
+    (all more : List ClassifiedActor) (are : AreResultsOfPrefix plan lines all) (reported : All (IsCorrectResult plan lines) more) (of_kept : All (λ (t : ClassifiedActor). is_some (in_table old t.actor) ≡ true) more) (once : IsOnceEach more)
     (each : (actor : RecordedActor) → is_some (in_table old actor) ≡ true → (is_some (in_table new actor) ≡ true) ⊎ (list_any (is_reported actor) more ≡ true)) where
   all_come : All (λ (t : ClassifiedActor). is_recorded lines t.actor ≡ true) more
   all_come = All-weaker (IsCorrectResult plan lines) (λ (t : ClassifiedActor). is_recorded lines t.actor ≡ true) (λ t h. named_come lines t.actor _ _ h.label) more reported
@@ -155,7 +155,7 @@ module _ (plan : Plan) (lines : List RecordedLine) (keeps : KeepsRules lines) (o
   }
 
 pub all_reported : (plan : Plan) (lines : List RecordedLine) → KeepsRules lines → (before later : ActorTable) (known : ClassTable) → AreTablesOf plan lines before known None → ((actor : RecordedActor) → in_table later actor ≡ None) → (earlier old new : List ClassifiedActor)
-    → AreResultsSoFarOf plan lines (earlier ++ old) → AddsResults (IsCorrectResult plan lines) before later old new → AreAllResultsOf plan lines (earlier ++ new)
+    → AreResultsOfPrefix plan lines (earlier ++ old) → AddsResults (IsCorrectResult plan lines) before later old new → AreAllResultsOf plan lines (earlier ++ new)
 all_reported plan lines keeps before later known kept none earlier old new are t =
     subst (λ (all : List ClassifiedActor). AreAllResultsOf plan lines all) (append_assoc earlier old t.more ∙ ap (λ (l : List ClassifiedActor). earlier ++ l) (sym t.after))
     (reported_at_end plan lines keeps before later known kept none (earlier ++ old) t.more are t.reported t.kept t.once t.each)

@@ -26,7 +26,7 @@ use Rattle.conformance.proofs.Words.{by_option, none_some, some_of}
 use Rattle.conformance.proofs.LaterJobs.{jobs_are_later}
 use Rattle.conformance.proofs.BegunActors.{named_come, come_live}
 use Rattle.conformance.proofs.OtherActors.{Out, path_submitted, still, below_then, classes_then, decided_then}
-use Rattle.conformance.proofs.AddsResults.{tells_one}
+use Rattle.conformance.proofs.AddsResults.{reports_one}
 use Rattle.conformance.proofs.OneResult.{reported_one}
 
 -- ---- the actors in the table
@@ -104,5 +104,5 @@ module _ (plan : Plan) (lines : List RecordedLine) (keeps : KeepsRules lines) (b
     submitter = λ one job its h. remaining.submitter one job its (still before later actor goes (Job job) its h).1;
   }
 
-  pub tells_left : AddsResults (IsCorrectResult plan lines) before later old new
-  tells_left = tells_one (IsCorrectResult plan lines) before later actor kept there goes (classified_as actor kept.label kept.pool actor_path t.family) refl its_reported old new t.after
+  pub reports_left : AddsResults (IsCorrectResult plan lines) before later old new
+  reports_left = reports_one (IsCorrectResult plan lines) before later actor kept there goes (classified_as actor kept.label kept.pool actor_path t.family) refl its_reported old new t.after

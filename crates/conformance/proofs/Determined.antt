@@ -22,12 +22,12 @@ use Rattle.conformance.proofs.NarrowerPaths.{path_within}
 use Rattle.conformance.proofs.Words.{one_of}
 
 -- ---- a path with classes
-abbrev StandsAs : Plan → List RecordedLine → List RecordedStep → List PathStep → Type 0
-StandsAs plan lines [] steps = steps ≡ []
-StandsAs plan lines (recorded.Submits job ∷ path) steps = (classes : Vec ℕ Global) × (rest : List PathStep) × (steps ≡ step.Submits classes ∷ rest) × AreClassesOf plan lines job classes.items × AreStepsOf plan lines path rest
-StandsAs plan lines (recorded.Gets place ∷ path) steps = (rest : List PathStep) × (steps ≡ step.Gets place ∷ rest) × AreStepsOf plan lines path rest
+abbrev AreStepsOfPath : Plan → List RecordedLine → List RecordedStep → List PathStep → Type 0
+AreStepsOfPath plan lines [] steps = steps ≡ []
+AreStepsOfPath plan lines (recorded.Submits job ∷ path) steps = (classes : Vec ℕ Global) × (rest : List PathStep) × (steps ≡ step.Submits classes ∷ rest) × AreClassesOf plan lines job classes.items × AreStepsOf plan lines path rest
+AreStepsOfPath plan lines (recorded.Gets place ∷ path) steps = (rest : List PathStep) × (steps ≡ step.Gets place ∷ rest) × AreStepsOf plan lines path rest
 
-stands_as : (plan : Plan) (lines : List RecordedLine) (path : List RecordedStep) (steps : List PathStep) → AreStepsOf plan lines path steps → StandsAs plan lines path steps
+stands_as : (plan : Plan) (lines : List RecordedLine) (path : List RecordedStep) (steps : List PathStep) → AreStepsOf plan lines path steps → AreStepsOfPath plan lines path steps
 stands_as plan lines _ _ none = refl
 stands_as plan lines _ _ (submit job classes path steps known rest) = (classes, steps, refl, known, rest)
 stands_as plan lines _ _ (get place path steps rest) = (steps, refl, rest)

@@ -24,7 +24,7 @@ use Rattle.conformance.specs.Path.{open_in_body, IsWithin}
 use Rattle.conformance.specs.LaggingRun.{MachineJob, is_open, OthersAct, stays, acts}
 use Rattle.conformance.proofs.MachineJobs.{as_open, counts_as, IsMap, at_most}
 use Rattle.conformance.proofs.OpenSubmits.{open_below, open_apart, get_is_open, fewer_after_get}
-use Rattle.conformance.proofs.Undisturbed.{KeepsJobs, Stands}
+use Rattle.conformance.proofs.Undisturbed.{KeepsJobs, HasPosition}
 use Rattle.conformance.proofs.OthersAct.{IsQuiet, IsUndisturbed, choice_other}
 
 -- The actor's submit at this position of its body has a latest job, of its class and not got. It is open in the path or done.
@@ -46,7 +46,7 @@ pub record IsOwn (list : List CreatedJob) (a : Parent) (one : MachineJob) : Type
 -- from m to q, at each index at most as many jobs of each class are open in the path as in the body.
 pub record Lags (plan : Plan) (cert : Cert) (a : Parent) (body : List Action) (jobs : List MachineJob) (m q : ℕ) (s : JavaState) : Type 0 where
   pub sound : JavaSound plan cert s
-  pub stands : Stands plan s.machine a body m
+  pub stands : HasPosition plan s.machine a body m
   pub behind : m ≤ q
   pub inside : q ≤ length body
   pub within : (i : ℕ) → m ≤ i → i ≤ q → IsWithin (map as_open jobs) body i

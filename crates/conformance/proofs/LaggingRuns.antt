@@ -42,7 +42,7 @@ use Rattle.conformance.specs.LaggingRun.{MachineJob, is_open, open_job, without_
 use Rattle.conformance.proofs.MachineJobs.{as_open, is_open_job, without-as, push-as, open_push, open_last, still_open, In-without}
 use Rattle.conformance.proofs.OpenSubmits.{open_below}
 use Rattle.conformance.proofs.OpenCounts.{within_without}
-use Rattle.conformance.proofs.Undisturbed.{KeepsJobs, at_not_claimed, done_not_claimed, Stands, stands_moved, stands_pushed}
+use Rattle.conformance.proofs.Undisturbed.{KeepsJobs, at_not_claimed, done_not_claimed, HasPosition, has_position_moved, stands_pushed}
 use Rattle.conformance.proofs.OthersAct.{IsQuiet, IsUndisturbed, same_machine, choice_other}
 use Rattle.conformance.proofs.Lagging.{HasSlot, IsOwn, Lags, slot_kept, own_kept, undisturbed_lags, others_lag}
 use Rattle.conformance.proofs.LaggingSteps.{submission_of_actor, slot_new, keeps_submit, HasReached, reaches}
@@ -107,7 +107,7 @@ taken_if plan a i k s false false grows =
     taken_checked plan a i k s (record s { offering = record { actor = a; pool = pool_of plan k } ∷ s.offering })
     (ltb (threads plan s.machine (pool_of plan k)) (pool_at plan (pool_of plan k)).core) refl grows
 
-taken : (plan : Plan) (a : Parent) (body : List Action) (i k : ℕ) (s s' : JavaState) → Stands plan s.machine a body i → slice_get body i ≡ Some (action.Submit k) → choice_step plan s (Acts (event_of_actor a)) ≡ Some s' → Grows s s' → IsTaken a i k s s'
+taken : (plan : Plan) (a : Parent) (body : List Action) (i k : ℕ) (s s' : JavaState) → HasPosition plan s.machine a body i → slice_get body i ≡ Some (action.Submit k) → choice_step plan s (Acts (event_of_actor a)) ≡ Some s' → Grows s s' → IsTaken a i k s s'
 taken plan a body i k s s' stands e stepped grows =
     let found = submission_of_actor plan s.machine a ∙ ap (submission_of a) stands ∙ ap (submission_at a i) e in
     let executed : Some (executes plan s a i k) ≡ Some s' = sym (ap (java_stepped plan s (event_of_actor a)) found) ∙ stepped in
@@ -148,7 +148,7 @@ module _ (plan : Plan) (cert : Cert) (a : Parent) (body : List Action) (is_order
         record {
           sound = choice_keeps plan cert is_ordered laws s (Acts (event_of_actor a)) s' lags.sound stepped;
           stands = point_same plan (with_job job moved) s'.machine a is.jobs is.clients
-              ∙ subst (Stands plan (with_job job moved) a body) (add-one q) (stands_pushed plan moved a job body (q + 1) (stands_moved plan s.machine a body q (q + 1) lags.stands));
+              ∙ subst (HasPosition plan (with_job job moved) a body) (add-one q) (stands_pushed plan moved a job body (q + 1) (has_position_moved plan s.machine a body q (q + 1) lags.stands));
           behind = omega arith;
           inside = slice_get_within body q (action.Submit k) e;
           within = λ i le le'. let same : suc q ≡ i = omega (arith, le, le') in subst (IsWithin (map as_open more) body) same within;

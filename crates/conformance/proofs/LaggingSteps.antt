@@ -33,7 +33,7 @@ use Rattle.conformance.specs.Path.{open_after_action, open_in_body}
 use Rattle.conformance.specs.LaggingRun.{MachineJob, is_open, Passes, arrives, works, skips, gets, exchanges}
 use Rattle.conformance.proofs.MachineJobs.{member_open}
 use Rattle.conformance.proofs.OpenSubmits.{open_below, get_is_open}
-use Rattle.conformance.proofs.Undisturbed.{KeepsJobs, keeps_both, keeps_moved, keeps_pushed, at_not_done, done_not_claimed, Stands, stands_moved, stands_staged, stands_pushed, not_that_job}
+use Rattle.conformance.proofs.Undisturbed.{KeepsJobs, keeps_both, keeps_moved, keeps_pushed, at_not_done, done_not_claimed, HasPosition, has_position_moved, stands_staged, stands_pushed, not_that_job}
 use Rattle.conformance.proofs.OthersAct.{IsQuiet}
 use Rattle.conformance.proofs.Lagging.{HasSlot, IsOwn, Lags, slot_kept, own_kept, free_slot}
 
@@ -47,7 +47,7 @@ step_of_actor plan s (parent.Client c) = refl
 step_of_actor plan s (parent.Job j) = refl
 
 -- At an action that is no submit, the actor's event is that of the machine.
-acts_step : (plan : Plan) (a : Parent) (body : List Action) (m : ℕ) (s : JavaState) (there : Option Action) (after : State) (o : Outcome) → Stands plan s.machine a body m → slice_get body m ≡ there → submission_at a m there ≡ None → step_action plan s.machine a m there ≡ Some (after, o)
+acts_step : (plan : Plan) (a : Parent) (body : List Action) (m : ℕ) (s : JavaState) (there : Option Action) (after : State) (o : Outcome) → HasPosition plan s.machine a body m → slice_get body m ≡ there → submission_at a m there ≡ None → step_action plan s.machine a m there ≡ Some (after, o)
     → choice_step plan s (Acts (event_of_actor a)) ≡ Some (record s { machine = after })
 acts_step plan a body m s there after o stands is_there no_submit stepped =
     let none : submission plan s.machine (event_of_actor a) ≡ None = submission_of_actor plan s.machine a ∙ ap (submission_of a) stands ∙ ap (submission_at a m) is_there ∙ no_submit in
@@ -55,7 +55,7 @@ acts_step plan a body m s there after o stands is_there no_submit stepped =
     ap (java_stepped plan s (event_of_actor a)) none ∙ acts_alone plan s a ∙ ap (as_atomic s) goes
 
 -- At a submit that has not begun, the actor can skip it.
-skip_step : (plan : Plan) (a : Parent) (body : List Action) (m k : ℕ) (s : JavaState) → Stands plan s.machine a body m → slice_get body m ≡ Some (action.Submit k) → IsQuiet a s
+skip_step : (plan : Plan) (a : Parent) (body : List Action) (m k : ℕ) (s : JavaState) → HasPosition plan s.machine a body m → slice_get body m ≡ Some (action.Submit k) → IsQuiet a s
     → choice_step plan s (Skips (event_of_actor a)) ≡ Some (record s { machine = skipped s.machine a m k })
 skip_step plan a body m k s stands e quiet =
     let found = submission_of_actor plan s.machine a ∙ ap (submission_of a) stands ∙ ap (submission_at a m) e in
@@ -119,7 +119,7 @@ slot_new a body jobs list k m stage e unclaimed filled =
     }
 
 -- The actor's jobs are kept when it moves and a job of its submit at m is created.
-pub keeps_submit : (plan : Plan) (a : Parent) (body : List Action) (m k : ℕ) (stage : Stage) (s : State) → Stands plan s a body m → KeepsJobs a m s.jobs (moved_jobs a (m + 1) s ++ new_job k a m stage ∷ [])
+pub keeps_submit : (plan : Plan) (a : Parent) (body : List Action) (m k : ℕ) (stage : Stage) (s : State) → HasPosition plan s a body m → KeepsJobs a m s.jobs (moved_jobs a (m + 1) s ++ new_job k a m stage ∷ [])
 keeps_submit plan a body m k stage s stands =
     keeps_both a m s.jobs (moved_jobs a (m + 1) s) (moved_jobs a (m + 1) s ++ new_job k a m stage ∷ []) (keeps_moved plan a m s a body m (m + 1) stands)
     (keeps_pushed a m (moved_jobs a (m + 1) s) (new_job k a m stage) (λ t lt. not_at_slot k a m stage t (λ (same : t ≡ m). omega (arith, lt, same))))
@@ -132,12 +132,12 @@ module _ (plan : Plan) (cert : Cert) (a : Parent) (body : List Action) (ordered 
     pub quiet : IsQuiet a after
     pub passes : (j : ℕ) (s' : JavaState) → Passes plan a body jobs (suc m) after j s' → Passes plan a body jobs m s j s'
 
-  next_lags : (jobs : List MachineJob) (m q : ℕ) (o : Action) (s s' : JavaState) → Lags plan cert a body jobs m q s → m < q → slice_get body m ≡ Some o → (x : Choice) → choice_step plan s x ≡ Some s' → Stands plan s'.machine a body (m + 1)
+  next_lags : (jobs : List MachineJob) (m q : ℕ) (o : Action) (s s' : JavaState) → Lags plan cert a body jobs m q s → m < q → slice_get body m ≡ Some o → (x : Choice) → choice_step plan s x ≡ Some s' → HasPosition plan s'.machine a body (m + 1)
       → ((one : MachineJob) → In one jobs → IsOwn s'.machine.jobs a one) → ((t : ℕ) → In t (open_after_action (Some o) m (open_in_body body m)) → HasSlot s'.machine.jobs a body jobs t)
       → Lags plan cert a body jobs (suc m) q s'
   next_lags jobs m q o s s' lags lt e x stepped stands own slots = record {
     sound = choice_keeps plan cert ordered laws s x s' lags.sound stepped;
-    stands = subst (Stands plan s'.machine a body) (add-one m) stands;
+    stands = subst (HasPosition plan s'.machine a body) (add-one m) stands;
     behind = omega (arith, lt);
     inside = lags.inside;
     within = λ i le le'. lags.within i (omega (arith, le)) le';
@@ -152,7 +152,7 @@ module _ (plan : Plan) (cert : Cert) (a : Parent) (body : List Action) (ordered 
       let keeps = keeps_moved plan a m s.machine a body m (m + 1) lags.stands in
       record {
         after = after;
-        lags = next_lags jobs m q (action.Work units) s after lags lt e (Acts (event_of_actor a)) stepped (stands_moved plan s.machine a body m (m + 1) lags.stands)
+        lags = next_lags jobs m q (action.Work units) s after lags lt e (Acts (event_of_actor a)) stepped (has_position_moved plan s.machine a body m (m + 1) lags.stands)
             (λ one i. own_kept a m one s.machine.jobs after.machine.jobs keeps (lags.own one i))
             (λ t i. slot_kept a body jobs m t s.machine.jobs after.machine.jobs keeps (open_below body m t i) (lags.slots t i));
         quiet = quiet;
@@ -168,7 +168,7 @@ module _ (plan : Plan) (cert : Cert) (a : Parent) (body : List Action) (ordered 
       record {
         after = after;
         lags = next_lags jobs m q (action.Submit k) s after lags lt e (Skips (event_of_actor a)) stepped
-            (stands_pushed plan moved a (new_job k a m Stage.Done) body (m + 1) (stands_moved plan s.machine a body m (m + 1) lags.stands))
+            (stands_pushed plan moved a (new_job k a m Stage.Done) body (m + 1) (has_position_moved plan s.machine a body m (m + 1) lags.stands))
             (λ one i. own_kept a m one s.machine.jobs after.machine.jobs keeps (lags.own one i))
             (λ t i. ⊎_elim (λ old. slot_kept a body jobs m t s.machine.jobs after.machine.jobs keeps (open_below body m t old) (lags.slots t old))
             (λ (new : t ≡ m). subst (HasSlot after.machine.jobs a body jobs) (sym new) (slot_new a body jobs (moved_jobs a (m + 1) s.machine) k m Stage.Done e done_not_claimed (inr refl)))
@@ -187,7 +187,7 @@ module _ (plan : Plan) (cert : Cert) (a : Parent) (body : List Action) (ordered 
       let stepped : choice_step plan s (Acts (event_of_actor a)) ≡ Some after =
       acts_step plan a body m s (Some (action.Get t)) (with_stage n Stage.Claimed moved) (outcome.Got n) lags.stands e refl (ap (got_child s.machine a m) slot.is_child ∙ ap (got s.machine a m n) done) in
       let keeps = keeps_moved plan a m s.machine a body m (m + 1) lags.stands in
-      let stands = stands_staged plan moved a n Stage.Claimed body (m + 1) (not_that_job plan s.machine a n body m (λ i at. at_not_done i at done) lags.stands) (stands_moved plan s.machine a body m (m + 1) lags.stands) in
+      let stands = stands_staged plan moved a n Stage.Claimed body (m + 1) (not_that_job plan s.machine a n body m (λ i at. at_not_done i at done) lags.stands) (has_position_moved plan s.machine a body m (m + 1) lags.stands) in
       record {
         after = after;
         lags = next_lags jobs m q (action.Get t) s after lags lt e (Acts (event_of_actor a)) stepped stands

@@ -29,7 +29,7 @@ use Rattle.soundness.proofs.JavaTheorem.{JavaSound}
 use Rattle.soundness.proofs.Choices.{IsSkipped, leaves, is_skipped, is_missed}
 use Rattle.soundness.proofs.ExchangedJobs.{exchanges_swap_two_gets, point-exchanged, is_exchange}
 use Rattle.conformance.specs.LaggingRun.{is_event_of, is_choice_of}
-use Rattle.conformance.proofs.Undisturbed.{KeepsJobs, keeps_same, keeps_both, keeps_staged, keeps_moved, keeps_pushed, at_not_claimed, at_not_done, queued_not_done, queued_not_at, done_not_claimed, Stands, stands_other, stands_staged, stands_pushed, not_that_job}
+use Rattle.conformance.proofs.Undisturbed.{KeepsJobs, keeps_same, keeps_both, keeps_staged, keeps_moved, keeps_pushed, at_not_claimed, at_not_done, queued_not_done, queued_not_at, done_not_claimed, HasPosition, stands_other, stands_staged, stands_pushed, not_that_job}
 
 -- No call of the actor is in progress.
 abbrev pub IsQuiet : Parent → JavaState → Type 0
@@ -37,7 +37,7 @@ IsQuiet a s = (p : ℕ) → (is_calling s.offering a p ≡ true → ⊥) × (is_
 
 -- The actor is still at its position, and it keeps its jobs.
 pub record IsUndisturbed (plan : Plan) (a : Parent) (body : List Action) (i m : ℕ) (s s' : State) : Type 0 where
-  pub stands : Stands plan s' a body i
+  pub stands : HasPosition plan s' a body i
   pub jobs : KeepsJobs a m s.jobs s'.jobs
 
 -- ---- other actors
@@ -60,7 +60,7 @@ is_java_event_of a _ = false
 
 -- ---- the machine's events
 -- Another actor moves, and a job of it is created.
-other_submits : (plan : Plan) (a b : Parent) (body bd : List Action) (i m k c : ℕ) (stage : Stage) (s : State) → same_parent a b ≡ false → Stands plan s a body i → Stands plan s b bd k
+other_submits : (plan : Plan) (a b : Parent) (body bd : List Action) (i m k c : ℕ) (stage : Stage) (s : State) → same_parent a b ≡ false → HasPosition plan s a body i → HasPosition plan s b bd k
     → IsUndisturbed plan a body i m s (with_job (new_job c b k stage) (with_position b (k + 1) s))
 other_submits plan a b body bd i m k c stage s other stands his =
     let moved : State = with_position b (k + 1) s in
@@ -72,7 +72,7 @@ other_submits plan a b body bd i m k c stage s other stands his =
     }
 
 -- Another actor gets a job.
-other_gets : (plan : Plan) (a b : Parent) (body bd : List Action) (i m k t j : ℕ) (s : State) → same_parent a b ≡ false → Stands plan s a body i → Stands plan s b bd k → child s b t ≡ Some j → (job_at s j).stage ≡ Stage.Done
+other_gets : (plan : Plan) (a b : Parent) (body bd : List Action) (i m k t j : ℕ) (s : State) → same_parent a b ≡ false → HasPosition plan s a body i → HasPosition plan s b bd k → child s b t ≡ Some j → (job_at s j).stage ≡ Stage.Done
     → IsUndisturbed plan a body i m s (with_stage j Stage.Claimed (with_position b (k + 1) s))
 other_gets plan a b body bd i m k t j s other stands his is_child done =
     let moved : State = with_position b (k + 1) s in
@@ -85,7 +85,7 @@ other_gets plan a b body bd i m k t j s other stands his is_child done =
           (λ own. absurd (different a b other (sym own ∙ moves.parents j found.0 ∙ sym (maker_of (get_or s.jobs j no_job) b t found.1).0))));
     }
 
-pub happens_other : (plan : Plan) (a : Parent) (body : List Action) (i m : ℕ) (s s' : State) (o : Outcome) {e : Event} → StateInvariant plan s → is_event_of a e ≡ false → Stands plan s a body i → Happens plan s e s' o → IsUndisturbed plan a body i m s s'
+pub happens_other : (plan : Plan) (a : Parent) (body : List Action) (i m : ℕ) (s s' : State) (o : Outcome) {e : Event} → StateInvariant plan s → is_event_of a e ≡ false → HasPosition plan s a body i → Happens plan s e s' o → IsUndisturbed plan a body i m s s'
 happens_other plan a body i m s s' o kept other stands (works b bd k u at) = record {
   stands = stands_other plan s a b body i (k + 1) (other_actor a b other) stands;
   jobs = keeps_moved plan a m s b bd k (k + 1) at.stands;
@@ -134,10 +134,10 @@ pub record StaysQuiet (plan : Plan) (a : Parent) (body : List Action) (i m : ℕ
   pub undisturbed : IsUndisturbed plan a body i m s.machine s'.machine
   pub quiet : IsQuiet a s → IsQuiet a s'
 
-pub same_machine : (plan : Plan) (a : Parent) (body : List Action) (i m : ℕ) (s : State) → Stands plan s a body i → IsUndisturbed plan a body i m s s
+pub same_machine : (plan : Plan) (a : Parent) (body : List Action) (i m : ℕ) (s : State) → HasPosition plan s a body i → IsUndisturbed plan a body i m s s
 same_machine plan a body i m s stands = record { stands = stands; jobs = keeps_same a m s.jobs }
 
-java_other : (plan : Plan) (a : Parent) (body : List Action) (i m : ℕ) (s s' : JavaState) {e : JavaEvent} → StateInvariant plan s.machine → is_java_event_of a e ≡ false → Stands plan s.machine a body i → JavaHappens plan s e s' → StaysQuiet plan a body i m s s'
+java_other : (plan : Plan) (a : Parent) (body : List Action) (i m : ℕ) (s s' : JavaState) {e : JavaEvent} → StateInvariant plan s.machine → is_java_event_of a e ≡ false → HasPosition plan s.machine a body i → JavaHappens plan s e s' → StaysQuiet plan a body i m s s'
 java_other plan a body i m s s' kept other stands (is_atomic e after o looking none happened looks) = record { undisturbed = happens_other plan a body i m s.machine after o kept other stands happened; quiet = λ quiet. quiet }
 java_other plan a body i m s s' kept other stands (ends b bd k c after o looking at happened looks) = record {
   undisturbed = happens_other plan a body i m s.machine after o kept other stands happened;
@@ -161,13 +161,13 @@ java_other plan a body i m s s' kept other stands (starts_spare p there below) =
   quiet = λ quiet. quiet;
 }
 
-skip_other : (plan : Plan) (a : Parent) (body : List Action) (i m : ℕ) (s s' : JavaState) {e : Event} → is_event_of a e ≡ false → Stands plan s.machine a body i → IsSkipped plan s e s' → StaysQuiet plan a body i m s s'
+skip_other : (plan : Plan) (a : Parent) (body : List Action) (i m : ℕ) (s s' : JavaState) {e : Event} → is_event_of a e ≡ false → HasPosition plan s.machine a body i → IsSkipped plan s e s' → StaysQuiet plan a body i m s s'
 skip_other plan a body i m s s' other stands (leaves b bd k c at no_offer no_request) = record {
   undisturbed = other_submits plan a b body bd i m k c Stage.Done s.machine (other_actor a b other) stands at.stands;
   quiet = λ quiet. quiet;
 }
 
-exchange_other : (plan : Plan) (a b : Parent) (body : List Action) (i m t u : ℕ) (s : JavaState) → same_parent a b ≡ false → Stands plan s.machine a body i → StaysQuiet plan a body i m s (record s { machine = after_exchange b t u s.machine })
+exchange_other : (plan : Plan) (a b : Parent) (body : List Action) (i m t u : ℕ) (s : JavaState) → same_parent a b ≡ false → HasPosition plan s.machine a body i → StaysQuiet plan a body i m s (record s { machine = after_exchange b t u s.machine })
 exchange_other plan a b body i m t u s other stands =
     let swap = exchanges_swap_two_gets s.machine b t u in
     record {
@@ -186,7 +186,7 @@ exchange_other plan a b body i m t u s other stands =
     }
 
 -- A choice of another actor or of a pool leaves the actor undisturbed.
-pub choice_other : (plan : Plan) (cert : Cert) (a : Parent) (body : List Action) (i m : ℕ) (s : JavaState) (x : Choice) (s' : JavaState) → HasValidBodies plan → JavaSound plan cert s → is_choice_of a x ≡ false → Stands plan s.machine a body i → choice_step plan s x ≡ Some s'
+pub choice_other : (plan : Plan) (cert : Cert) (a : Parent) (body : List Action) (i m : ℕ) (s : JavaState) (x : Choice) (s' : JavaState) → HasValidBodies plan → JavaSound plan cert s → is_choice_of a x ≡ false → HasPosition plan s.machine a body i → choice_step plan s x ≡ Some s'
     → StaysQuiet plan a body i m s s'
 choice_other plan cert a body i m s (Acts e) s' ordered sound other stands is_step = java_other plan a body i m s s' sound.sound.bounded.kept other stands (java_happens plan s (JavaEvent.Acts e) s' ordered (calls_found plan (bound_of cert) s sound.calls) is_step)
 choice_other plan cert a body i m s (Skips e) s' ordered sound other stands is_step = skip_other plan a body i m s s' other stands (is_skipped plan s e s' is_step)

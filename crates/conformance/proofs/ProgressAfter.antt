@@ -24,7 +24,7 @@ use Rattle.conformance.specs.Changes.{ChangesEntry}
 use Rattle.conformance.specs.ClassificationResults.{ended_path_of, IsProgressOf, AddsResults}
 use Rattle.conformance.proofs.Words.{by_bool, one_of, is_none_of, if_true, if_false}
 use Rattle.conformance.proofs.Progress.{waits_as}
-use Rattle.conformance.proofs.AddsResults.{tells_same}
+use Rattle.conformance.proofs.AddsResults.{reports_same}
 
 -- The entry is unchanged, or it is that of the updated actor.
 record Earlier (reached : ℕ) (old : ActorTable) (actor one : RecordedActor) (kept : UnsettledActor) : Type 0 where
@@ -141,5 +141,5 @@ kept_advanced plan lines old new table actor reached b k p changed =
       submitter = λ one job kept h submitted unrefused. let e = earlier_of reached old new actor changed (Job job) kept h in submitter_same reached kept e.earlier e.is ∙ k.submitter one job e.earlier e.there submitted unrefused;
     }
 
-pub tells_advanced : (IsSo : ClassifiedActor → Type 0) (old new : ActorTable) (actor : RecordedActor) (reached : ℕ) → ChangesEntry old actor (with_known reached) new → (reported : List ClassifiedActor) → AddsResults IsSo old new reported reported
-tells_advanced IsSo old new actor reached changed reported = tells_same IsSo old new (some_same reached old new actor changed) reported
+pub reports_advanced : (IsSo : ClassifiedActor → Type 0) (old new : ActorTable) (actor : RecordedActor) (reached : ℕ) → ChangesEntry old actor (with_known reached) new → (reported : List ClassifiedActor) → AddsResults IsSo old new reported reported
+reports_advanced IsSo old new actor reached changed reported = reports_same IsSo old new (some_same reached old new actor changed) reported

@@ -24,7 +24,7 @@ use Rattle.conformance.specs.PoolComparison.{has_name}
 use Rattle.conformance.specs.PoolDeviations.{pool_named}
 use Rattle.conformance.specs.RefusedJobs.{AreFactsOf, or_else, planned_if, planned_by}
 use Rattle.conformance.specs.RejectionRule.{is_abort, is_caller_runs, is_discard, has_other_handler, shuts, is_shut, acts, has_acted, pool_by, submit_pool, rejecting_pool, pool_of_rejection, pool_of_job, unless_rejected, pool_of_refusal, pools_in, refusing_pools_in, refusal_unless, refusal_by, refusals_in}
-use Rattle.conformance.specs.Rejections.{AreRejectionsSoFar, pools_after, refusal_after, NotesRefusal}
+use Rattle.conformance.specs.Rejections.{AreRejectionsOfPrefix, pools_after, refusal_after, NotesRefusal}
 use Rattle.conformance.proofs.LineByLine.{any_more, filter_map_more, lines_before_more}
 
 -- ---- the first element
@@ -122,9 +122,9 @@ refusals_more plan lines before line =
 first_more : (plan : Plan) (lines before : List RecordedLine) (line : RecordedLine) → slice_get (refusals_in plan lines (before ++ line ∷ [])) 0 ≡ or_else (slice_get (refusals_in plan lines before) 0) (refusal_by plan lines before line)
 first_more plan lines before line = ap (λ (refusals : List Invalidation). slice_get refusals 0) (refusals_more plan lines before line) ∙ first_or (refusals_in plan lines before) (refusal_by plan lines before line)
 
-pub none_so_far : (plan : Plan) (lines : List RecordedLine) (rejections : Rejections) → rejections.pools.items ≡ [] → rejections.refusing.items ≡ [] → rejections.first_refusal ≡ None → ((name : List ℕ) → has_name rejections.shut name ≡ false) → AreRejectionsSoFar plan lines [] rejections
+pub none_in_prefix : (plan : Plan) (lines : List RecordedLine) (rejections : Rejections) → rejections.pools.items ≡ [] → rejections.refusing.items ≡ [] → rejections.first_refusal ≡ None → ((name : List ℕ) → has_name rejections.shut name ≡ false) → AreRejectionsOfPrefix plan lines [] rejections
 unfolding pools_in refusing_pools_in refusals_in is_shut
-none_so_far plan lines rejections pools refusing first shut = record { pools = pools; refusing = refusing; first = first; shut = shut }
+none_in_prefix plan lines rejections pools refusing first shut = record { pools = pools; refusing = refusing; first = first; shut = shut }
 
 -- A line that neither refuses a job nor shuts a pool down.
 or_nothing : {X : Type 0} (there : Option X) → or_else there None ≡ there
@@ -141,9 +141,9 @@ pub record NotesOther (line : RecordedLine) (old new : Rejections) : Type 0 wher
   pub first : new.first_refusal ≡ old.first_refusal
   pub shut : (name : List ℕ) → has_name new.shut name ≡ (has_name old.shut name || shuts name line)
 
-other_so_far : (plan : Plan) (lines before : List RecordedLine) (line : RecordedLine) (old new : Rejections) → pool_of_rejection plan lines before line ≡ None → pool_of_refusal plan lines before line ≡ None → refusal_by plan lines before line ≡ None → AreRejectionsSoFar plan lines before old → NotesOther line old new
-    → AreRejectionsSoFar plan lines (before ++ line ∷ []) new
-other_so_far plan lines before line old new no_pool no_refusing no_refusal are notes = record {
+other_in_prefix : (plan : Plan) (lines before : List RecordedLine) (line : RecordedLine) (old new : Rejections) → pool_of_rejection plan lines before line ≡ None → pool_of_refusal plan lines before line ≡ None → refusal_by plan lines before line ≡ None → AreRejectionsOfPrefix plan lines before old → NotesOther line old new
+    → AreRejectionsOfPrefix plan lines (before ++ line ∷ []) new
+other_in_prefix plan lines before line old new no_pool no_refusing no_refusal are notes = record {
   pools = notes.pools ∙ are.pools ∙ sym (append-nil (pools_in plan lines before)) ∙ ap (λ (o : Option ℕ). pools_in plan lines before ++ option_to_list o) (sym no_pool) ∙ sym (pools_more plan lines before line);
   refusing = notes.refusing ∙ are.refusing ∙ sym (append-nil (refusing_pools_in plan lines before)) ∙ ap (λ (o : Option ℕ). refusing_pools_in plan lines before ++ option_to_list o) (sym no_refusing) ∙ sym (refusing_more plan lines before line);
   first = notes.first ∙ are.first ∙ sym (or_nothing (slice_get (refusals_in plan lines before) 0)) ∙ ap (or_else (slice_get (refusals_in plan lines before) 0)) (sym no_refusal) ∙ sym (first_more plan lines before line);
@@ -167,16 +167,16 @@ no_refusal_by : (plan : Plan) (lines before : List RecordedLine) (line : Recorde
 no_refusal_by plan lines before (Refused actor job) other = absurd (let e : false ≡ true = other in cc)
 no_refusal_by plan lines before line other = refl
 
-pub other_after : (plan : Plan) (lines before : List RecordedLine) (line : RecordedLine) (old new : Rejections) → refuses_none line ≡ true → AreRejectionsSoFar plan lines before old → NotesOther line old new → AreRejectionsSoFar plan lines (before ++ line ∷ []) new
-other_after plan lines before line old new other are notes = other_so_far plan lines before line old new (no_pool_by plan lines before line other) (no_refusing_by plan lines before line other) (no_refusal_by plan lines before line other) are notes
+pub other_after : (plan : Plan) (lines before : List RecordedLine) (line : RecordedLine) (old new : Rejections) → refuses_none line ≡ true → AreRejectionsOfPrefix plan lines before old → NotesOther line old new → AreRejectionsOfPrefix plan lines (before ++ line ∷ []) new
+other_after plan lines before line old new other are notes = other_in_prefix plan lines before line old new (no_pool_by plan lines before line other) (no_refusing_by plan lines before line other) (no_refusal_by plan lines before line other) are notes
 
 -- A line that refuses a job.
 refusal_is : (pool : Option ℕ) (refusal : Invalidation) (first : Option Invalidation) → refusal_after pool refusal first ≡ or_else first (refusal_unless (is_some pool) refusal)
 refusal_is None refusal first = refl
 refusal_is (Some pool) refusal first = sym (or_nothing first)
 
-pub refusal_after_line : (plan : Plan) (lines before : List RecordedLine) (number : ℕ) (actor : RecordedActor) (job : ℕ) (old new : Rejections) → number ≡ length before + 1 → AreRejectionsSoFar plan lines before old
-    → NotesRefusal (rejecting_pool plan lines before job) (pool_of_job plan lines job) number actor job old new → AreRejectionsSoFar plan lines (before ++ Refused actor job ∷ []) new
+pub refusal_after_line : (plan : Plan) (lines before : List RecordedLine) (number : ℕ) (actor : RecordedActor) (job : ℕ) (old new : Rejections) → number ≡ length before + 1 → AreRejectionsOfPrefix plan lines before old
+    → NotesRefusal (rejecting_pool plan lines before job) (pool_of_job plan lines job) number actor job old new → AreRejectionsOfPrefix plan lines (before ++ Refused actor job ∷ []) new
 refusal_after_line plan lines before number actor job old new is are notes =
     let line : RecordedLine = Refused actor job in
     let pool = rejecting_pool plan lines before job in

@@ -44,9 +44,9 @@ reported_or_kept : (new : ActorTable) (more : List ClassifiedActor) (one : Recor
 reported_or_kept new more one gone (inl h) = none_some (in_table new one) gone h
 reported_or_kept new more one gone (inr h) = inr h
 
-pub tells_settled : (plan : Plan) (before : List RecordedLine) (line : RecordedLine) (waits : EndedPath) (old mid new : ActorTable) (known last : ClassTable) (x y : List ClassifiedActor) → KeepsRules (before ++ line ∷ []) → AreTablesOf plan before old known None → AppliedLine line waits old mid → AreTablesOf plan (before ++ line ∷ []) new last None
+pub reports_settled : (plan : Plan) (before : List RecordedLine) (line : RecordedLine) (waits : EndedPath) (old mid new : ActorTable) (known last : ClassTable) (x y : List ClassifiedActor) → KeepsRules (before ++ line ∷ []) → AreTablesOf plan before old known None → AppliedLine line waits old mid → AreTablesOf plan (before ++ line ∷ []) new last None
     → AddsResults (IsSettledResult plan (before ++ line ∷ [])) mid new x y → AddsSettled plan before (before ++ line ∷ []) x y
-tells_settled plan before line waits old mid new known last x y keeps kept f then_kept p = record {
+reports_settled plan before line waits old mid new known last x y keeps kept f then_kept p = record {
   more = p.more;
   after = p.after;
   reported = All-weaker (IsSettledResult plan (before ++ line ∷ [])) (IsCorrectResult plan (before ++ line ∷ [])) (λ t h. h.reported) p.more p.reported;

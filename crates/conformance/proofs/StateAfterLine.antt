@@ -18,7 +18,7 @@ use Rattle.conformance.specs.ClassificationResults.{IsStep}
 use Rattle.conformance.proofs.AppliedLine.{follows}
 use Rattle.conformance.proofs.LineActors.{ended_is, ended_live}
 use Rattle.conformance.proofs.TablesAfter.{kept_after}
-use Rattle.conformance.proofs.SettledByLine.{tells_settled}
+use Rattle.conformance.proofs.SettledByLine.{reports_settled}
 
 pub kept_line : (plan : Plan) (before : List RecordedLine) (line : RecordedLine) (waits : EndedPath) (old new : ActorTable) (known last : ClassTable) (ended : Option RecordedActor) → KeepsRules (before ++ line ∷ []) → AreTablesOf plan before old known None → ChangesTable old line waits new
     → last ≡ known → ended ≡ ended_by line → ((actor : RecordedActor) → ended ≡ Some actor → is_live before actor ≡ true → waits.path.items ≡ path_of before actor) → waits.known ≡ 0 → AreTablesOf plan (before ++ line ∷ []) new last ended
@@ -34,7 +34,7 @@ represents plan classes lines before old new paths step = record {
   decided = step.decided;
 }
 
-pub tells_line : (plan : Plan) (before : List RecordedLine) (line : RecordedLine) (waits : EndedPath) (old mid new : ActorTable) (known last : ClassTable) (x y : List ClassifiedActor) → KeepsRules (before ++ line ∷ []) → AreTablesOf plan before old known None → ChangesTable old line waits mid
+pub reports_line : (plan : Plan) (before : List RecordedLine) (line : RecordedLine) (waits : EndedPath) (old mid new : ActorTable) (known last : ClassTable) (x y : List ClassifiedActor) → KeepsRules (before ++ line ∷ []) → AreTablesOf plan before old known None → ChangesTable old line waits mid
     → IsStep plan (before ++ line ∷ []) mid new last None x y → AddsSettled plan before (before ++ line ∷ []) x y
-tells_line plan before line waits old mid new known last x y keeps kept changed step =
-    tells_settled plan before line waits old mid new known last x y keeps kept (follows line waits old mid changed) step.kept step.tells
+reports_line plan before line waits old mid new known last x y keeps kept changed step =
+    reports_settled plan before line waits old mid new known last x y keeps kept (follows line waits old mid changed) step.kept step.tells

@@ -29,7 +29,7 @@ use Rattle.soundness.proofs.Choices.{IsSkipped, leaves, is_skipped, is_missed}
 use Rattle.soundness.proofs.ExchangedJobs.{is_exchange}
 use Rattle.soundness.proofs.Skipping.{choice_keeps}
 use Rattle.conformance.specs.LaggingRun.{is_choice_of, OthersAct, stays, acts, NextOfSubmit, IsTakenWithin}
-use Rattle.conformance.proofs.Undisturbed.{Stands}
+use Rattle.conformance.proofs.Undisturbed.{HasPosition}
 use Rattle.conformance.proofs.OthersAct.{IsQuiet, other_actor, is_java_event_of, choice_other}
 use Rattle.conformance.proofs.LaggingSteps.{submission_of_actor}
 
@@ -78,7 +78,7 @@ module _ (plan : Plan) (cert : Cert) (a : Parent) (body : List Action) (q k : �
   -- The actor is at the submit, in a state that satisfies the invariants.
   record IsAtSubmit (s : JavaState) : Type 0 where
     sound : JavaSound plan cert s
-    stands : Stands plan s.machine a body q
+    stands : HasPosition plan s.machine a body q
 
   record StaysAtSubmit (s s' : JavaState) : Type 0 where
     at : IsAtSubmit s'
@@ -184,7 +184,7 @@ module _ (plan : Plan) (cert : Cert) (a : Parent) (body : List Action) (q k : �
       }
 
   -- The pool takes or rejects the job within three events.
-  pub taken_within : (s : JavaState) → JavaSound plan cert s → Stands plan s.machine a body q → IsQuiet a s → IsTakenWithin 3 plan a s
+  pub taken_within : (s : JavaState) → JavaSound plan cert s → HasPosition plan s.machine a body q → IsQuiet a s → IsTakenWithin 3 plan a s
   taken_within s sound stands quiet = λ s' others.
       let p = pool_of plan k in
       let later = others_stay others (record { sound = sound; stands = stands }) in

@@ -105,25 +105,25 @@ keeps_pushed a m jobs job of_other =
 
 -- ---- the position of an actor
 -- The actor is at this position of the body.
-abbrev pub Stands : Plan → State → Parent → List Action → ℕ → Type 0
-Stands plan s a body i = point plan s a ≡ Some (record { body = body; position = i })
+abbrev pub HasPosition : Plan → State → Parent → List Action → ℕ → Type 0
+HasPosition plan s a body i = point plan s a ≡ Some (record { body = body; position = i })
 
 -- The actor has moved.
-pub stands_moved : (plan : Plan) (s : State) (a : Parent) (body : List Action) (i i' : ℕ) → Stands plan s a body i → Stands plan (with_position a i' s) a body i'
-stands_moved plan s (parent.Client c) body i i' stands =
+pub has_position_moved : (plan : Plan) (s : State) (a : Parent) (body : List Action) (i i' : ℕ) → HasPosition plan s a body i → HasPosition plan (with_position a i' s) a body i'
+has_position_moved plan s (parent.Client c) body i i' stands =
     let before = client_standing plan (slice_get s.clients c) body i stands in
     let moved : ClientState = record (client_state s c) { position = i' } in
     let kind : (client_state s c).kind ≡ before.0.kind = ap (λ (x : ClientState). x.kind) (get_or_from_slice_get s.clients c before.0 no_client_state before.1) in
     ap (option_map (point_of_client plan)) (slice_get-set_same s.clients c moved (slice_get_within s.clients c before.0 before.1))
     ∙ ap (λ (bd : List Action). Some (record { body = bd; position = i' })) (ap (λ (k : ℕ). (client_at plan k).body) kind ∙ sym before.2)
-stands_moved plan s (parent.Job j) body i i' stands =
+has_position_moved plan s (parent.Job j) body i i' stands =
     let before = stage_of_standing plan (job_at s j).class (job_at s j).stage body i stands in
     let inside = standing_made plan s j body i stands in
     ap (λ (x : CreatedJob). point_of_job plan x.class x.stage) (get_or-staged_same s.jobs j (Stage.At i') inside)
     ∙ ap (λ (bd : List Action). Some (record { body = bd; position = i' })) (sym before.1)
 
 -- Another actor has moved.
-pub stands_other : (plan : Plan) (s : State) (a b : Parent) (body : List Action) (i i' : ℕ) → same_parent a b ≡ false → Stands plan s a body i → Stands plan (with_position b i' s) a body i
+pub stands_other : (plan : Plan) (s : State) (a b : Parent) (body : List Action) (i i' : ℕ) → same_parent a b ≡ false → HasPosition plan s a body i → HasPosition plan (with_position b i' s) a body i
 stands_other plan s (parent.Client c) (parent.Client d) body i i' other stands =
     ap (option_map (point_of_client plan)) (slice_get-set_other s.clients d c (record (client_state s d) { position = i' }) (λ (same : c ≡ d). false≢true (sym other ∙ eq-eqb c d same))) ∙ stands
 stands_other plan s (parent.Client c) (parent.Job k) body i i' other stands = stands
@@ -132,18 +132,18 @@ stands_other plan s (parent.Job j) (parent.Job k) body i i' other stands =
     ap (λ (x : CreatedJob). point_of_job plan x.class x.stage) (get_or-staged_other s.jobs k (Stage.At i') j no_job (λ (same : j ≡ k). false≢true (sym other ∙ eq-eqb j k same))) ∙ stands
 
 -- The stage of a job changes that is not the actor.
-pub stands_staged : (plan : Plan) (s : State) (a : Parent) (j : ℕ) (stage : Stage) (body : List Action) (i : ℕ) → a ≢ parent.Job j → Stands plan s a body i → Stands plan (with_stage j stage s) a body i
+pub stands_staged : (plan : Plan) (s : State) (a : Parent) (j : ℕ) (stage : Stage) (body : List Action) (i : ℕ) → a ≢ parent.Job j → HasPosition plan s a body i → HasPosition plan (with_stage j stage s) a body i
 stands_staged plan s (parent.Client c) j stage body i other stands = stands
 stands_staged plan s (parent.Job n) j stage body i other stands =
     ap (λ (x : CreatedJob). point_of_job plan x.class x.stage) (get_or-staged_other s.jobs j stage n no_job (λ (same : n ≡ j). other (ap parent.Job same))) ∙ stands
 
-pub stands_pushed : (plan : Plan) (s : State) (a : Parent) (job : CreatedJob) (body : List Action) (i : ℕ) → Stands plan s a body i → Stands plan (with_job job s) a body i
+pub stands_pushed : (plan : Plan) (s : State) (a : Parent) (job : CreatedJob) (body : List Action) (i : ℕ) → HasPosition plan s a body i → HasPosition plan (with_job job s) a body i
 stands_pushed plan s (parent.Client c) job body i stands = stands
 stands_pushed plan s (parent.Job n) job body i stands =
     ap (λ (x : CreatedJob). point_of_job plan x.class x.stage) (get_or_append_left s.jobs (job ∷ []) no_job n (standing_made plan s n body i stands)) ∙ stands
 
 -- An actor at a position is no job at another stage.
-pub not_that_job : (plan : Plan) (s : State) (a : Parent) (j : ℕ) (body : List Action) (i : ℕ) → ((n : ℕ) → (job_at s j).stage ≢ Stage.At n) → Stands plan s a body i → a ≢ parent.Job j
+pub not_that_job : (plan : Plan) (s : State) (a : Parent) (j : ℕ) (body : List Action) (i : ℕ) → ((n : ℕ) → (job_at s j).stage ≢ Stage.At n) → HasPosition plan s a body i → a ≢ parent.Job j
 not_that_job plan s (parent.Client c) j body i elsewhere stands same = absurd cc
 not_that_job plan s (parent.Job n) j body i elsewhere stands same =
     let at = (stage_of_standing plan (job_at s n).class (job_at s n).stage body i stands).0 in

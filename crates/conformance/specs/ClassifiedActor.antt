@@ -61,7 +61,7 @@ abbrev pub IsOnceEach : List ClassifiedActor → Type 0
 IsOnceEach reported = (actor : RecordedActor) → count_by (is_reported actor) reported ≤ 1
 
 -- The results for all settled actors, and no others.
-pub record AreResultsSoFarOf (plan : Plan) (lines : List RecordedLine) (all : List ClassifiedActor) : Type 0 where
+pub record AreResultsOfPrefix (plan : Plan) (lines : List RecordedLine) (all : List ClassifiedActor) : Type 0 where
   pub reported : All (IsCorrectResult plan lines) all
   pub once : IsOnceEach all
   pub settled : (actor : RecordedActor) → (list_any (is_reported actor) all ≡ true) ↔ IsSettled lines actor

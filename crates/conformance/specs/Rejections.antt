@@ -16,7 +16,7 @@ use Rattle.conformance.specs.RejectingPools.{only_rejects_by}
 use Rattle.conformance.specs.RejectionRule.{is_shut, has_rejecting_pool, unless_rejected, pools_in, refusing_pools_in, refusals_in}
 
 -- The state has the refusals in `read`, the first lines of the recording.
-pub record AreRejectionsSoFar (plan : Plan) (lines read : List RecordedLine) (rejections : Rejections) : Type 0 where
+pub record AreRejectionsOfPrefix (plan : Plan) (lines read : List RecordedLine) (rejections : Rejections) : Type 0 where
   pub pools : rejections.pools.items ≡ pools_in plan lines read
   pub refusing : rejections.refusing.items ≡ refusing_pools_in plan lines read
   pub first : rejections.first_refusal ≡ slice_get (refusals_in plan lines read) 0
@@ -25,7 +25,7 @@ pub record AreRejectionsSoFar (plan : Plan) (lines read : List RecordedLine) (re
 -- The state has the refusals of the recording. It is `None` if no pool of the plan may reject jobs.
 abbrev pub AreRejectionsOf : Plan → List RecordedLine → Option Rejections → Type 0
 AreRejectionsOf plan lines None = has_rejecting_pool plan ≡ false
-AreRejectionsOf plan lines (Some rejections) = (has_rejecting_pool plan ≡ true) × AreRejectionsSoFar plan lines lines rejections
+AreRejectionsOf plan lines (Some rejections) = (has_rejecting_pool plan ≡ true) × AreRejectionsOfPrefix plan lines lines rejections
 
 -- ---- one refusal
 -- The list of pools after a refusal: `pool` is appended, if there is one.

@@ -10,7 +10,7 @@ use Rattle.recordings.specs.NotesOfLines.{IsNotesOf}
 use Rattle.recordings.specs.PathsOfLines.{KeepsRules}
 use Rattle.conformance.specs.declared.actor_classifier.ActorClassifier.{ActorClassifier}
 use Rattle.conformance.specs.declared.classified_actor.ClassifiedActor.{ClassifiedActor}
-use Rattle.conformance.specs.ClassifiedActor.{AreResultsSoFarOf, AreAllResultsOf}
+use Rattle.conformance.specs.ClassifiedActor.{AreResultsOfPrefix, AreAllResultsOf}
 use Rattle.conformance.specs.Represents.{IsClassifierOf}
 use Rattle.conformance.specs.declared.survey.LineSurvey.{LineSurvey}
 use Rattle.conformance.specs.declared.survey.ActorSurvey.{ActorSurvey}
@@ -40,7 +40,7 @@ pub record IsLineSurveyAtEnd (plan : Plan) (lines : List RecordedLine) (line_sur
 -- ---- the part that each classified actor updates
 -- The part that each classified actor updates is correct for the actors in `reported`. These are all settled actors.
 pub record IsActorSurveyOf (plan : Plan) (lines : List RecordedLine) (reported : List ClassifiedActor) (actor_survey : ActorSurvey) : Type 0 where
-  pub reported_so : AreResultsSoFarOf plan lines reported
+  pub reported_so : AreResultsOfPrefix plan lines reported
   pub verdicts : IsVerdictsOf plan reported actor_survey.verdicts
   pub others : AreOtherKinds plan reported actor_survey.others
 

@@ -10,7 +10,7 @@ ghost use Rattle.conformance.specs.declared.classified_actor.ClassifiedActor.{Cl
 ghost use Rattle.conformance.specs.Family.{HasNoFamilies};
 ghost use Rattle.conformance.specs.Changes.{ChangesTable};
 ghost use Rattle.conformance.specs.ActorTables.{AreUnambiguousIn};
-ghost use Rattle.conformance.specs.ClassifiedActor.{AreResultsSoFarOf, AddsSettled};
+ghost use Rattle.conformance.specs.ClassifiedActor.{AreResultsOfPrefix, AddsSettled};
 ghost use Rattle.conformance.specs.Represents.{IsClassifierOf, AreTablesOf};
 ghost use Rattle.conformance.specs.ClassificationResults.{IsProgressOf, IsReady, IsStep, ended_path_of, submitter_of as spec_submitter_of};
 
@@ -52,7 +52,7 @@ impl ActorClassifier {
     /// Creates a classifier in its state before the first line.
     pub fn new(alloc: Global) -> ActorClassifier
         ensures represents { (plan : plans.Plan) → IsClassifierOf plan result [] }
-        ensures reported { (plan : plans.Plan) → AreResultsSoFarOf plan [] [] }
+        ensures reported { (plan : plans.Plan) → AreResultsOfPrefix plan [] [] }
     {
         ActorClassifier {
             paths: Paths::new(alloc),
@@ -91,9 +91,9 @@ impl ActorClassifier {
         ensures all { (before : List RecordedLine) (earlier : List ClassifiedActor)
             → KeepsRules (before ++ line_view line.now ∷ [])
             → IsClassifierOf plan.now self.old before
-            → AreResultsSoFarOf plan.now before (earlier ++ reported.old.items)
+            → AreResultsOfPrefix plan.now before (earlier ++ reported.old.items)
             → OnOk result
-            (AreResultsSoFarOf plan.now (before ++ line_view line.now ∷ [])
+            (AreResultsOfPrefix plan.now (before ++ line_view line.now ∷ [])
             (earlier ++ reported.new.items)) }
     {
         self.take_line(plan, line, reported)

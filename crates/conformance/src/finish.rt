@@ -9,7 +9,7 @@ ghost use Rattle.recordings.specs.PathsOfLines.{KeepsRules, IsPathsOf};
 ghost use Rattle.conformance.specs.declared.classified_actor.ClassifiedActor.{ClassifiedActor};
 ghost use Rattle.conformance.specs.ActorTables.{in_table};
 ghost use Rattle.conformance.specs.RemainingActors.{IsStateAtEnd, AreNoneBelow, AreJobsAmong, AreRoundsAmong, HasNoJobs, HasNoRounds};
-ghost use Rattle.conformance.specs.ClassifiedActor.{IsCorrectResult, AreResultsSoFarOf, AreAllResultsOf};
+ghost use Rattle.conformance.specs.ClassifiedActor.{IsCorrectResult, AreResultsOfPrefix, AreAllResultsOf};
 ghost use Rattle.conformance.specs.Represents.{IsClassifierOf};
 ghost use Rattle.conformance.specs.ClassificationResults.{AddsResults};
 
@@ -36,7 +36,7 @@ impl ActorClassifier {
         ensures { (lines : List RecordedLine) (earlier : List ClassifiedActor)
             → KeepsRules lines
             → IsClassifierOf plan.now self lines
-            → AreResultsSoFarOf plan.now lines (earlier ++ reported.old.items)
+            → AreResultsOfPrefix plan.now lines (earlier ++ reported.old.items)
             → OnOk result (AreAllResultsOf plan.now lines (earlier ++ reported.new.items)) }
     {
         self.classify_remaining_actors(plan, reported)

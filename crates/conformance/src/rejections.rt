@@ -43,7 +43,7 @@ pub(crate) struct Rejections {
 
 impl Rejections {
     fn new(alloc: Global) -> Rejections
-        ensures { (plan : plans.Plan) (lines : List RecordedLine) → spec.AreRejectionsSoFar plan lines [] result }
+        ensures { (plan : plans.Plan) (lines : List RecordedLine) → spec.AreRejectionsOfPrefix plan lines [] result }
     {
         let pools = Vec::new(alloc);
         let refusing = Vec::new(alloc);
@@ -68,9 +68,9 @@ impl Rejections {
             → AreFactsFor plan.now lines facts.now
             → ((job : ℕ) → refuses_job job (line_view line.now) ≡ true → is_refused lines job ≡ true)
             → number ≡ length before + 1
-            → spec.AreRejectionsSoFar plan.now lines before self.old
+            → spec.AreRejectionsOfPrefix plan.now lines before self.old
             → OnOk result
-            (spec.AreRejectionsSoFar plan.now lines (before ++ line_view line.now ∷ []) self.new) }
+            (spec.AreRejectionsOfPrefix plan.now lines (before ++ line_view line.now ∷ []) self.new) }
     {
         match *line {
             Line::Refused { actor, job } => self.note_refusal(plan, facts, number, actor, job),
@@ -91,7 +91,7 @@ impl Rejections {
             → AreFactsFor plan.now lines facts.now
             → is_refused lines job ≡ true
             → number ≡ length before + 1
-            → spec.AreRejectionsSoFar plan.now lines before self.old
+            → spec.AreRejectionsOfPrefix plan.now lines before self.old
             → OnOk result
             (spec.NotesRefusal (rule.rejecting_pool plan.now lines before job) (rule.pool_of_job plan.now lines job) number actor job self.old self.new) }
     {
@@ -134,7 +134,7 @@ impl Rejections {
         ensures { (lines before : List RecordedLine)
             → AreFactsFor plan.now lines facts.now
             → is_refused lines job ≡ true
-            → spec.AreRejectionsSoFar plan.now lines before self.now
+            → spec.AreRejectionsOfPrefix plan.now lines before self.now
             → result ≡ rule.rejecting_pool plan.now lines before job }
     {
         match facts.jobs.pool_of(job) {
@@ -154,7 +154,7 @@ impl Rejections {
         ensures { (lines before : List RecordedLine)
             → AreFactsFor plan.now lines facts.now
             → is_refused lines job ≡ true
-            → spec.AreRejectionsSoFar plan.now lines before self.now
+            → spec.AreRejectionsOfPrefix plan.now lines before self.now
             → result ≡ rule.pool_if_allowed plan.now lines before job (Some pool) }
     {
         let closed = self.shut.contains(plan.pool_name(pool));
@@ -266,7 +266,7 @@ pub(crate) fn rejections_in(
     recording: &[u8],
 ) -> Result<Rejections, AllocError>
     ensures { IfOk result
-        (spec.AreRejectionsSoFar plan.now (lines_of recording.now) (lines_of recording.now)) }
+        (spec.AreRejectionsOfPrefix plan.now (lines_of recording.now) (lines_of recording.now)) }
 {
     let facts = refusal_facts(alloc, plan, recording)?;
     rejections_by(alloc, plan, recording, &facts)
@@ -280,7 +280,7 @@ fn rejections_by(
 ) -> Result<Rejections, AllocError>
     ensures { AreFactsFor plan.now (lines_of recording.now) facts.now
         → IfOk result
-        (spec.AreRejectionsSoFar plan.now (lines_of recording.now) (lines_of recording.now)) }
+        (spec.AreRejectionsOfPrefix plan.now (lines_of recording.now) (lines_of recording.now)) }
 {
     let mut rejections = Rejections::new(alloc);
     let mut lines = WellFormedLines::new(recording);

@@ -5,7 +5,7 @@ ghost use Rattle.job_bodies.specs.Plan as plans;
 ghost use Rattle.recordings.specs.RecordingLine.{RecordedLine, line_view};
 ghost use Rattle.recordings.specs.PathsOfLines.{KeepsRules};
 ghost use Rattle.conformance.specs.declared.classified_actor.ClassifiedActor as classified_actors;
-ghost use Rattle.conformance.specs.ClassifiedActor.{AreResultsSoFarOf, AreAllResultsOf};
+ghost use Rattle.conformance.specs.ClassifiedActor.{AreResultsOfPrefix, AreAllResultsOf};
 ghost use Rattle.conformance.specs.ExcessTracker.{CountsFirstKinds, IsExcessTrackerOf};
 ghost use Rattle.conformance.specs.OtherKinds.{AreOtherKinds};
 ghost use Rattle.conformance.specs.UnplannedLabels.{IsNext};
@@ -98,7 +98,7 @@ impl ActorSurvey {
     /// Creates the state before the first line.
     pub(crate) fn new(alloc: Global) -> ActorSurvey
         ensures { (plan : plans.Plan)
-            → AreResultsSoFarOf plan [] []
+            → AreResultsOfPrefix plan [] []
             → spec.IsActorSurveyOf plan [] [] result }
     {
         let verdicts = Verdicts::new(alloc);

@@ -32,21 +32,21 @@ sizes_part plan (Found fit cert) = fit_part plan fit
 sizes_part plan (NotFound cause) = no_sizes_text plan cause
 
 -- the text is the answer SAFE: its first line, the lines about the pools, and what the certificate guarantees
-abbrev pub TellsSafe : Plan → Cert → List (Option ℕ) → List ℕ → Type 0
-TellsSafe plan cert rejections text = text ≡ safe_head ++ safe_text plan cert rejections
+abbrev pub ReportsSafe : Plan → Cert → List (Option ℕ) → List ℕ → Type 0
+ReportsSafe plan cert rejections text = text ≡ safe_head ++ safe_text plan cert rejections
 
 -- the text is the answer NOT SAFE: its first line, the description of the witness, the sizes, and the advice
-pub record TellsNotSafe (plan : Plan) (witness : Witness) (sizes : SizesFound) (text : List ℕ) : Type 0 where
+pub record ReportsNotSafe (plan : Plan) (witness : Witness) (sizes : SizesFound) (text : List ℕ) : Type 0 where
   pub story : List ℕ
   pub is_story : IsDescription plan witness story
   pub is : text ≡ ((not_safe_head ++ story) ++ sizes_part plan sizes) ++ advice_text plan sizes
 
 -- the text is the answer NOT DECIDED: its first line, the sizes, the advice, and a line that says what was not found
-abbrev pub TellsNotDecided : Plan → SizesFound → List ℕ → Type 0
-TellsNotDecided plan sizes text = text ≡ ((not_decided_head ++ sizes_part plan sizes) ++ advice_text plan sizes) ++ open_text sizes
+abbrev pub ReportsNotDecided : Plan → SizesFound → List ℕ → Type 0
+ReportsNotDecided plan sizes text = text ≡ ((not_decided_head ++ sizes_part plan sizes) ++ advice_text plan sizes) ++ open_text sizes
 
 -- the text reports the finding
-abbrev pub Tells : Plan → PlanFinding → List ℕ → Type 0
-Tells plan (Safe cert rejections) text = TellsSafe plan cert rejections.items text
-Tells plan (NotSafe witness sizes) text = TellsNotSafe plan witness sizes text
-Tells plan (NotDecided sizes) text = TellsNotDecided plan sizes text
+abbrev pub ReportsAnswer : Plan → PlanFinding → List ℕ → Type 0
+ReportsAnswer plan (Safe cert rejections) text = ReportsSafe plan cert rejections.items text
+ReportsAnswer plan (NotSafe witness sizes) text = ReportsNotSafe plan witness sizes text
+ReportsAnswer plan (NotDecided sizes) text = ReportsNotDecided plan sizes text

@@ -63,7 +63,7 @@ abbrev pub github_text : List ℕ → List Remark → List ℕ
 github_text file = flat_map (command_line file)
 
 -- the text has a line for each remark about the finding
-pub record TellsFinding (file : List ℕ) (places : PlanPlaces) (plan : Plan) (finding : PlanFinding) (warnings : List PlanWarning) (text : List ℕ) : Type 0 where
+pub record ReportsFinding (file : List ℕ) (places : PlanPlaces) (plan : Plan) (finding : PlanFinding) (warnings : List PlanWarning) (text : List ℕ) : Type 0 where
   pub remarks : List Remark
   pub are_remarks : AreRemarks places plan finding warnings remarks
   pub is : text ≡ github_text file remarks

@@ -96,7 +96,7 @@ abbrev pub finding_data : List ℕ → List ℕ → PlanPlaces → Plan → Plan
 finding_data file text places plan finding warnings = answer_data (word_of finding) file (finding_parts text places plan finding warnings)
 
 -- the line reports the finding
-pub record TellsFinding (file text : List ℕ) (places : PlanPlaces) (plan : Plan) (finding : PlanFinding) (warnings : List Warning) (line : List ℕ) : Type 0 where
+pub record ReportsFinding (file text : List ℕ) (places : PlanPlaces) (plan : Plan) (finding : PlanFinding) (warnings : List Warning) (line : List ℕ) : Type 0 where
   pub is_line : IsLineOf (finding_data file text places plan finding warnings) line
 
 -- ---- faults
@@ -109,9 +109,9 @@ abbrev pub faulty_data : List ℕ → List ℕ → Data → ℕ → Data
 faulty_data file text faults omitted = answer_data (codes "FAULTS") file (fault_parts (text_only_data text) faults omitted)
 
 -- the line reports the faults of a plan's text
-pub record TellsFaults (file text : List ℕ) (faults : Faults) (line : List ℕ) : Type 0 where
+pub record ReportsFaults (file text : List ℕ) (faults : Faults) (line : List ℕ) : Type 0 where
   pub is_line : IsLineOf (faulty_data file text (faults_data faults) faults.omitted) line
 
 -- the line reports one fault without a place, in these words
-pub record TellsFault (file text : List ℕ) (number : ℕ) (words line : List ℕ) : Type 0 where
+pub record ReportsFault (file text : List ℕ) (number : ℕ) (words line : List ℕ) : Type 0 where
   pub is_line : IsLineOf (faulty_data file text (single_fault_data number words) 0) line

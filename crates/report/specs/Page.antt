@@ -15,13 +15,13 @@ pub record Shows (Answers : List ℕ → Type 0) (page : List ℕ) : Type 0 wher
   pub is : page ≡ page_of line
 
 -- the page shows the finding
-abbrev pub TellsFinding : List ℕ → List ℕ → PlanPlaces → Plan → PlanFinding → List Warning → List ℕ → Type 0
-TellsFinding file text places plan finding warnings page = Shows (json.TellsFinding file text places plan finding warnings) page
+abbrev pub ReportsFinding : List ℕ → List ℕ → PlanPlaces → Plan → PlanFinding → List Warning → List ℕ → Type 0
+ReportsFinding file text places plan finding warnings page = Shows (json.ReportsFinding file text places plan finding warnings) page
 
 -- the page shows the faults of a plan's text
-abbrev pub TellsFaults : List ℕ → List ℕ → Faults → List ℕ → Type 0
-TellsFaults file text faults page = Shows (json.TellsFaults file text faults) page
+abbrev pub ReportsFaults : List ℕ → List ℕ → Faults → List ℕ → Type 0
+ReportsFaults file text faults page = Shows (json.ReportsFaults file text faults) page
 
 -- the page shows one fault without a place, in these words
-abbrev pub TellsFault : List ℕ → List ℕ → ℕ → List ℕ → List ℕ → Type 0
-TellsFault file text number words page = Shows (json.TellsFault file text number words) page
+abbrev pub ReportsFault : List ℕ → List ℕ → ℕ → List ℕ → List ℕ → Type 0
+ReportsFault file text number words page = Shows (json.ReportsFault file text number words) page

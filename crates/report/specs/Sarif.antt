@@ -107,7 +107,7 @@ abbrev pub sarif_data : List ℕ → List Remark → Data
 sarif_data file remarks = log_data (results_data file remarks) (driver_data (rules_data remarks))
 
 -- the text is a log with the remarks about the finding
-pub record TellsFinding (file : List ℕ) (places : PlanPlaces) (plan : Plan) (finding : PlanFinding) (warnings : List PlanWarning) (text : List ℕ) : Type 0 where
+pub record ReportsFinding (file : List ℕ) (places : PlanPlaces) (plan : Plan) (finding : PlanFinding) (warnings : List PlanWarning) (text : List ℕ) : Type 0 where
   pub remarks : List Remark
   pub are_remarks : AreRemarks places plan finding warnings remarks
   pub is_line : IsLineOf (sarif_data file remarks) text

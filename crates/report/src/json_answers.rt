@@ -52,7 +52,7 @@ pub fn finding_json(
     finding: &PlanFinding,
     warnings: &[Warning],
 ) -> Result<String, AllocError>
-    ensures { IfOk result (λ line. spec.TellsFinding
+    ensures { IfOk result (λ line. spec.ReportsFinding
         file.now text.now places.now plan.now finding.now warnings.now (string_bytes line)) }
 {
     let parts = finding_parts(alloc, text, places, plan, finding, warnings)?;
@@ -73,7 +73,7 @@ pub fn faults_json(
     faults: &Faults,
 ) -> Result<String, AllocError>
     ensures { IfOk result
-        (λ line. spec.TellsFaults file.now text.now faults.now (string_bytes line)) }
+        (λ line. spec.ReportsFaults file.now text.now faults.now (string_bytes line)) }
 {
     let fault_list = faults_value(alloc, faults)?;
     faulty_line(alloc, file, text, fault_list, faults.omitted)
@@ -94,7 +94,7 @@ pub fn fault_json(
     words: &str,
 ) -> Result<String, AllocError>
     ensures { IfOk result
-        (λ line. spec.TellsFault file.now text.now number words.now (string_bytes line)) }
+        (λ line. spec.ReportsFault file.now text.now number words.now (string_bytes line)) }
 {
     let fault_list = single_fault(alloc, number, words)?;
     faulty_line(alloc, file, text, fault_list, 0)

@@ -26,7 +26,7 @@ pub fn finding_html(
     finding: &PlanFinding,
     warnings: &[Warning],
 ) -> Result<String, AllocError>
-    ensures { IfOk result (λ page. spec.TellsFinding
+    ensures { IfOk result (λ page. spec.ReportsFinding
         file.now text.now places.now plan.now finding.now warnings.now (string_bytes page)) }
 {
     let line = finding_json(alloc, file, text, places, plan, finding, warnings)?;
@@ -46,7 +46,7 @@ pub fn faults_html(
     faults: &Faults,
 ) -> Result<String, AllocError>
     ensures { IfOk result
-        (λ page. spec.TellsFaults file.now text.now faults.now (string_bytes page)) }
+        (λ page. spec.ReportsFaults file.now text.now faults.now (string_bytes page)) }
 {
     let line = faults_json(alloc, file, text, faults)?;
     page_of(alloc, &line)
@@ -67,7 +67,7 @@ pub fn fault_html(
     words: &str,
 ) -> Result<String, AllocError>
     ensures { IfOk result
-        (λ page. spec.TellsFault file.now text.now number words.now (string_bytes page)) }
+        (λ page. spec.ReportsFault file.now text.now number words.now (string_bytes page)) }
 {
     let line = fault_json(alloc, file, text, number, words)?;
     page_of(alloc, &line)

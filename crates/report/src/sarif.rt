@@ -35,7 +35,7 @@ pub fn finding_sarif(
     finding: &PlanFinding,
     warnings: &[Warning],
 ) -> Result<String, AllocError>
-    ensures { IfOk result (λ text. spec.TellsFinding
+    ensures { IfOk result (λ text. spec.ReportsFinding
         file.now places.now plan.now finding.now warnings.now (string_bytes text)) }
 {
     let annotations = annotations_of(alloc, places, plan, finding, warnings)?;

@@ -27,7 +27,7 @@ use std::alloc::{AllocError, Global};
 ///
 /// Returns [`AllocError`] if memory runs out.
 pub fn render(alloc: Global, plan: &Plan, finding: &PlanFinding) -> Result<String, AllocError>
-    ensures { IfOk result (λ text. spec.Tells plan.now finding.now (string_bytes text)) }
+    ensures { IfOk result (λ text. spec.ReportsAnswer plan.now finding.now (string_bytes text)) }
 {
     match finding {
         PlanFinding::Safe(cert, rejections) => safe(alloc, plan, cert, rejections),
@@ -43,7 +43,7 @@ fn safe(
     rejections: &[Option<u64>],
 ) -> Result<String, AllocError>
     ensures { IfOk result
-        (λ text. spec.TellsSafe plan.now cert.now rejections.now (string_bytes text)) }
+        (λ text. spec.ReportsSafe plan.now cert.now rejections.now (string_bytes text)) }
 {
     let mut text = String::from_str(alloc, "SAFE\n")?;
     push_safe(alloc, &mut text, plan, cert, rejections)?;
@@ -57,7 +57,7 @@ fn not_safe(
     sizes: &SizesFound,
 ) -> Result<String, AllocError>
     ensures { IfOk result
-        (λ text. spec.TellsNotSafe plan.now witness.now sizes.now (string_bytes text)) }
+        (λ text. spec.ReportsNotSafe plan.now witness.now sizes.now (string_bytes text)) }
 {
     let story = describe(alloc, plan, witness)?;
     let mut text = String::from_str(alloc, "NOT SAFE\n")?;
@@ -68,7 +68,7 @@ fn not_safe(
 }
 
 fn not_decided(alloc: Global, plan: &Plan, sizes: &SizesFound) -> Result<String, AllocError>
-    ensures { IfOk result (λ text. spec.TellsNotDecided plan.now sizes.now (string_bytes text)) }
+    ensures { IfOk result (λ text. spec.ReportsNotDecided plan.now sizes.now (string_bytes text)) }
 {
     let mut text = String::from_str(alloc, "NOT DECIDED\n")?;
     push_found(&mut text, plan, sizes)?;

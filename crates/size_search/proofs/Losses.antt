@@ -198,22 +198,22 @@ step get_return plan v weight body n x valid laws gains at = by_action x at
         omega (arith, one_more, next, free, pays, laws.get n t is_get)
 
 -- an actor has lost at least the costs of its submits so far
-lost_so_far : (get_return : GetReturn) (plan : Plan) (v : Vector) (weight : ℕ → ℕ) (body : List Action) (n : ℕ) → IsValidBody plan body → BodyLaws get_return plan v weight body → NoneGains get_return plan v body → n ≤ length body
+lost_in_prefix : (get_return : GetReturn) (plan : Plan) (v : Vector) (weight : ℕ → ℕ) (body : List Action) (n : ℕ) → IsValidBody plan body → BodyLaws get_return plan v weight body → NoneGains get_return plan v body → n ≤ length body
     → weight n + sum_below (cost_at get_return plan v body n) n ≤ weight 0
-lost_so_far get_return plan v weight body zero valid laws gains within =
+lost_in_prefix get_return plan v weight body zero valid laws gains within =
     let none : sum_below (cost_at get_return plan v body 0) 0 ≡ 0 = refl in
     omega (arith, none)
-lost_so_far get_return plan v weight body (suc n) valid laws gains within =
+lost_in_prefix get_return plan v weight body (suc n) valid laws gains within =
     let at = slice_get-get_or body n (Work 0) (omega (arith, within)) in
-    omega (arith, step get_return plan v weight body n _ valid laws gains at, lost_so_far get_return plan v weight body n valid laws gains (omega (arith, within)))
+    omega (arith, step get_return plan v weight body n _ valid laws gains at, lost_in_prefix get_return plan v weight body n valid laws gains (omega (arith, within)))
 
 -- an actor is not heavier at any position than at the start
 pub lost_at_most : (get_return : GetReturn) (plan : Plan) (v : Vector) (weight : ℕ → ℕ) (body : List Action) (n : ℕ) → IsValidBody plan body → BodyLaws get_return plan v weight body → NoneGains get_return plan v body → n ≤ length body → weight n ≤ weight 0
-lost_at_most get_return plan v weight body n valid laws gains within = omega (arith, lost_so_far get_return plan v weight body n valid laws gains within)
+lost_at_most get_return plan v weight body n valid laws gains within = omega (arith, lost_in_prefix get_return plan v weight body n valid laws gains within)
 
 -- an actor is not heavier at the end of its body than at the start
 pub never_heavier : (get_return : GetReturn) (plan : Plan) (v : Vector) (weight : ℕ → ℕ) (body : List Action) → IsValidBody plan body → BodyLaws get_return plan v weight body → NoneGains get_return plan v body → weight (length body) ≤ weight 0
-never_heavier get_return plan v weight body valid laws gains = omega (arith, lost_so_far get_return plan v weight body (length body) valid laws gains (omega arith))
+never_heavier get_return plan v weight body valid laws gains = omega (arith, lost_in_prefix get_return plan v weight body (length body) valid laws gains (omega arith))
 
 -- a submit with a positive cost makes its actor lighter at the end of the body than at the start
 lost_by : (get_return : GetReturn) (plan : Plan) (v : Vector) (weight : ℕ → ℕ) (body : List Action) (i k : ℕ) → IsValidBody plan body → BodyLaws get_return plan v weight body → NoneGains get_return plan v body → slice_get body i ≡ Some (Submit k)
@@ -221,7 +221,7 @@ lost_by : (get_return : GetReturn) (plan : Plan) (v : Vector) (weight : ℕ → 
 lost_by get_return plan v weight body i k valid laws gains is_submit costs =
     let costs_at : cost_at get_return plan v body (length body) i ≡ price get_return plan v k (got_before body (length body) i) = ap (cost get_return plan v (got_before body (length body) i)) is_submit in
     let counted = term-le-sum (cost_at get_return plan v body (length body)) (length body) i (slice_get_within body i _ is_submit) in
-    omega (arith, costs, costs_at, counted, lost_so_far get_return plan v weight body (length body) valid laws gains (omega arith))
+    omega (arith, costs, costs_at, counted, lost_in_prefix get_return plan v weight body (length body) valid laws gains (omega arith))
 
 -- a submit that is never got, of a class whose jobs have weight, makes its actor lighter at the end of the body
 pub lost_without_get : (get_return : GetReturn) (plan : Plan) (v : Vector) (weight : ℕ → ℕ) (body : List Action) (i k : ℕ) → IsValidBody plan body → BodyLaws get_return plan v weight body → NoneGains get_return plan v body → slice_get body i ≡ Some (Submit k)

@@ -14,13 +14,13 @@ use Rattle.sizing_cli.specs.Laws.{IsWholeLines}
 use Rattle.sizing_cli.proofs.LastSeparator.{starts}
 
 -- no line that begins after this prefix of the input is `%%`, wherever in a line the prefix ends
-pub record AreSeenBehind (input front : List ℕ) : Type 0 where
+pub record HasNoLaterSeparator (input front : List ℕ) : Type 0 where
   pub behind : List ℕ
   pub whole : input ≡ front ++ behind
   pub none : (at_line : Bool) → split_from at_line behind ≡ None
 
 -- no line that begins after this prefix of the input, which ends within a line, is `%%`
-pub record IsSeenBehind (input front : List ℕ) : Type 0 where
+pub record HasNoLaterSeparatorInLine (input front : List ℕ) : Type 0 where
   pub behind : List ℕ
   pub whole : input ≡ front ++ behind
   pub none : split_from false behind ≡ None
@@ -57,7 +57,7 @@ none_without at_line (b ∷ front) behind other none =
     ap₂ (later_or b) (none_without (b == 10) front behind (All-tail (λ b. (b == 37) ≡ false) b front other) none) (none_here at_line b (front ++ behind) (All-head (λ b. (b == 37) ≡ false) b front other))
 
 -- before the first step
-pub seen_nothing : (input : List ℕ) → AreSeenBehind input input
+pub seen_nothing : (input : List ℕ) → HasNoLaterSeparator input input
 seen_nothing input = record { behind = []; whole = sym (append-nil input); none = λ at_line. none_of_nothing at_line }
   where
     none_of_nothing : (at_line : Bool) → split_from at_line [] ≡ None
@@ -71,11 +71,11 @@ others_behind front start none = λ k d inside.
     false_from_ne_true _ (λ same. none (start + k) (omega arith) within (ap (λ b. b == 37) (get_or_default front (start + k) 0 d within ∙ sym (get_or-drop start front k d)) ∙ same))
 
 -- the prefix contains no `%`
-pub none_in_front : (input front : List ℕ) → IsLastByte (is_byte 37) front None → AreSeenBehind input front → None ≡ bundle_of input
+pub none_in_front : (input front : List ℕ) → IsLastByte (is_byte 37) front None → HasNoLaterSeparator input front → None ≡ bundle_of input
 none_in_front input front last seen = sym (ap bundle_of seen.whole ∙ none_without true front seen.behind (others_behind front 0 last) seen.none)
 
 -- the prefix before its last `%`
-pub seen_behind_last : (input front : List ℕ) (place : ℕ) → IsLastByte (is_byte 37) front (Some place) → AreSeenBehind input front → IsSeenBehind input (take place front)
+pub seen_behind_last : (input front : List ℕ) (place : ℕ) → IsLastByte (is_byte 37) front (Some place) → HasNoLaterSeparator input front → HasNoLaterSeparatorInLine input (take place front)
 seen_behind_last input front place last seen =
     let rest : List ℕ = drop (place + 1) front in
     let here : slice_index front place ≡ 37 = eqb-true _ 37 last.1 in
@@ -105,7 +105,7 @@ whole_lines_before front (suc n) inside newline =
     inr (take n front, take-suc front n 0 inside ∙ ap (λ b. take n front ++ b ∷ []) newline_there)
 
 -- the input is cut where the last line of the prefix begins
-pub cut_at_line : (input front plan rest : List ℕ) (start : ℕ) → start ≤ length front → IsAfterLastMatch (λ b. b == 10) front start → IsSeenBehind input front
+pub cut_at_line : (input front plan rest : List ℕ) (start : ℕ) → start ≤ length front → IsAfterLastMatch (λ b. b == 10) front start → HasNoLaterSeparatorInLine input front
     → plan ≡ take start input → rest ≡ drop start input → IsCutAtLine input plan rest
 cut_at_line input front plan rest start within last seen plan_is rest_is =
     let line : List ℕ = drop start front in
@@ -153,7 +153,7 @@ module _ (input plan rest : List ℕ) (cut : IsCutAtLine input plan rest) where
       sym (ap bundle_of cut.whole ∙ ap (λ l. bundle_of (l ++ rest)) empty ∙ split_at_line rest cut.none ∙ ap bundle_here (sym none))
 
   -- the line is not `%%`, and follows this prefix and its newline
-  pub seen_further : (front : List ℕ) → None ≡ after_separator rest → plan ≡ front ++ 10 ∷ [] → AreSeenBehind input front
+  pub seen_further : (front : List ℕ) → None ≡ after_separator rest → plan ≡ front ++ 10 ∷ [] → HasNoLaterSeparator input front
   seen_further front none plan_is = record {
     behind = 10 ∷ rest;
     whole = cut.whole ∙ ap (λ l. l ++ rest) plan_is ∙ append_assoc front (10 ∷ []) rest;

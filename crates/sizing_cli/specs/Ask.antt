@@ -30,7 +30,7 @@ use Rattle.report.specs.declared.finding.PlanFinding.{PlanFinding}
 use Rattle.report.specs.declared.finding.PlanFinding.TheVariants.{Safe, NotSafe, NotDecided}
 use Rattle.report.specs.Finding.{IsFinding}
 use Rattle.report.specs.Places.{needed_places}
-use Rattle.report.specs.AnswerText.{Tells}
+use Rattle.report.specs.AnswerText.{ReportsAnswer}
 use Rattle.report.specs.Json as json
 use Rattle.report.specs.Page as page
 use Rattle.report.specs.Github as github
@@ -64,13 +64,13 @@ source_of file text = record { file = file; text = text }
 
 -- The text reports the faults of a plan's text in this output format. The format `Dot` cannot show faults, so the text is then
 -- the same as for `Words`.
-abbrev pub TellsFaultsIn : Form → PlanSource → Faults → List ℕ → Type 0
-TellsFaultsIn Words source faults text = text ≡ faults_text source.file faults
-TellsFaultsIn Json source faults text = json.TellsFaults source.file source.text faults text
-TellsFaultsIn Dot source faults text = text ≡ faults_text source.file faults
-TellsFaultsIn Html source faults text = page.TellsFaults source.file source.text faults text
-TellsFaultsIn Github source faults text = text ≡ github.github_text source.file (fault_remarks faults)
-TellsFaultsIn Sarif source faults text = IsLineOf (sarif.sarif_data source.file (fault_remarks faults)) text
+abbrev pub ReportsFaultsIn : Form → PlanSource → Faults → List ℕ → Type 0
+ReportsFaultsIn Words source faults text = text ≡ faults_text source.file faults
+ReportsFaultsIn Json source faults text = json.ReportsFaults source.file source.text faults text
+ReportsFaultsIn Dot source faults text = text ≡ faults_text source.file faults
+ReportsFaultsIn Html source faults text = page.ReportsFaults source.file source.text faults text
+ReportsFaultsIn Github source faults text = text ≡ github.github_text source.file (fault_remarks faults)
+ReportsFaultsIn Sarif source faults text = IsLineOf (sarif.sarif_data source.file (fault_remarks faults)) text
 
 -- The answer reports the faults of a plan's text, of which `fault` is the first. It reports at most 100 faults, and the message
 -- of each is one line. It omits faults only if it reports 100.
@@ -80,7 +80,7 @@ pub record AnswersFault (form : Form) (source : PlanSource) (fault : PlanFault) 
   pub single_lines : HaveSingleLines faults
   pub within : length faults.others.items ≤ 99
   pub full : 0 < faults.omitted → length faults.others.items ≡ 99
-  pub tells : TellsFaultsIn form source faults answer.text
+  pub tells : ReportsFaultsIn form source faults answer.text
   pub status : answer.status ≡ BadText
 
 -- the end of a message: the fault number, and a newline
@@ -88,19 +88,19 @@ abbrev pub fault_number : ℕ → List ℕ
 fault_number number = codes " (fault " ++ (decimal number ++ (codes ")" ++ 10 ∷ []))
 
 -- the text reports the fault of a certificate with this number and this message, in this output format
-abbrev pub TellsCertFaultIn : Form → PlanSource → ℕ → List ℕ → List ℕ → Type 0
-TellsCertFaultIn Words source number words text = text ≡ words ++ fault_number number
-TellsCertFaultIn Json source number words text = json.TellsFault source.file source.text number words text
-TellsCertFaultIn Dot source number words text = text ≡ words ++ fault_number number
-TellsCertFaultIn Html source number words text = page.TellsFault source.file source.text number words text
-TellsCertFaultIn Github source number words text = text ≡ github.github_text source.file (single_fault number words)
-TellsCertFaultIn Sarif source number words text = IsLineOf (sarif.sarif_data source.file (single_fault number words)) text
+abbrev pub ReportsCertFaultIn : Form → PlanSource → ℕ → List ℕ → List ℕ → Type 0
+ReportsCertFaultIn Words source number words text = text ≡ words ++ fault_number number
+ReportsCertFaultIn Json source number words text = json.ReportsFault source.file source.text number words text
+ReportsCertFaultIn Dot source number words text = text ≡ words ++ fault_number number
+ReportsCertFaultIn Html source number words text = page.ReportsFault source.file source.text number words text
+ReportsCertFaultIn Github source number words text = text ≡ github.github_text source.file (single_fault number words)
+ReportsCertFaultIn Sarif source number words text = IsLineOf (sarif.sarif_data source.file (single_fault number words)) text
 
 -- the answer reports a fault of a certificate, and the message of the fault is one line
 pub record AnswersCertFault (form : Form) (source : PlanSource) (fault : CertFault) (answer : Answer) : Type 0 where
   pub words : List ℕ
   pub single_line : HasNoNewline words
-  pub tells : TellsCertFaultIn form source fault.number words answer.text
+  pub tells : ReportsCertFaultIn form source fault.number words answer.text
   pub status : answer.status ≡ BadText
 
 -- ---- answers
@@ -173,9 +173,9 @@ pub record AreWarnings (plan : Plan) (finding : PlanFinding) (lowered : Option L
   pub circles : All (IsWarningOf plan) warnings
 
 -- the text reports the warnings, under the file's name, and then the finding
-pub record TellsFinding (file : Text) (plan : Plan) (warnings : List Warning) (finding : PlanFinding) (text : List ℕ) : Type 0 where
+pub record ReportsFinding (file : Text) (plan : Plan) (warnings : List Warning) (finding : PlanFinding) (text : List ℕ) : Type 0 where
   pub words : List ℕ
-  pub tells : Tells plan finding words
+  pub tells : ReportsAnswer plan finding words
   pub text_is : text ≡ warnings_text file warnings ++ words
 
 -- there are places of the plan's entries in its text for which `Holds` is true
@@ -185,19 +185,19 @@ pub record WithPlaces (plan : Plan) (Holds : PlanPlaces → Type 0) : Type 0 whe
   pub holds : Holds places
 
 -- the text reports the finding in this output format; for each format except `Dot`, it also reports the warnings
-abbrev pub TellsFindingIn : Form → PlanSource → Plan → List Warning → PlanFinding → List ℕ → Type 0
-TellsFindingIn Words source plan warnings finding text = TellsFinding source.file plan warnings finding text
-TellsFindingIn Json source plan warnings finding text = WithPlaces plan (λ places. json.TellsFinding source.file source.text places plan finding warnings text)
-TellsFindingIn Dot source plan warnings finding text = text ≡ picture_text plan finding
-TellsFindingIn Html source plan warnings finding text = WithPlaces plan (λ places. page.TellsFinding source.file source.text places plan finding warnings text)
-TellsFindingIn Github source plan warnings finding text = WithPlaces plan (λ places. github.TellsFinding source.file places plan finding warnings text)
-TellsFindingIn Sarif source plan warnings finding text = WithPlaces plan (λ places. sarif.TellsFinding source.file places plan finding warnings text)
+abbrev pub ReportsFindingIn : Form → PlanSource → Plan → List Warning → PlanFinding → List ℕ → Type 0
+ReportsFindingIn Words source plan warnings finding text = ReportsFinding source.file plan warnings finding text
+ReportsFindingIn Json source plan warnings finding text = WithPlaces plan (λ places. json.ReportsFinding source.file source.text places plan finding warnings text)
+ReportsFindingIn Dot source plan warnings finding text = text ≡ picture_text plan finding
+ReportsFindingIn Html source plan warnings finding text = WithPlaces plan (λ places. page.ReportsFinding source.file source.text places plan finding warnings text)
+ReportsFindingIn Github source plan warnings finding text = WithPlaces plan (λ places. github.ReportsFinding source.file places plan finding warnings text)
+ReportsFindingIn Sarif source plan warnings finding text = WithPlaces plan (λ places. sarif.ReportsFinding source.file places plan finding warnings text)
 
 -- The answer reports the finding and the warnings. Its status follows from both (`status_of`).
 pub record AnswersFinding (options : AskOptions) (source : PlanSource) (plan : Plan) (finding : PlanFinding) (lowered : Option LoweredPlan) (stale : Bool) (answer : Answer) : Type 0 where
   pub warnings : List Warning
   pub are_warnings : AreWarnings plan finding lowered stale warnings
-  pub tells : TellsFindingIn options.form source plan warnings finding answer.text
+  pub tells : ReportsFindingIn options.form source plan warnings finding answer.text
   pub status : answer.status ≡ status_of options.strict warnings finding
 
 -- ---- the certificate that an answer leaves

@@ -81,8 +81,8 @@ abbrev pub IsNamed : Option Text × Option Text → Text → Type 0
 IsNamed (first, second) name = (file_named first ≡ Some name) ⊎ (file_named second ≡ Some name)
 
 -- there are two texts, and one of them has this name in messages
-abbrev pub IsToldAs : Option Text × Option Text → Text → Type 0
-IsToldAs (first, second) name = (is_some second ≡ true) × ((name ≡ name_or_none (file_named first)) ⊎ (name ≡ name_or_none (file_named second)))
+abbrev pub IsNamedAs : Option Text × Option Text → Text → Type 0
+IsNamedAs (first, second) name = (is_some second ≡ true) × ((name ≡ name_or_none (file_named first)) ⊎ (name ≡ name_or_none (file_named second)))
 
 -- whether the fault with this number means that reading failed or that memory ran out
 abbrev pub is_of_reading : ℕ → Bool
@@ -119,7 +119,7 @@ abbrev pub IsOfTexts : Command → Option Text × Option Text → CliError → T
 IsOfTexts command files (Words error) = ⊥
 IsOfTexts command files NoCommand = ⊥
 IsOfTexts command files InputTwice = IsTwice files
-IsOfTexts command files (Bundle name) = IsToldAs files name.now
+IsOfTexts command files (Bundle name) = IsNamedAs files name.now
 IsOfTexts command files (Unread name) = IsNamed files name.now
 IsOfTexts command files CertificateNeedsFile = ⊥
 IsOfTexts command files (Directory name) = ⊥

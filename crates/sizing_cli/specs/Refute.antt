@@ -61,7 +61,7 @@ events_too_long = record { text = codes "no bundle: too many events" ++ 10 ∷ [
 -- ---- the witness
 
 -- the answer reports the witness: how it ends, and then its story
-pub record TellsWitness (plan : Plan) (witness : Witness) (answer : Answer) : Type 0 where
+pub record ReportsWitness (plan : Plan) (witness : Witness) (answer : Answer) : Type 0 where
   pub reported : IsDescription plan witness answer.text
   pub status : answer.status ≡ Refused
 
@@ -77,7 +77,7 @@ pub record BundlesWitness (text : List ℕ) (plan : Plan) (witness : Witness) (a
   pub status : answer.status ≡ Done
 
 abbrev pub ShowsWitness : RefuteFormat → List ℕ → Plan → Witness → Answer → Type 0
-ShowsWitness Story text plan witness answer = TellsWitness plan witness answer
+ShowsWitness Story text plan witness answer = ReportsWitness plan witness answer
 ShowsWitness Bundle text plan witness answer =
     ((answer ≡ events_too_long) × (MAX_EVENT_BYTES < length (event_lines_of plan witness))) ⊎ BundlesWitness text plan witness answer
 

@@ -45,7 +45,7 @@ fn faults_text(
     faults: &Faults,
 ) -> Result<String, AllocError>
     ensures { IfOk result (λ answer.
-        spec.TellsFaultsIn form (spec.source_of file.now text.now) faults.now (string_bytes answer)) }
+        spec.ReportsFaultsIn form (spec.source_of file.now text.now) faults.now (string_bytes answer)) }
 {
     match form {
         Form::Words | Form::Dot => faults_lines(alloc, file, faults),
@@ -101,7 +101,7 @@ fn cert_fault_text(
     words: &str,
 ) -> Result<String, AllocError>
     ensures { IfOk result (λ answer.
-        spec.TellsCertFaultIn form (spec.source_of file.now text.now) number words.now (string_bytes answer)) }
+        spec.ReportsCertFaultIn form (spec.source_of file.now text.now) number words.now (string_bytes answer)) }
 {
     match form {
         Form::Words | Form::Dot => numbered(alloc, words, number),

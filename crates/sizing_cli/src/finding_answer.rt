@@ -220,7 +220,7 @@ fn text_of(
     warnings: &[Warning],
 ) -> Result<String, AllocError>
     ensures { IfOk result (λ answer.
-        spec.TellsFindingIn form (spec.source_of file.now text.now) plan.now warnings.now finding.now
+        spec.ReportsFindingIn form (spec.source_of file.now text.now) plan.now warnings.now finding.now
         (string_bytes answer)) }
 {
     match form {
@@ -242,7 +242,7 @@ fn json_of(
     warnings: &[Warning],
 ) -> Result<String, AllocError>
     ensures { IfOk result (λ answer.
-        spec.TellsFindingIn forms.Json (spec.source_of file.now text.now) plan.now warnings.now finding.now
+        spec.ReportsFindingIn forms.Json (spec.source_of file.now text.now) plan.now warnings.now finding.now
         (string_bytes answer)) }
 {
     let places = plan_places(alloc, text, plan)?;
@@ -259,7 +259,7 @@ fn page_of(
     warnings: &[Warning],
 ) -> Result<String, AllocError>
     ensures { IfOk result (λ answer.
-        spec.TellsFindingIn forms.Html (spec.source_of file.now text.now) plan.now warnings.now finding.now
+        spec.ReportsFindingIn forms.Html (spec.source_of file.now text.now) plan.now warnings.now finding.now
         (string_bytes answer)) }
 {
     let places = plan_places(alloc, text, plan)?;
@@ -276,7 +276,7 @@ fn commands_of(
     warnings: &[Warning],
 ) -> Result<String, AllocError>
     ensures { IfOk result (λ answer.
-        spec.TellsFindingIn forms.Github (spec.source_of file.now text.now) plan.now warnings.now finding.now
+        spec.ReportsFindingIn forms.Github (spec.source_of file.now text.now) plan.now warnings.now finding.now
         (string_bytes answer)) }
 {
     let places = plan_places(alloc, text, plan)?;
@@ -293,7 +293,7 @@ fn log_of(
     warnings: &[Warning],
 ) -> Result<String, AllocError>
     ensures { IfOk result (λ answer.
-        spec.TellsFindingIn forms.Sarif (spec.source_of file.now text.now) plan.now warnings.now finding.now
+        spec.ReportsFindingIn forms.Sarif (spec.source_of file.now text.now) plan.now warnings.now finding.now
         (string_bytes answer)) }
 {
     let places = plan_places(alloc, text, plan)?;
@@ -309,7 +309,7 @@ fn words_of(
     warnings: &[Warning],
 ) -> Result<String, AllocError>
     ensures { IfOk result
-        (λ text. spec.TellsFinding file.now plan.now warnings.now finding.now (string_bytes text)) }
+        (λ text. spec.ReportsFinding file.now plan.now warnings.now finding.now (string_bytes text)) }
 {
     let words = render(alloc, plan, finding)?;
     let mut text = String::new(alloc);

@@ -127,7 +127,7 @@ fn show(
 }
 
 fn story(alloc: Global, plan: &Plan, witness: &Witness) -> Result<Answer, AllocError>
-    ensures { IfOk result (spec.TellsWitness plan.now witness.now) }
+    ensures { IfOk result (spec.ReportsWitness plan.now witness.now) }
 {
     let text = describe(alloc, plan, witness)?;
     Ok(Answer {

@@ -25,7 +25,7 @@ use Rattle.soundness.proofs.Draining.{lowers, ends_thread, no_client_cases, not_
 use Rattle.soundness.specs.Execute.{Call, JavaState, JavaEvent, is_calling, without_calls_of}
 use Rattle.soundness.specs.JavaSafe.{is_java_job_or_take, is_of_no_java_client}
 use Rattle.soundness.proofs.JavaEvents.{JavaHappens, is_atomic, ends, finds_core, finds_full, finds_all, is_enough, starts_spare}
-use Rattle.soundness.proofs.JobCalls.{StandsBefore, stands_before, JobCalls}
+use Rattle.soundness.proofs.JobCalls.{IsAtSubmitTo, is_at_submit_to, JobCalls}
 use Rattle.soundness.proofs.CompletedSteps.{has_call, steps_done, mark, steps_done-le, mark-le, mark-le_two, has_call_to, others_have_call, more_has_call, new_has_call, by_place, by_place-longer, by_place-more, by_place-but_one, sum_of_elements}
 
 -- ---- the jobs of a state
@@ -68,7 +68,7 @@ calls_done-more s s' n inside same here others =
     (λ i. ⊎_elim (λ (own : i ≡ n). subst (λ (x : ℕ). mark s x ≤ mark s' x) (sym own) (omega arith)) (λ other. others i other) (cases_eq i n)))
 
 -- a job is at a submit to one pool only
-pub one_pool : (plan : Plan) (job : CreatedJob) (p q : ℕ) → StandsBefore plan job p → StandsBefore plan job q → p ≡ q
+pub one_pool : (plan : Plan) (job : CreatedJob) (p q : ℕ) → IsAtSubmitTo plan job p → IsAtSubmitTo plan job q → p ≡ q
 one_pool plan job p q first second =
     let stages : Stage.At first.position ≡ Stage.At second.position = sym first.stage ∙ second.stage in
     let place : first.position ≡ second.position = cc in
@@ -77,7 +77,7 @@ one_pool plan job p q first second =
     first.to_pool ∙ ap (pool_of plan) class ∙ sym second.to_pool
 
 -- if a job is at a submit to a pool and has no call to that pool in the list, it has no call in the list
-has_no_call : (plan : Plan) (job : CreatedJob) (n p : ℕ) (calls : List Call) → ((q : ℕ) → is_calling calls (parent.Job n) q ≡ true → StandsBefore plan job q) → StandsBefore plan job p → is_calling calls (parent.Job n) p ≡ false → has_call calls n ≡ false
+has_no_call : (plan : Plan) (job : CreatedJob) (n p : ℕ) (calls : List Call) → ((q : ℕ) → is_calling calls (parent.Job n) q ≡ true → IsAtSubmitTo plan job q) → IsAtSubmitTo plan job p → is_calling calls (parent.Job n) p ≡ false → has_call calls n ≡ false
 has_no_call plan job n p calls each here not_calling =
     false_from_ne_true (has_call calls n)
     (λ has_this_call.
@@ -93,7 +93,7 @@ core_found plan s n body i k calls at not_requesting not_offering =
     let job = job_at s.machine n in
     let call : Call = record { actor = parent.Job n; pool = p } in
     let after : JavaState = record s { offering = call ∷ s.offering } in
-    let here = stands_before plan s.machine n body i k at in
+    let here = is_at_submit_to plan s.machine n body i k at in
     let requests_thread = has_no_call plan job n p s.requesting (calls.requesting n) here not_requesting in
     let offers_job = has_no_call plan job n p s.offering (calls.offering n) here not_offering in
     let before_is : mark s n ≡ 0 = ap₂ steps_done requests_thread offers_job in
@@ -107,7 +107,7 @@ full_found plan s n body i k calls at not_requesting =
     let p = pool_of plan k in
     let call : Call = record { actor = parent.Job n; pool = p } in
     let after : JavaState = record s { offering = without_calls_of (parent.Job n) s.offering; requesting = call ∷ s.requesting } in
-    let requests_thread = has_no_call plan (job_at s.machine n) n p s.requesting (calls.requesting n) (stands_before plan s.machine n body i k at) not_requesting in
+    let requests_thread = has_no_call plan (job_at s.machine n) n p s.requesting (calls.requesting n) (is_at_submit_to plan s.machine n body i k at) not_requesting in
     let before_is : mark s n ≤ 1 = steps_done-le (has_call s.requesting n) (has_call s.offering n) false true (λ it. sym requests_thread ∙ it) (λ it. refl) in
     let after_is : mark after n ≡ 2 = ap (λ (b : Bool). steps_done b (has_call after.offering n)) (new_has_call n p s.requesting) in
     calls_done-more s after n (standing_made plan s.machine n body i at.stands) refl (omega arith)
@@ -168,7 +168,7 @@ costs_nothing plan ranks s s' e is_end (starts_spare p is_there below) = omega a
 -- ---- a job in a call has remaining work
 
 -- a job at a submit has remaining work
-todo_before_submit : (plan : Plan) (ranks : Ranks) (job : CreatedJob) (p : ℕ) → StandsBefore plan job p → 1 ≤ stage_todo plan ranks job.class job.stage
+todo_before_submit : (plan : Plan) (ranks : Ranks) (job : CreatedJob) (p : ℕ) → IsAtSubmitTo plan job p → 1 ≤ stage_todo plan ranks job.class job.stage
 todo_before_submit plan ranks job p before =
     let inside = slice_get_within (class_at plan job.class).body before.position (action.Submit before.submitted) before.submits in
     let todo_is = ap (stage_todo plan ranks job.class) before.stage in

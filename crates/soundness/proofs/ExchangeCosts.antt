@@ -9,15 +9,15 @@ use Rattle.written_machine.specs.State.{State, CreatedJob, job_at}
 use Rattle.soundness.specs.Drain.{stage_todo, todo}
 use Rattle.soundness.specs.Execute.{JavaState}
 use Rattle.soundness.specs.Exchange.{exchanged_job, after_exchange}
-use Rattle.soundness.proofs.JobCalls.{StandsBefore, JobCalls}
+use Rattle.soundness.proofs.JobCalls.{IsAtSubmitTo, JobCalls}
 use Rattle.soundness.proofs.CompletedSteps.{mark, by_place-longer}
 use Rattle.soundness.proofs.Costs.{calls_done}
 use Rattle.soundness.proofs.ExchangedJobs.{job_at-exchanged}
 
 -- a job at a submit is still at it after an exchange
-before_exchanged : (plan : Plan) (s : State) (a : Parent) (t u n p : ℕ) → StandsBefore plan (job_at s n) p → StandsBefore plan (job_at (after_exchange a t u s) n) p
+before_exchanged : (plan : Plan) (s : State) (a : Parent) (t u n p : ℕ) → IsAtSubmitTo plan (job_at s n) p → IsAtSubmitTo plan (job_at (after_exchange a t u s) n) p
 before_exchanged plan s a t u n p before =
-    subst (λ (job : CreatedJob). StandsBefore plan job p) (sym (job_at-exchanged s a t u n))
+    subst (λ (job : CreatedJob). IsAtSubmitTo plan job p) (sym (job_at-exchanged s a t u n))
     (record { position = before.position; submitted = before.submitted; stage = before.stage; submits = before.submits; to_pool = before.to_pool })
 
 pub job_calls_exchanged : (plan : Plan) (s : JavaState) (a : Parent) (t u : ℕ) → JobCalls plan s → JobCalls plan (record s { machine = after_exchange a t u s.machine })

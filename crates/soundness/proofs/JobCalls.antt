@@ -24,7 +24,7 @@ use Rattle.soundness.proofs.JavaEvents.{JavaHappens, is_atomic, ends, finds_core
 -- ---- jobs at a submit
 
 -- the job is running, and its next action is a submit to pool p
-pub record StandsBefore (plan : Plan) (job : CreatedJob) (p : ℕ) : Type 0 where
+pub record IsAtSubmitTo (plan : Plan) (job : CreatedJob) (p : ℕ) : Type 0 where
   pub position : ℕ
   pub submitted : ℕ
   pub stage : job.stage ≡ Stage.At position
@@ -32,13 +32,13 @@ pub record StandsBefore (plan : Plan) (job : CreatedJob) (p : ℕ) : Type 0 wher
   pub to_pool : p ≡ pool_of plan submitted
 
 -- a job at a submit of class k is at a submit to the pool of class k
-pub stands_before : (plan : Plan) (s : State) (n : ℕ) (body : List Action) (i k : ℕ) → IsAtAction plan s (parent.Job n) body i (Some (action.Submit k)) → StandsBefore plan (job_at s n) (pool_of plan k)
-stands_before plan s n body i k at =
+pub is_at_submit_to : (plan : Plan) (s : State) (n : ℕ) (body : List Action) (i k : ℕ) → IsAtAction plan s (parent.Job n) body i (Some (action.Submit k)) → IsAtSubmitTo plan (job_at s n) (pool_of plan k)
+is_at_submit_to plan s n body i k at =
     let was = stage_of_standing plan (job_at s n).class (job_at s n).stage body i at.stands in
     record { position = i; submitted = k; stage = was.0; submits = ap (λ (b : List Action). slice_get b i) (sym was.1) ∙ at.is_there; to_pool = refl }
 
 -- the next event of a job at a submit is a step of that submit
-submission_of_job : (plan : Plan) (s : State) (n p : ℕ) (before : StandsBefore plan (job_at s n) p) → submission plan s (event.Job n) ≡ Some (record { actor = parent.Job n; position = before.position; class = before.submitted })
+submission_of_job : (plan : Plan) (s : State) (n p : ℕ) (before : IsAtSubmitTo plan (job_at s n) p) → submission plan s (event.Job n) ≡ Some (record { actor = parent.Job n; position = before.position; class = before.submitted })
 submission_of_job plan s n p before =
     ap (λ (stage : Stage). submission_of (parent.Job n) (point_of_job plan (job_at s n).class stage)) before.stage ∙ ap (submission_at (parent.Job n) before.position) before.submits
 
@@ -75,18 +75,18 @@ leaves plan s s' o n i kept at other (takes p j queue idle is_queue is_idle) =
 leaves plan s s' o n i kept at other (retires p idle is_idle not_handed) = refl
 
 -- a job at a submit is still at it after every event except its own
-still_before : (plan : Plan) (s s' : State) (o : Outcome) (n p : ℕ) {e : Event} → StateInvariant plan s → e ≢ event.Job n → Happens plan s e s' o → StandsBefore plan (job_at s n) p → StandsBefore plan (job_at s' n) p
-still_before plan s s' o n p kept other happened before = subst (λ (job : CreatedJob). StandsBefore plan job p) (sym (leaves plan s s' o n before.position kept before.stage other happened)) before
+still_before : (plan : Plan) (s s' : State) (o : Outcome) (n p : ℕ) {e : Event} → StateInvariant plan s → e ≢ event.Job n → Happens plan s e s' o → IsAtSubmitTo plan (job_at s n) p → IsAtSubmitTo plan (job_at s' n) p
+still_before plan s s' o n p kept other happened before = subst (λ (job : CreatedJob). IsAtSubmitTo plan job p) (sym (leaves plan s s' o n before.position kept before.stage other happened)) before
 
 -- ---- the calls of jobs
 
 pub record JobCalls (plan : Plan) (s : JavaState) : Type 0 where
-  pub offering : (n p : ℕ) → is_calling s.offering (parent.Job n) p ≡ true → StandsBefore plan (job_at s.machine n) p
-  pub requesting : (n p : ℕ) → is_calling s.requesting (parent.Job n) p ≡ true → StandsBefore plan (job_at s.machine n) p
+  pub offering : (n p : ℕ) → is_calling s.offering (parent.Job n) p ≡ true → IsAtSubmitTo plan (job_at s.machine n) p
+  pub requesting : (n p : ℕ) → is_calling s.requesting (parent.Job n) p ≡ true → IsAtSubmitTo plan (job_at s.machine n) p
 
 -- for each call of a job in the list, the job is at a submit to the call's pool
 abbrev AreBefore : Plan → State → List Call → Type 0
-AreBefore plan s calls = (n p : ℕ) → is_calling calls (parent.Job n) p ≡ true → StandsBefore plan (job_at s n) p
+AreBefore plan s calls = (n p : ℕ) → is_calling calls (parent.Job n) p ≡ true → IsAtSubmitTo plan (job_at s n) p
 
 -- a state with no call in progress satisfies `JobCalls`
 pub job_calls_start : (plan : Plan) (s : State) → JobCalls plan (without_calls s)
@@ -117,8 +117,8 @@ before_more : (plan : Plan) (s : State) (a : Parent) (body : List Action) (i k :
 before_more plan s a body i k calls at before n p is_there =
     ⊎_elim
     (λ here.
-    let standing = stands_before plan s n body i k (subst (λ (b : Parent). IsAtAction plan s b body i (Some (action.Submit k))) (sym here.0) at) in
-    subst (StandsBefore plan (job_at s n)) (sym here.1) standing)
+    let standing = is_at_submit_to plan s n body i k (subst (λ (b : Parent). IsAtAction plan s b body i (Some (action.Submit k))) (sym here.0) at) in
+    subst (IsAtSubmitTo plan (job_at s n)) (sym here.1) standing)
     (λ earlier. before n p earlier)
     (one_more (record { actor = a; pool = pool_of plan k }) calls (parent.Job n) p is_there)
 

@@ -18,7 +18,7 @@ use Rattle.written_machine.proofs.Stages.{length-moved}
 use Rattle.soundness.specs.Drain.{todo}
 use Rattle.soundness.proofs.Draining.{lowers_skips, ends_thread}
 use Rattle.soundness.specs.Execute.{Call, JavaState, is_calling}
-use Rattle.soundness.proofs.JobCalls.{StandsBefore, stands_before, pushed_leaves, JobCalls}
+use Rattle.soundness.proofs.JobCalls.{IsAtSubmitTo, is_at_submit_to, pushed_leaves, JobCalls}
 use Rattle.soundness.proofs.CompletedSteps.{mark, by_place-longer}
 use Rattle.soundness.proofs.Costs.{one_pool, calls_done}
 use Rattle.soundness.proofs.Choices.{IsSkipped, leaves}
@@ -27,16 +27,16 @@ use Rattle.soundness.proofs.Choices.{IsSkipped, leaves}
 
 -- after an actor skips a submit that it has not begun, each job with a call is still at the submit of its call
 before_skipped : (plan : Plan) (s : State) (a : Parent) (body : List Action) (i k : ℕ) (calls : List Call) → IsAtAction plan s a body i (Some (action.Submit k)) → is_calling calls a (pool_of plan k) ≡ false
-    → ((n p : ℕ) → is_calling calls (parent.Job n) p ≡ true → StandsBefore plan (job_at s n) p) → (n p : ℕ) → is_calling calls (parent.Job n) p ≡ true → StandsBefore plan (job_at (skipped s a i k) n) p
+    → ((n p : ℕ) → is_calling calls (parent.Job n) p ≡ true → IsAtSubmitTo plan (job_at s n) p) → (n p : ℕ) → is_calling calls (parent.Job n) p ≡ true → IsAtSubmitTo plan (job_at (skipped s a i k) n) p
 before_skipped plan s a body i k calls at none before n p is_there =
     let standing = before n p is_there in
     let at_position = standing.stage in
     let other : a ≢ parent.Job n = λ own.
-    let here = stands_before plan s n body i k (subst (λ (b : Parent). IsAtAction plan s b body i (Some (action.Submit k))) own at) in
+    let here = is_at_submit_to plan s n body i k (subst (λ (b : Parent). IsAtAction plan s b body i (Some (action.Submit k))) own at) in
     let to_pool = one_pool plan (job_at s n) p (pool_of plan k) standing here in
     let calling : is_calling calls a (pool_of plan k) ≡ true = ap (λ (b : Parent). is_calling calls b (pool_of plan k)) own ∙ ap (is_calling calls (parent.Job n)) (sym to_pool) ∙ is_there in
     false≢true (sym none ∙ calling) in
-    subst (λ job. StandsBefore plan job p) (sym (pushed_leaves s a (i + 1) n (new_job k a i Stage.Done) (job_made s n (λ claimed. cc)) other)) standing
+    subst (λ job. IsAtSubmitTo plan job p) (sym (pushed_leaves s a (i + 1) n (new_job k a i Stage.Done) (job_made s n (λ claimed. cc)) other)) standing
 
 -- ---- the remaining work
 

@@ -11,17 +11,17 @@ use Rattle.support.specs.declared.read_error.ReadError.TheVariants.{Memory, Faul
 use Rattle.support.proofs.Loops.{drop_at}
 
 -- the first i elements gave the values ys, and the result for the other elements determines the result for the whole list
-pub record ReadSoFar {X Y F : Type 0} (reads : ℕ → X → Result Y (ReadError F) → Type 0) (xs : List X) (i : ℕ) (ys : List Y) : Type 0 where
+pub record ReadPrefix {X Y F : Type 0} (reads : ℕ → X → Result Y (ReadError F) → Type 0) (xs : List X) (i : ℕ) (ys : List Y) : Type 0 where
   pub gives : (rest : List Y) → AllReturned reads i (drop i xs) rest → AllReturned reads 0 xs (ys ++ rest)
   pub fails : (fault : F) → OneFailed reads i (drop i xs) fault → OneFailed reads 0 xs fault
 
--- `ReadSoFar` holds before the first element is read
-pub read_begins : {X Y F : Type 0} (reads : ℕ → X → Result Y (ReadError F) → Type 0) (xs : List X) → ReadSoFar reads xs 0 []
+-- `ReadPrefix` holds before the first element is read
+pub read_begins : {X Y F : Type 0} (reads : ℕ → X → Result Y (ReadError F) → Type 0) (xs : List X) → ReadPrefix reads xs 0 []
 read_begins reads xs = record { gives = λ rest h. h; fails = λ fault h. h }
 
--- `ReadSoFar` holds after one more element is read
+-- `ReadPrefix` holds after one more element is read
 pub read_continues : {X Y F : Type 0} (reads : ℕ → X → Result Y (ReadError F) → Type 0) (xs : List X) (i : ℕ) (ys : List Y) (x : X) (y : Y) → slice_get xs i ≡ Some x → reads i x (Ok y)
-    → ReadSoFar reads xs i ys → ReadSoFar reads xs (i + 1) (ys ++ y ∷ [])
+    → ReadPrefix reads xs i ys → ReadPrefix reads xs (i + 1) (ys ++ y ∷ [])
 read_continues reads xs i ys x y here gave prior =
     let later : drop i xs ≡ x ∷ drop (i + 1) xs = rw add-one (drop_at xs i x here) in
     record {
@@ -31,7 +31,7 @@ read_continues reads xs i ys x y here gave prior =
 
 -- the error of reading an element is the error of reading the list
 pub read_stops : {X Y F : Type 0} (error : ReadError F) (reads : ℕ → X → Result Y (ReadError F) → Type 0) (xs : List X) (i : ℕ) (ys : List Y) (x : X) → slice_get xs i ≡ Some x → reads i x (Err error)
-    → ReadSoFar reads xs i ys → EachReturned {Y = Y} reads xs (Err error)
+    → ReadPrefix reads xs i ys → EachReturned {Y = Y} reads xs (Err error)
 read_stops Memory reads xs i ys x here failed prior = tt
 read_stops (Fault fault) reads xs i ys x here failed prior =
     prior.fails fault (subst (λ (zs : List _). OneFailed reads i zs fault) (sym (drop_at xs i x here)) (inl failed))
@@ -43,7 +43,7 @@ none_left reads n [] (suc i) past = tt
 none_left reads n (x ∷ xs) zero past = absurd (omega (arith, past))
 none_left reads n (x ∷ xs) (suc i) past = none_left reads n xs i (omega (arith, past))
 
-pub read_ends : {X Y F : Type 0} (reads : ℕ → X → Result Y (ReadError F) → Type 0) (xs : List X) (i : ℕ) (ys : List Y) → length xs ≤ i → ReadSoFar reads xs i ys → AllReturned reads 0 xs ys
+pub read_ends : {X Y F : Type 0} (reads : ℕ → X → Result Y (ReadError F) → Type 0) (xs : List X) (i : ℕ) (ys : List Y) → length xs ≤ i → ReadPrefix reads xs i ys → AllReturned reads 0 xs ys
 read_ends reads xs i ys past prior = subst (λ (zs : List _). AllReturned reads 0 xs zs) (append-nil ys) (prior.gives [] (none_left reads i xs i past))
 
 -- ---- calls that return what a definition gives

@@ -89,26 +89,26 @@ KeepsThreads plan s p e s' o (retires q idle is_idle not_handed) = q ≡ p → H
 KeepsThreads plan s p e s' o _ = ⊤
 
 -- an event of the machine, which keeps enough threads in each pool
-pub record Stepped (plan : Plan) (s : State) (e : Event) (s' : State) (o : Outcome) : Type 0 where
+pub record MachineStep (plan : Plan) (s : State) (e : Event) (s' : State) (o : Outcome) : Type 0 where
   pub happened : Happens plan s e s' o
   pub keeps : (p : ℕ) → KeepsThreads plan s p e s' o happened
 
 -- ---- every step satisfies the relation
 
-same_outcome : (plan : Plan) (s : State) (e : Event) (x : State × Outcome) (s' : State) (o : Outcome) → Some x ≡ Some (s', o) → Stepped plan s e x.0 x.1 → Stepped plan s e s' o
-same_outcome plan s e x s' o same stepped = subst (λ (y : State × Outcome). Stepped plan s e y.0 y.1) (same_Some x (s', o) same) stepped
+same_outcome : (plan : Plan) (s : State) (e : Event) (x : State × Outcome) (s' : State) (o : Outcome) → Some x ≡ Some (s', o) → MachineStep plan s e x.0 x.1 → MachineStep plan s e s' o
+same_outcome plan s e x s' o same stepped = subst (λ (y : State × Outcome). MachineStep plan s e y.0 y.1) (same_Some x (s', o) same) stepped
 
 -- a submit to a pool without room and with its maximum of threads satisfies the relation, whether or not the pool may reject jobs
 full_happens : (plan : Plan) (s : State) (a : Parent) (body : List Action) (i k : ℕ) → IsAtAction plan s a body i (Some (action.Submit k))
     → HasNoRoom plan s (pool_of plan k) → (pool_at plan (pool_of plan k)).max ≤ threads plan s (pool_of plan k)
     → (may : Bool) → (pool_at plan (pool_of plan k)).may_reject ≡ may
-    → let x : State × Outcome = cond may (skipped s a i k, outcome.Rejected (pool_of plan k) (length s.jobs)) (record s { refusals = s.refusals + 1 }, outcome.Refused (pool_of plan k)) in Stepped plan s (event_of a) x.0 x.1
+    → let x : State × Outcome = cond may (skipped s a i k, outcome.Rejected (pool_of plan k) (length s.jobs)) (record s { refusals = s.refusals + 1 }, outcome.Refused (pool_of plan k)) in MachineStep plan s (event_of a) x.0 x.1
 full_happens plan s a body i k at no_room all_started true may = record { happened = is_rejected a body i k at may; keeps = λ p. tt }
 full_happens plan s a body i k at no_room all_started false may = record { happened = is_refused a body i k at may no_room all_started; keeps = λ p. tt }
 
 -- a submit satisfies the relation, for each answer of the pool
 answered_happens : (plan : Plan) (s : State) (a : Parent) (body : List Action) (i k : ℕ) → IsAtAction plan s a body i (Some (action.Submit k)) → (given : Offer) → answer (pool_seen plan s (pool_of plan k)) ≡ given
-    → Stepped plan s (event_of a) (answered plan s a i k given).0 (answered plan s a i k given).1
+    → MachineStep plan s (event_of a) (answered plan s a i k given).0 (answered plan s a i k given).1
 answered_happens plan s a body i k at offer.Started e = record { happened = starts a body i k at (⊎_elim inr inl (started_below (pool_seen plan s (pool_of plan k)) e)); keeps = λ p. tt }
 answered_happens plan s a body i k at offer.Queued e =
     let room = queued_at_core (pool_seen plan s (pool_of plan k)) e in
@@ -118,26 +118,26 @@ answered_happens plan s a body i k at offer.Refused e =
     full_happens plan s a body i k at (full.0, full.1) full.2 (pool_at plan (pool_of plan k)).may_reject refl
 
 got_happens : (plan : Plan) (s : State) (a : Parent) (body : List Action) (i t j : ℕ) → IsAtAction plan s a body i (Some (action.Get t)) → child s a t ≡ Some j → (stage : Stage) → (job_at s j).stage ≡ stage
-    → (s' : State) (o : Outcome) → got s a i j stage ≡ Some (s', o) → Stepped plan s (event_of a) s' o
+    → (s' : State) (o : Outcome) → got s a i j stage ≡ Some (s', o) → MachineStep plan s (event_of a) s' o
 got_happens plan s a body i t j at is_child Stage.Done done s' o e = same_outcome plan s (event_of a) _ s' o e (record { happened = gets a body i t j at is_child done; keeps = λ p. tt })
 got_happens plan s a body i t j at is_child Stage.Queued done s' o e = absurd (none-some (s', o) e)
 got_happens plan s a body i t j at is_child (Stage.At n) done s' o e = absurd (none-some (s', o) e)
 got_happens plan s a body i t j at is_child Stage.Claimed done s' o e = absurd (none-some (s', o) e)
 
 got_child_happens : (plan : Plan) (s : State) (a : Parent) (body : List Action) (i t : ℕ) → IsAtAction plan s a body i (Some (action.Get t)) → (found : Option ℕ) → child s a t ≡ found
-    → (s' : State) (o : Outcome) → got_child s a i found ≡ Some (s', o) → Stepped plan s (event_of a) s' o
+    → (s' : State) (o : Outcome) → got_child s a i found ≡ Some (s', o) → MachineStep plan s (event_of a) s' o
 got_child_happens plan s a body i t at None is_child s' o e = absurd (none-some (s', o) e)
 got_child_happens plan s a body i t at (Some j) is_child s' o e = got_happens plan s a body i t j at is_child (job_at s j).stage refl s' o e
 
 looped_happens : (plan : Plan) (s : State) (c : ℕ) (body : List Action) (i : ℕ) → IsAtAction plan s (parent.Client c) body i None → (found : Option ClientState) → slice_get s.clients c ≡ found
-    → (s' : State) (o : Outcome) → looped plan s c found ≡ Some (s', o) → Stepped plan s (event.Client c) s' o
+    → (s' : State) (o : Outcome) → looped plan s c found ≡ Some (s', o) → MachineStep plan s (event.Client c) s' o
 looped_happens plan s c body i at None is_client s' o e = absurd (none-some (s', o) e)
 looped_happens plan s c body i at (Some client) is_client s' o e =
     let looped = cond_some (client_at plan client.kind).repeat (with_position (parent.Client c) 0 s, outcome.Looped) (s', o) e in
-    subst (λ (y : State × Outcome). Stepped plan s (event.Client c) y.0 y.1) looped.1 (record { happened = loops c client body i at is_client looped.0; keeps = λ p. tt })
+    subst (λ (y : State × Outcome). MachineStep plan s (event.Client c) y.0 y.1) looped.1 (record { happened = loops c client body i at is_client looped.0; keeps = λ p. tt })
 
 step_action_happens : (plan : Plan) (s : State) (a : Parent) (body : List Action) (i : ℕ) (there : Option Action) → IsAtAction plan s a body i there
-    → (s' : State) (o : Outcome) → step_action plan s a i there ≡ Some (s', o) → Stepped plan s (event_of a) s' o
+    → (s' : State) (o : Outcome) → step_action plan s a i there ≡ Some (s', o) → MachineStep plan s (event_of a) s' o
 step_action_happens plan s (parent.Client c) body i None at s' o e = looped_happens plan s c body i at (slice_get s.clients c) refl s' o e
 step_action_happens plan s (parent.Job j) body i None at s' o e = same_outcome plan s (event.Job j) _ s' o e (record { happened = finishes j body i at; keeps = λ p. tt })
 step_action_happens plan s a body i (Some (action.Work u)) at s' o e = same_outcome plan s (event_of a) _ s' o e (record { happened = works a body i u at; keeps = λ p. tt })
@@ -145,25 +145,25 @@ step_action_happens plan s a body i (Some (action.Submit k)) at s' o e =
     same_outcome plan s (event_of a) _ s' o e (answered_happens plan s a body i k at (answer (pool_seen plan s (pool_of plan k))) refl)
 step_action_happens plan s a body i (Some (action.Get t)) at s' o e = got_child_happens plan s a body i t at (child s a t) refl s' o e
 
-step_at_point_happens : (plan : Plan) (s : State) (a : Parent) (found : Option Point) → point plan s a ≡ found → (s' : State) (o : Outcome) → step_at_point plan s a found ≡ Some (s', o) → Stepped plan s (event_of a) s' o
+step_at_point_happens : (plan : Plan) (s : State) (a : Parent) (found : Option Point) → point plan s a ≡ found → (s' : State) (o : Outcome) → step_at_point plan s a found ≡ Some (s', o) → MachineStep plan s (event_of a) s' o
 step_at_point_happens plan s a None stands s' o e = absurd (none-some (s', o) e)
 step_at_point_happens plan s a (Some at) stands s' o e = step_action_happens plan s a at.body at.position (slice_get at.body at.position) (record { stands = stands; is_there = refl }) s' o e
 
-take_head_happens : (plan : Plan) (s : State) (p : ℕ) (found : Option (ℕ × PoolView)) → taken (pool_seen plan s p) ≡ found → (s' : State) (o : Outcome) → take_head s p found ≡ Some (s', o) → Stepped plan s (event.Take p) s' o
+take_head_happens : (plan : Plan) (s : State) (p : ℕ) (found : Option (ℕ × PoolView)) → taken (pool_seen plan s p) ≡ found → (s' : State) (o : Outcome) → take_head s p found ≡ Some (s', o) → MachineStep plan s (event.Take p) s' o
 take_head_happens plan s p None is_taken s' o e = absurd (none-some (s', o) e)
 take_head_happens plan s p (Some (j, after)) is_taken s' o e =
     let taking = taken_takes (pool_seen plan s p) after j is_taken in
     same_outcome plan s (event.Take p) _ s' o e (record { happened = takes p j after.queue after.idle taking.queue taking.idle; keeps = λ q. tt })
 
-retire_worker_happens : (plan : Plan) (s : State) (p : ℕ) (found : Option PoolView) → retired (pool_seen plan s p) ≡ found → (s' : State) (o : Outcome) → retire_worker s p found ≡ Some (s', o) → Stepped plan s (event.Retire p) s' o
+retire_worker_happens : (plan : Plan) (s : State) (p : ℕ) (found : Option PoolView) → retired (pool_seen plan s p) ≡ found → (s' : State) (o : Outcome) → retire_worker s p found ≡ Some (s', o) → MachineStep plan s (event.Retire p) s' o
 retire_worker_happens plan s p None is_retired s' o e = absurd (none-some (s', o) e)
 retire_worker_happens plan s p (Some after) is_retired s' o e =
     let ending = retired_retires (pool_seen plan s p) after is_retired in
     same_outcome plan s (event.Retire p) _ s' o e
-    (subst (λ (queue : List ℕ). Stepped plan s (event.Retire p) (with_part p queue after.idle s) outcome.Retired) (sym ending.queue)
+    (subst (λ (queue : List ℕ). MachineStep plan s (event.Retire p) (with_part p queue after.idle s) outcome.Retired) (sym ending.queue)
     (record { happened = retires p after.idle ending.idle ending.not_handed; keeps = λ q same. subst (λ (r : ℕ). HasSpareThread (pool_seen plan s r)) same ending.spare }))
 
-pub stepped : (plan : Plan) (s : State) (e : Event) (s' : State) (o : Outcome) → step plan s e ≡ Some (s', o) → Stepped plan s e s' o
+pub stepped : (plan : Plan) (s : State) (e : Event) (s' : State) (o : Outcome) → step plan s e ≡ Some (s', o) → MachineStep plan s e s' o
 stepped plan s (event.Client c) s' o e = step_at_point_happens plan s (parent.Client c) (point plan s (parent.Client c)) refl s' o e
 stepped plan s (event.Job j) s' o e = step_at_point_happens plan s (parent.Job j) (point plan s (parent.Job j)) refl s' o e
 stepped plan s (event.Take p) s' o e = take_head_happens plan s p (taken (pool_seen plan s p)) refl s' o e

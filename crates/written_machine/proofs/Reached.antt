@@ -9,7 +9,7 @@ use Rattle.written_machine.specs.declared.event.Outcome.{Outcome}
 use Rattle.written_machine.specs.State.{State}
 use Rattle.written_machine.specs.Step.{step}
 use Rattle.written_machine.specs.Reach.{start, state_after, replay, IsReached}
-use Rattle.written_machine.proofs.Events.{Happens, Stepped, stepped}
+use Rattle.written_machine.proofs.Events.{Happens, MachineStep, stepped}
 use Rattle.written_machine.proofs.StateInvariant.{StateInvariant}
 use Rattle.written_machine.proofs.InvariantAtStart.{kept_start}
 use Rattle.written_machine.proofs.InvariantStep.{kept_step}
@@ -21,7 +21,7 @@ StaysThrough plan holds = (s : State) (e : Event) (s' : State) (o : Outcome) →
 
 -- every step preserves the property
 abbrev pub StaysThroughSteps : Plan → (State → Type 0) → Type 0
-StaysThroughSteps plan holds = (s : State) (e : Event) (s' : State) (o : Outcome) → holds s → Stepped plan s e s' o → holds s'
+StaysThroughSteps plan holds = (s : State) (e : Event) (s' : State) (o : Outcome) → holds s → MachineStep plan s e s' o → holds s'
 
 -- the replay of events after an impossible event has no state
 pub replay_none : (plan : Plan) (events : List Event) → replay plan None events ≡ None

@@ -134,7 +134,7 @@ fn standing(alloc: Global) -> Result<Vec<Vector>, AllocError> {
 /// - The pool has at least as many threads as its core size.
 /// - The pool starts no thread above its core size.
 #[test]
-fn jobs_wait_for_ever_only_at_core(rt: HostRuntime) -> Result<(), Fail> {
+fn jobs_wait_forever_only_at_core(rt: HostRuntime) -> Result<(), Fail> {
     let alloc = rt.alloc();
     for (sizes, count, events, members, wanted) in CASES.iter().copied() {
         let plan = read_plan(alloc, nested(alloc, sizes, count)?.as_bytes())?;

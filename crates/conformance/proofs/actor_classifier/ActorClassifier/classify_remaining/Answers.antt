@@ -5,8 +5,8 @@ use Rattle.conformance.specs.declared.actor_table.ActorTable.{ActorTable}
 use Rattle.conformance.specs.RemainingActors.{IsStateAtEnd}
 use Rattle.conformance.specs.ClassifiedActor.{IsCorrectResult}
 use Rattle.conformance.specs.ClassificationResults.{AddsResults}
-use Rattle.conformance.proofs.AddsResults.{tells_same}
-use Rattle.conformance.proofs.ClassifyRemaining.{left_same, same_without, left_then, tells_left}
+use Rattle.conformance.proofs.AddsResults.{reports_same}
+use Rattle.conformance.proofs.ClassifyRemaining.{left_same, same_without, left_then, reports_left}
 use Rattle.conformance.proofs.actor_classifier.ActorClassifier.classify_remaining.Goals as goal
 
 pub returns-in_default-clause-remaining : goal.returns-in_default-clause-remaining
@@ -14,7 +14,7 @@ returns-in_default-clause-remaining c = λ lines keeps paths remaining none.
     let a = c.args in
     let same = same_without a.self.now.actors c.remove.new.self a.actor (sym c.in_default.ensures.value) (λ one. same_actor a.actor one) c.remove.ensures.later in (
       left_same a.plan.now lines a.self.now.actors c.remove.new.self a.self.now.known same remaining,
-      tells_same (IsCorrectResult a.plan.now lines) a.self.now.actors c.remove.new.self (λ one. ap is_some (same one)) a.reported.now.items,
+      reports_same (IsCorrectResult a.plan.now lines) a.self.now.actors c.remove.new.self (λ one. ap is_some (same one)) a.reported.now.items,
     )
 
 pub returns-clause-remaining : goal.returns-clause-remaining
@@ -27,6 +27,6 @@ returns-clause-remaining c = λ lines keeps paths remaining none.
       subst (λ (actors : ActorTable). IsStateAtEnd a.plan.now lines actors c.classify.new.self.known) (sym c.classify.ensures.actors)
           (left_then a.plan.now lines keeps a.self.now.actors c.remove.new.self a.self.now.known c.classify.new.self.known a.actor c.in-Some.kept there c.in_ok-actor_path.actor_path a.reported.now.items c.classify.new.reported.items remaining none by t c.remove.ensures.later),
       subst (λ (actors : ActorTable). AddsResults (IsCorrectResult a.plan.now lines) a.self.now.actors actors a.reported.now.items c.classify.new.reported.items) (sym c.classify.ensures.actors)
-          (tells_left a.plan.now lines keeps a.self.now.actors c.remove.new.self a.self.now.known c.classify.new.self.known a.actor c.in-Some.kept there c.in_ok-actor_path.actor_path a.reported.now.items c.classify.new.reported.items remaining none by t c.remove.ensures.later),
+          (reports_left a.plan.now lines keeps a.self.now.actors c.remove.new.self a.self.now.known c.classify.new.self.known a.actor c.in-Some.kept there c.in_ok-actor_path.actor_path a.reported.now.items c.classify.new.reported.items remaining none by t c.remove.ensures.later),
     ))
     c.classify.ensures.reported

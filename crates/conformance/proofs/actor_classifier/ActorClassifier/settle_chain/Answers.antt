@@ -2,12 +2,12 @@ use Rattle.std.proofs.Common.{Option, Some, None, refl, subst, ◌∙◌}
 use Rattle.recordings.specs.declared.recording_line.RecordedActor.{RecordedActor}
 use Rattle.conformance.specs.ClassificationResults.{IsStep, IsSettledResult}
 use Rattle.conformance.proofs.ActorSteps.{step_then}
-use Rattle.conformance.proofs.AddsResults.{tells_none}
+use Rattle.conformance.proofs.AddsResults.{reports_none}
 use Rattle.conformance.proofs.actor_classifier.ActorClassifier.settle_chain.Goals as goal
 
 pub loop-next-init : goal.loop-next-init
 loop-next-init c = record {
-  reported = λ lines kept decided keeps. record { kept = kept; decided = decided; tells = tells_none (IsSettledResult c.args.plan.now lines) c.args.self.now.actors c.args.reported.now.items };
+  reported = λ lines kept decided keeps. record { kept = kept; decided = decided; tells = reports_none (IsSettledResult c.args.plan.now lines) c.args.self.now.actors c.args.reported.now.items };
   paths = refl;
 }
 

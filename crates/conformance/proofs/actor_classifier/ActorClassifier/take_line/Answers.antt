@@ -12,9 +12,9 @@ use Rattle.conformance.specs.declared.job_classes.ClassTable.{ClassTable}
 use Rattle.conformance.specs.ActorTables.{AreUnambiguousIn}
 use Rattle.conformance.specs.Represents.{AreTablesOf, IsClassifierOf}
 use Rattle.conformance.specs.ClassificationResults.{IsSettledResult, IsStep}
-use Rattle.conformance.proofs.AddsResults.{tells_none}
+use Rattle.conformance.proofs.AddsResults.{reports_none}
 use Rattle.conformance.proofs.ReturnedPath.{given_path}
-use Rattle.conformance.proofs.StateAfterLine.{kept_line, represents, tells_line}
+use Rattle.conformance.proofs.StateAfterLine.{kept_line, represents, reports_line}
 use Rattle.conformance.proofs.actor_classifier.ActorClassifier.take_line.Goals as goal
 
 abbrev waits_for : Vec RecordedStep Global → EndedPath
@@ -42,7 +42,7 @@ returns-in-Some-clause-reported c = λ before keeps stand.
     let a = c.args in
     let lines = before ++ line_view a.line.now ∷ [] in
     on_ok_weaker c.settle_chain.result
-    (tells_line a.plan.now before (line_view a.line.now) (waits_for c.unwrap_or-path.result) a.self.now.actors c.note.new.self.actors c.settle_chain.new.self.actors a.self.now.known c.settle_chain.new.self.known a.reported.now.items c.settle_chain.new.reported.items keeps stand.kept c.in_ok-note.ensures.noted)
+    (reports_line a.plan.now before (line_view a.line.now) (waits_for c.unwrap_or-path.result) a.self.now.actors c.note.new.self.actors c.settle_chain.new.self.actors a.self.now.known c.settle_chain.new.self.known a.reported.now.items c.settle_chain.new.reported.items keeps stand.kept c.in_ok-note.ensures.noted)
     (c.settle_chain.ensures.reported lines
     (subst (λ (ended : Option RecordedActor). AreTablesOf a.plan.now lines c.note.new.self.actors c.note.new.self.known ended) c.in-Some.is (kept_some c before keeps stand))
     (λ enough. subst (λ (table : ClassTable). AreUnambiguousIn table) (sym c.note.ensures.known) (stand.decided enough)) keeps)
@@ -69,6 +69,6 @@ returns-in-None-clause-reported c = λ before keeps stand.
     let step : IsStep a.plan.now lines c.note.new.self.actors c.note.new.self.actors c.note.new.self.known None a.reported.now.items a.reported.now.items = record {
       kept = kept;
       decided = λ enough. subst (λ (table : ClassTable). AreUnambiguousIn table) (sym c.note.ensures.known) (stand.decided enough);
-      tells = tells_none (IsSettledResult a.plan.now lines) c.note.new.self.actors a.reported.now.items;
+      tells = reports_none (IsSettledResult a.plan.now lines) c.note.new.self.actors a.reported.now.items;
     } in
-    tells_line a.plan.now before (line_view a.line.now) (waits_for c.unwrap_or-path.result) a.self.now.actors c.note.new.self.actors c.note.new.self.actors a.self.now.known c.note.new.self.known a.reported.now.items a.reported.now.items keeps stand.kept c.in_ok-note.ensures.noted step
+    reports_line a.plan.now before (line_view a.line.now) (waits_for c.unwrap_or-path.result) a.self.now.actors c.note.new.self.actors c.note.new.self.actors a.self.now.known c.note.new.self.known a.reported.now.items a.reported.now.items keeps stand.kept c.in_ok-note.ensures.noted step

@@ -4,7 +4,7 @@ use Rattle.recordings.specs.LineParts.{refuses_job}
 use Rattle.recordings.specs.RecordingLine.{RecordedLine, Refused, ShutDown, line_view}
 use Rattle.conformance.specs.PoolComparison.{has_name}
 use Rattle.conformance.specs.declared.rejections.Rejections.{Rejections}
-use Rattle.conformance.specs.Rejections.{AreRejectionsSoFar}
+use Rattle.conformance.specs.Rejections.{AreRejectionsOfPrefix}
 use Rattle.conformance.proofs.RefusalsAfter.{own_refusal, refusal_after_line, other_after, is_other, or_false}
 use Rattle.conformance.proofs.rejections.Rejections.take.Goals as goal
 
@@ -16,7 +16,7 @@ returns-in-Refused c = λ lines before facts refused number so.
     let is : Refused actor job ≡ line_view c.args.line.now = sym (ap line_view c.in-Refused.is) in
     let own = refused job (ap (refuses_job job) (sym is) ∙ own_refusal actor job) in
     on_ok_weaker c.note_refusal.result
-    (λ notes. subst (λ (line : RecordedLine). AreRejectionsSoFar plan lines (before ++ line ∷ []) c.note_refusal.new.self) is
+    (λ notes. subst (λ (line : RecordedLine). AreRejectionsOfPrefix plan lines (before ++ line ∷ []) c.note_refusal.new.self) is
     (refusal_after_line plan lines before c.args.number actor job c.args.self.now c.note_refusal.new.self number so notes))
     (c.note_refusal.ensures lines before facts own number so)
 
@@ -26,7 +26,7 @@ returns-in-ShutDown c = λ lines before facts refused number so.
     let is : ShutDown c.in-ShutDown.pool.now ≡ line_view c.args.line.now = sym (ap line_view c.in-ShutDown.is) in
     let new : Rejections = record c.args.self.now { shut = c.insert.new.self } in
     on_ok_weaker c.insert.result
-    (λ inserted. subst (λ (line : RecordedLine). AreRejectionsSoFar plan lines (before ++ line ∷ []) new) is
+    (λ inserted. subst (λ (line : RecordedLine). AreRejectionsOfPrefix plan lines (before ++ line ∷ []) new) is
     (other_after plan lines before (ShutDown c.in-ShutDown.pool.now) c.args.self.now new refl so (record { pools = refl; refusing = refl; first = refl; shut = inserted })))
     c.insert.ensures
 
