@@ -24,7 +24,7 @@ pub(crate) enum PoolStatus {
     Done,
 }
 
-/// An action of a worker, which is a thread of the search, on the board of a round.
+/// An action of a worker on the board of a round. A worker is a thread of the search.
 #[derive(Clone, Copy, PartialEq, Eq)]
 pub(crate) enum BoardEvent {
     /// Claims the free pool with this number.

@@ -59,8 +59,8 @@ impl Levels {
     }
 
     /// Gives `level` to each class that has no level yet and submits only classes of lower levels.
-    /// Appends these classes to the order. `known` has, for each class, the length of a prefix of
-    /// its body that needs no further check. Updates these lengths.
+    /// Appends these classes to the order. `known` has a number for each class: this many actions
+    /// at the start of the class's body need no further check. Updates these numbers.
     fn add_level(&mut self, plan: &Plan, level: u64, known: &mut [usize]) -> Result<(), AllocError>
         ensures { vec_len self.new.of_classes ≡ vec_len self.old.of_classes }
     {
