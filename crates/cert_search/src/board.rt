@@ -194,8 +194,8 @@ pub(crate) fn claim(board: &mut Held<Board>) -> Result<Option<usize>, AllocError
     }
 }
 
-/// Gives a claimed pool back to the board, which makes the pool done, and returns `true`. If the
-/// pool is not claimed, changes nothing and returns `false`.
+/// Gives a claimed pool back to the board and returns `true`. The pool is then done. If the pool is
+/// not claimed, changes nothing and returns `false`.
 ///
 /// # Errors
 ///

@@ -55,9 +55,9 @@ impl From<AllocError> for SearchFault {
 /// pool whose blocked vector is found gets the round's number as its rank.
 ///
 /// A blocked vector bounds the number of jobs that wait at *counted* gets. In the first round, all
-/// gets are counted. After each round, a get is no longer counted if the job that it waits for
-/// depends only on pools with a rank. A job depends on its own pool, and on the pools of all jobs
-/// for which it waits, directly or through other jobs.
+/// gets are counted. A get waits for a job. After each round, the get is no longer counted if this
+/// job depends only on pools with a rank. A job depends on its own pool, and on the pools of all
+/// jobs for which it waits, directly or through other jobs.
 ///
 /// If a pool has the same counted gets as in the previous round, the search for its blocked vector
 /// is skipped. The previous round found no vector for these gets.

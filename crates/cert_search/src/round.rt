@@ -45,9 +45,9 @@ pub(crate) struct PoolVectors {
 }
 
 impl Round<'_> {
-    /// Searches for the pool's blocked vector and, in the first round, for the pool's bound. Skips
-    /// the search for the blocked vector if the pool's jobs have the same counted gets as in the
-    /// previous round. That round found no vector for these gets.
+    /// Searches for the pool's blocked vector. In the first round, also searches for the pool's
+    /// bound. Skips the search for the blocked vector if the pool's jobs have the same counted gets
+    /// as in the previous round. That round found no vector for these gets.
     ///
     /// # Errors
     ///

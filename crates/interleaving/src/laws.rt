@@ -20,7 +20,7 @@ pub fn start_is_seen()
 ///
 /// - The same events are possible in the state and in its live view.
 /// - Each of these events has the same outcome in the state and in the live view.
-/// - After the event, the new live view is the live view of the new state.
+/// - After each of these events, the new live view is the live view of the new state.
 pub fn steps_commute()
     ensures { StepsCommute }
 {}

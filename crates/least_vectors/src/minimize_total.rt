@@ -122,8 +122,9 @@ pub(crate) fn lightest_vector(
     vector_of(alloc, plan, target, workers, &sketch)
 }
 
-/// Returns the next loan, or `None` if no loan helps. Uses [`relieving_loan`] if a class that is
-/// never submitted has a weight above `MAX_WEIGHT`, and [`best_loan`] otherwise.
+/// Returns the next loan, or `None` if no loan helps. Uses [`relieving_loan`] if there is an
+/// overweight class, and [`best_loan`] otherwise. A class is *overweight* if it is never submitted
+/// and has a weight above `MAX_WEIGHT`.
 ///
 /// - `workers` has the current weights of workers. They are the same after the call, unless memory
 ///   runs out.

@@ -92,10 +92,9 @@ pub fn fixed_pools_are_full()
     ensures { FixedPoolsAreFull }
 {}
 
-/// States that the number of jobs that were created for a pool limits the pool's threads and queue.
-/// Let `n` be the number of these jobs plus the number of the pool's prestarted threads. In every
-/// reachable state of a well-formed plan, the pool's threads and queued jobs together are at most
-/// `n`.
+/// States a limit for the threads and the queue of a pool. Let `n` be the number of jobs that were
+/// created for the pool, plus the number of its prestarted threads. In every reachable state of a
+/// well-formed plan, the pool's threads and queued jobs together are at most `n`.
 pub fn threads_have_jobs()
     ensures { ThreadsHaveJobs }
 {}
