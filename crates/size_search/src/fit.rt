@@ -156,9 +156,9 @@ fn failing_elsewhere(alloc: Global, plan: &Plan, cert: &Cert) -> Result<Option<N
     Ok(first_elsewhere(&failing))
 }
 
-/// Returns whether the queue of pool `number` is smaller than the certificate needs, after the
-/// sizes were raised. This is possible only for a pool that may reject jobs, because the queue of
-/// such a pool is not raised.
+/// Returns whether the queue of the pool with this number is smaller than the certificate needs,
+/// after the sizes were raised. This is possible only for a pool that may reject jobs, because the
+/// queue of such a pool is not raised.
 fn is_tight(plan: &Plan, cert: &Cert, raised: &[Pool], number: usize) -> bool
     requires well_formed { IsWellFormed plan.now }
     requires fits { IsTrue (cert_fits plan.now cert.now) }

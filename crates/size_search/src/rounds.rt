@@ -116,8 +116,8 @@ impl RankAssignment {
         Ok(())
     }
 
-    /// Returns the hits of the pools for which a core of at most `MAX_SIZE` is enough. A pool whose
-    /// core threads may time out is included only if it needs no larger core.
+    /// Returns the hits whose pools need a core of at most `MAX_SIZE`. A pool whose core threads
+    /// may time out is included only if it needs no larger core.
     fn within_limit(&self, alloc: Global, hits: &[CacheHit]) -> Result<Vec<CacheHit>, AllocError> {
         hits.iter()
             .filter(|hit| core_for(hit) <= MAX_SIZE && self.shortfall(hit) < u64::MAX)
