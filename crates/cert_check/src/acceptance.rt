@@ -45,8 +45,9 @@ pub(crate) fn conditions_hold(plan: &Plan, cert: &Cert) -> bool
     true
 }
 
-/// Returns whether all conditions for the pool hold: those of its blocked vector and, if the pool
-/// has a bound, those of the bound. The certificate must fit the plan.
+/// Returns whether all conditions for the pool hold. These are the conditions of the pool's blocked
+/// vector and of its bound. A pool without a bound has only the conditions of the blocked vector.
+/// The certificate must fit the plan.
 pub(crate) fn pool_holds(plan: &Plan, cert: &Cert, pool: usize) -> bool
     requires fits { IsTrue (cert_fits plan.now cert.now) }
     requires pool { pool < length plan.now.pools }

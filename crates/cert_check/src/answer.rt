@@ -4,8 +4,8 @@ ghost use Rattle.cert_check.specs.Verdict as spec;
 
 use std::marker::Model;
 
-/// The total of a pool's bound, which is a standing or a lifetime vector, with the limit of this
-/// total.
+/// The total of a pool's bound, and the limit of this total. The bound is a standing or a lifetime
+/// vector.
 #[derive(Clone, Copy, Debug, PartialEq, Eq)]
 pub struct BoundTotal {
     /// Whether the bound is a lifetime vector. If it is not, it is a standing vector.

@@ -43,13 +43,14 @@ impl From<AllocError> for CheckFault {
 /// - No bounded queue has more jobs than its capacity. If the capacity is 0, the queue has at most
 ///   as many jobs as its pool has idle workers.
 /// - No unfinished jobs wait only for each other.
-/// - If a job is unfinished, a job can perform a step, or a worker can take a job from a queue.
-/// - If the clients stop, all jobs finish after a bounded number of these steps and takes.
+/// - While a job is unfinished, at least one of two events is possible: a job performs a step, or a
+///   worker takes a job from a queue.
+/// - If the clients stop, all jobs finish after a bounded number of these events.
 ///
 /// # Errors
 ///
-/// Returns the first fault of the plan or, if the plan has none, of the certificate. Returns
-/// [`CheckFault::Memory`] if memory runs out.
+/// Returns the first fault of the plan's text. If the plan's text has no fault, returns the first
+/// fault of the certificate's text. Returns [`CheckFault::Memory`] if memory runs out.
 pub fn check(alloc: Global, plan_text: &[u8], cert_text: &[u8]) -> Result<Verdict, CheckFault>
     ensures verdict { IfOk result
         (λ verdict. spec.checked plan_text.now cert_text.now ≡ Ok verdict) }

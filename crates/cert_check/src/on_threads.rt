@@ -25,8 +25,8 @@ use std::thread::Threads;
 pub(crate) struct PoolCheck {
     pub(crate) pool: usize,
     pub(crate) line: PoolLine,
-    /// Whether all conditions of the pool's blocked vector hold and, if the pool has a bound, also
-    /// those of the bound.
+    /// Whether all conditions of the pool's blocked vector and of its bound hold. A pool without a
+    /// bound has only the conditions of the blocked vector.
     pub(crate) holds: bool,
 }
 

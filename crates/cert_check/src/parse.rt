@@ -44,8 +44,8 @@ impl From<CertFault> for CheckFault {
 ///
 /// # Errors
 ///
-/// Returns the first fault of the plan or, if the plan has none, of the certificate. Returns
-/// [`CheckFault::Memory`] if memory runs out.
+/// Returns the first fault of the plan's text. If the plan's text has no fault, returns the first
+/// fault of the certificate's text. Returns [`CheckFault::Memory`] if memory runs out.
 pub(crate) fn read_texts(
     alloc: Global,
     plan_text: &[u8],

@@ -24,7 +24,7 @@ pub(crate) enum PoolStatus {
     Done,
 }
 
-/// An action of a worker, which is a thread of the search, on the board of a round.
+/// An action of a worker on the board of a round. A worker is a thread of the search.
 #[derive(Clone, Copy, PartialEq, Eq)]
 pub(crate) enum BoardEvent {
     /// Claims the free pool with this number.
@@ -194,8 +194,8 @@ pub(crate) fn claim(board: &mut Held<Board>) -> Result<Option<usize>, AllocError
     }
 }
 
-/// Gives a claimed pool back to the board, which makes the pool done, and returns `true`. If the
-/// pool is not claimed, changes nothing and returns `false`.
+/// Gives a claimed pool back to the board and returns `true`. The pool is then done. If the pool is
+/// not claimed, changes nothing and returns `false`.
 ///
 /// # Errors
 ///

@@ -1,6 +1,6 @@
-//! A draft: a certificate whose parts become known round by round. A round gives a rank to each
-//! pool whose blocked vector it finds. The blocked vector of a pool bounds the number of its jobs
-//! that wait for other jobs.
+//! A draft: a certificate whose parts become known round by round. A round searches for the blocked
+//! vectors of pools, and gives a rank to each pool whose blocked vector it finds. The blocked
+//! vector of a pool bounds the number of the pool's jobs that wait for other jobs.
 
 use crate::round::PoolVectors;
 use cert_text::{Cert, PoolCert};

@@ -1,8 +1,8 @@
-//! The steady certificate, which the search tries if the rounds find no certificate. All its
-//! vectors come from one vector:
+//! The steady certificate, which the search tries if the rounds find no certificate. All vectors of
+//! the steady certificate come from one vector:
 //!
 //! - The blocked vector of a pool is this vector, or 0 if core threads of the pool may time out.
-//! - The bound of a pool that needs one is also this vector. A pool that may reject jobs or has an
+//! - If a pool needs a bound, its bound is also this vector. A pool that may reject jobs or has an
 //!   unbounded queue has no bound.
 
 ghost use Rattle.std.specs.Prelude.{◌≡◌, false, IfOk, IfSome, IfNone, IsTrue};
@@ -17,11 +17,12 @@ use job_bodies::Plan;
 use size_search::{cause_of, steady};
 use std::alloc::{AllocError, Global};
 
-/// Returns the plan's steady certificate if it accepts the plan with its declared sizes, and `None`
-/// otherwise. Also returns `None` in these cases:
+/// Returns the plan's steady certificate if this certificate accepts the plan with the declared
+/// sizes. Returns `None` in these cases:
 ///
+/// - The steady certificate does not accept the plan with the declared sizes.
 /// - The steady certificate has a weight above `MAX_WEIGHT`.
-/// - There is a *cause*: a reason why no certificate accepts the plan, whatever its sizes are.
+/// - There is a *cause*: a reason why no certificate accepts the plan, whatever sizes the plan has.
 pub(crate) fn steady_if_accepted(alloc: Global, plan: &Plan) -> Result<Option<Cert>, AllocError>
     ensures accepted { IfOk result
         (λ found. IfSome found (λ cert. IsTrue (accepted plan.now cert))) }

@@ -23,8 +23,8 @@ use std::thread::Threads;
 pub enum SearchFault {
     /// Memory ran out, or a thread could not be started.
     Memory,
-    /// The workers of a round, which are threads of the search, were inconsistent, in one of these
-    /// ways:
+    /// The claims or results of a round's workers were inconsistent. The workers are threads of the
+    /// search. One of these faults occurred:
     ///
     /// - A worker claimed a pool that the plan does not have.
     /// - A worker gave back a pool that was not claimed.
@@ -50,14 +50,14 @@ impl From<AllocError> for SearchFault {
 /// Searches for a certificate that accepts the plan. Returns `None` if the search finds none. The
 /// plan can still be safe.
 ///
-/// The search works in rounds, each with at most `workers` workers, a number from 1 to 64. In each
-/// round, the workers search for the vectors of the pools that have no rank yet. A pool whose
-/// blocked vector is found gets the round's number as its rank.
+/// The search works in rounds. Each round has at most `workers` workers, and `workers` must be from
+/// 1 to 64. In each round, the workers search for the vectors of the pools that have no rank yet. A
+/// pool whose blocked vector is found gets the round's number as its rank.
 ///
 /// A blocked vector bounds the number of jobs that wait at *counted* gets. In the first round, all
-/// gets are counted. After each round, a get is no longer counted if the job that it waits for
-/// depends only on pools with a rank. A job depends on its own pool, and on the pools of all jobs
-/// for which it waits, directly or through other jobs.
+/// gets are counted. A get waits for a job. After each round, the get is no longer counted if this
+/// job depends only on pools with a rank. A job depends on its own pool, and on the pools of all
+/// jobs for which it waits, directly or through other jobs.
 ///
 /// If a pool has the same counted gets as in the previous round, the search for its blocked vector
 /// is skipped. The previous round found no vector for these gets.
@@ -66,10 +66,10 @@ impl From<AllocError> for SearchFault {
 /// certificate, whose numbers do not depend on the sizes. If the steady certificate accepts the
 /// plan with its declared sizes, the result is never `None`.
 ///
-/// A pool needs no bound if it may reject jobs or its queue is unbounded. If the rounds find a
-/// bound of such a pool, their certificate contains it. With a bound, a pool never rejects a job,
-/// even if it may reject jobs. For a pool with an unbounded queue, the rounds search for a standing
-/// vector of any total.
+/// A pool needs no bound if it may reject jobs or its queue is unbounded. If the rounds still find
+/// a bound of such a pool, the bound is part of their certificate. A pool with a bound never
+/// rejects a job, even if the plan allows the pool to reject jobs. For a pool with an unbounded
+/// queue, the rounds search for a standing vector of any total.
 ///
 /// Tests check that the result does not depend on the number of workers. This is not proved.
 ///

@@ -1,9 +1,8 @@
-//! One round of the search, in which the workers search for the vectors of the pools without a
-//! rank:
+//! One round of the search. The workers search for these vectors of each pool without a rank:
 //!
 //! - The bound of the pool's queue.
-//! - The blocked vector, which bounds the number of the pool's jobs that wait at *counted* gets. A
-//!   get of such a job is counted in a round if it waits for a job of a class whose reach is at
+//! - The blocked vector. It bounds the number of the pool's jobs that wait at *counted* gets. A get
+//!   waits for a job of some class. The get is counted in a round if the reach of this class is at
 //!   least the round's rank. The field `reach` of [`Round`] defines the reach.
 
 ghost use Rattle.std.specs.Prelude.{◌≡◌, ◌≢◌, ◌<◌, ◌≤◌, IfErr, IfOk, length};
@@ -25,9 +24,9 @@ use weights::{Bound, Vector, submitted_class};
 pub(crate) struct Round<'a> {
     pub(crate) plan: &'a Plan,
     pub(crate) levels: &'a Levels,
-    /// The reach of each class: the greatest rank of the pools on which a job of the class depends.
-    /// These are its own pool, and the pools of all jobs that it gets, directly or through other
-    /// jobs. A pool without a rank counts as if it had the rank of this round.
+    /// The reach of each class. A job of the class depends on its own pool, and on the pools of all
+    /// jobs that it gets, directly or through other jobs. The reach is the greatest rank of these
+    /// pools. A pool without a rank counts as if it had the rank of this round.
     pub(crate) reach: &'a [u64],
     /// The value of `reach` in the previous round. It is empty in the first round.
     pub(crate) reach_before: &'a [u64],
@@ -46,9 +45,9 @@ pub(crate) struct PoolVectors {
 }
 
 impl Round<'_> {
-    /// Searches for the pool's blocked vector and, in the first round, for the pool's bound. Skips
-    /// the search for the blocked vector if the pool's jobs have the same counted gets as in the
-    /// previous round. That round found no vector for these gets.
+    /// Searches for the pool's blocked vector. In the first round, also searches for the pool's
+    /// bound. Skips the search for the blocked vector if the pool's jobs have the same counted gets
+    /// as in the previous round. That round found no vector for these gets.
     ///
     /// # Errors
     ///

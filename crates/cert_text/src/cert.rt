@@ -1,5 +1,6 @@
-//! Certificates. A certificate has numbers for a plan. If a check accepts the certificate, no jobs
-//! wait for each other forever. Also, no pool refuses a job unless it may reject jobs.
+//! Certificates. A certificate has numbers for a plan. If a check accepts the certificate, no pool
+//! ever refuses a job, and no jobs wait for each other forever. A rejection by a pool that may
+//! reject jobs is not a refusal.
 
 ghost use Rattle.std.specs.Prelude.{◌≡◌, ◌<◌, length};
 ghost use Rattle.std.specs.List.{list_all, enumerate_from};
@@ -16,10 +17,10 @@ pub struct PoolCert {
     /// The vector that bounds the pool's queue, or `None`. In a certificate that fits the plan, it
     /// is `None` only if the pool may reject jobs or has an unbounded queue.
     pub bound: Option<Bound>,
-    /// The blocked vector. It bounds the number of the pool's jobs that wait at counted gets, which
-    /// are gets that can block a thread that other jobs need. If the certificate accepts the plan,
-    /// this number is always less than the pool's core size. If core threads may time out, it is
-    /// always 0.
+    /// The blocked vector. It bounds the number of the pool's jobs that wait at counted gets. A get
+    /// is counted if it can block a thread that other jobs need. If the certificate accepts the
+    /// plan, the number of these jobs is always less than the pool's core size. It is always 0 if
+    /// core threads may time out.
     pub blocked: Vector,
 }
 

@@ -1,6 +1,6 @@
 //! Writers of the parts of a certificate. They append to a text and build no JSON tree. The part
 //! for a pool begins with the blocked vector, which bounds the pool's jobs that wait for other
-//! jobs. If the pool's queue has a bound, it follows.
+//! jobs. The bound of the pool's queue follows, if there is one.
 
 ghost use Rattle.std.specs.Prelude.{◌≡◌, ◌++◌, map, codes, Some};
 ghost use Rattle.serde_json.specs.Written.{comma_if, compact_text};

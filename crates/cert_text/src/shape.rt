@@ -44,13 +44,14 @@ fn no_bound_of(plan: &Plan, pool: usize) -> Result<Option<Bound>, CertError>
     Ok(None)
 }
 
-/// Reads the bound of the pool with this index. `lifetime` and `standing` are the values at these
-/// two keys of the pool's object, or `None` if the key is missing.
+/// Reads the bound of the pool with this index. `lifetime` is the value at the key `lifetime` of
+/// the pool's object, or `None` if the key is missing. `standing` is the same for the key
+/// `standing`.
 ///
 /// - If `lifetime` is a value, the bound is a lifetime vector.
 /// - Otherwise, if `standing` is a value, the bound is a standing vector.
-/// - If both are `None`, the bound is `None` if the pool needs no bound. If it needs one, the
-///   result is a fault.
+/// - If both are `None` and the pool needs no bound, the bound is `None`.
+/// - If both are `None` and the pool needs a bound, the result is a fault.
 fn either_of(
     alloc: Global,
     plan: &Plan,
@@ -94,8 +95,8 @@ fn bound_of(
     }
 }
 
-/// Returns the number of keys that a pool's object has with this bound: 2, or 1 if there is no
-/// bound.
+/// Returns the number of keys of a pool's object: 2 if the pool has a bound, and 1 if `bound` is
+/// `None`.
 fn keys_with(bound: &Option<Bound>) -> usize
     ensures { result ≡ spec.keys_with bound.now }
 {

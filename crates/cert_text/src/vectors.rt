@@ -86,8 +86,8 @@ fn client_rows_in(alloc: Global, plan: &Plan, values: &[Value]) -> Result<Vec<Ve
     Ok(rows)
 }
 
-/// Returns the rows of the value if it is a list that has a row of numbers for each class, and a
-/// fault otherwise.
+/// Reads the value as a list with one row of numbers for each class, and returns the rows. Returns
+/// a fault if the value is not such a list.
 #[tactic(auto, unfolding(crate::specs::Vectors::class_rows))]
 fn class_rows(alloc: Global, plan: &Plan, value: &Value) -> Result<Vec<Vec<u64>>, CertError>
     ensures { Gives (λ rows. map (λ row. row.items) rows.items) result
@@ -97,8 +97,8 @@ fn class_rows(alloc: Global, plan: &Plan, value: &Value) -> Result<Vec<Vec<u64>>
     class_rows_in(alloc, plan, values)
 }
 
-/// Returns the rows of the value if it is a list that has a row of numbers for each client kind,
-/// and a fault otherwise.
+/// Reads the value as a list with one row of numbers for each client kind, and returns the rows.
+/// Returns a fault if the value is not such a list.
 #[tactic(auto, unfolding(crate::specs::Vectors::client_rows))]
 fn client_rows(alloc: Global, plan: &Plan, value: &Value) -> Result<Vec<Vec<u64>>, CertError>
     ensures { Gives (λ rows. map (λ row. row.items) rows.items) result

@@ -18,11 +18,10 @@ use support::push_number;
 /// Writes a certificate as compact JSON. The keys of each object are in ascending order, and the
 /// text has no newline. The version is 1 if each pool has a standing vector, and otherwise 2.
 ///
-/// Assume that the certificate fits a plan, and that the text has at most
-/// [`MAX_CERT_BYTES`](job_bodies::MAX_CERT_BYTES) bytes. Then [`read_cert`](crate::read_cert)
-/// parses the text as this certificate. If a newline is appended, the same holds for the text with
-/// the newline. The text never contains a `%`, so no part of it can be taken for a separator line
-/// `%%`.
+/// Assume that the certificate fits a plan. Then [`read_cert`](crate::read_cert) parses the text as
+/// this certificate, if the text has at most [`MAX_CERT_BYTES`](job_bodies::MAX_CERT_BYTES) bytes.
+/// The same is true of the text with an appended newline. The text never contains a `%`, so no part
+/// of it can be taken for a separator line `%%`.
 ///
 /// # Errors
 ///

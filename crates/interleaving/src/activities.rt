@@ -20,7 +20,8 @@ pub(crate) struct PoolActivity {
 }
 
 impl PoolActivity {
-    /// Returns this activity with one more member counted, which is in the phase `phase`.
+    /// Counts one more member in this activity, and returns the result. `phase` is the phase of
+    /// this member.
     ///
     /// - A queued member sets `queued`.
     /// - A running member adds 1 to `at_work` if `is_new` is `true`. `is_new` is `false` for a

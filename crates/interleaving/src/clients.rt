@@ -66,8 +66,9 @@ impl Clients {
         }
     }
 
-    /// Reserves memory for the first move of the actor. Does nothing if the actor is not a client
-    /// at the start of its body. `position` is the current position of the actor.
+    /// Reserves memory for the first move of a client. Does nothing if the actor is a job, or if
+    /// the actor is a client that is not at the start of its body. `position` is the current
+    /// position of the actor.
     ///
     /// # Errors
     ///

@@ -24,7 +24,8 @@ pub struct JobView {
     /// The number of the job's class.
     pub class: usize,
     pub parent: Parent,
-    /// The position, in its parent's body, of the submit that created the job.
+    /// The position of the submit that created the job. It is a position in the body of the job's
+    /// parent.
     pub slot: usize,
     pub phase: Phase,
 }
@@ -37,16 +38,17 @@ impl JobView {
         matches!(self.phase, Phase::Done)
     }
 
-    /// Returns `true` if this actor created the job by the submit at position `submit` of its body.
+    /// Returns `true` if this actor created the job by the submit at position `submit` of the
+    /// actor's body.
     pub fn is_child_of(self, actor: Parent, submit: usize) -> bool
         ensures { result ≡ is_live_child actor submit (Some self) }
     {
         actor == self.parent && submit == self.slot
     }
 
-    /// Returns this job, or `None` if it is stale: it is done, and the actor created it by the
-    /// submit at position `submit` of its body. A stale job stops being live when the same submit
-    /// creates another job, because a get then returns only the new job.
+    /// Returns this job, or `None` if the job is *stale*. A stale job is done, and `actor` created
+    /// it by the submit at position `submit` of the actor's body. A stale job stops being live when
+    /// the same submit creates another job, because a get then returns only the new job.
     pub fn drop_if_stale(self, actor: Parent, submit: usize) -> Option<JobView>
         ensures { result ≡ drop_if_stale actor submit (Some self) }
     {
@@ -57,9 +59,9 @@ impl JobView {
         }
     }
 
-    /// Returns this job, or `None` if it is an orphan: it is done, and the job `parent` created it.
-    /// An orphan stops being live when the job `parent` finishes, because no actor can get it any
-    /// more.
+    /// Returns this job, or `None` if the job is an *orphan*. An orphan is done, and the job with
+    /// the number `parent` created it. An orphan stops being live when its parent finishes, because
+    /// no actor can get the orphan any more.
     pub fn drop_if_orphan(self, parent: usize) -> Option<JobView>
         ensures { result ≡ drop_if_orphan parent (Some self) }
     {

@@ -11,8 +11,8 @@ use std::marker::Model;
 use written_machine::Parent;
 
 /// A map from submit calls to job numbers. A submit call consists of an actor and the position of a
-/// submit in its body. The map has the number of the latest job that the actor created by this
-/// submit.
+/// submit in the actor's body. For each submit call, the map has the number of the latest job that
+/// the call created.
 #[derive(Drop)]
 pub(crate) struct LatestJobs {
     of_clients: SubmitMap,

@@ -15,12 +15,12 @@ pub fn start_is_seen()
 {}
 
 /// States that the live view of a state determines all later events. The live view has all clients
-/// and pools, but only the jobs that are unfinished or that a get may still return. In every
-/// reachable state of a well-formed plan,
+/// and pools, but only the jobs that are unfinished or that a get may still return. For every
+/// reachable state of a well-formed plan, these facts hold:
 ///
-/// - an event is possible in the live view exactly when it is possible in the state, and
-/// - a possible event has the same outcome in both, and leads from the live view to the live view
-///   of the next state.
+/// - The same events are possible in the state and in its live view.
+/// - Each of these events has the same outcome in the state and in the live view.
+/// - After each of these events, the new live view is the live view of the new state.
 pub fn steps_commute()
     ensures { StepsCommute }
 {}
@@ -37,8 +37,8 @@ pub fn waiting_sets_are_seen()
     ensures { WaitingSetsAreSeen }
 {}
 
-/// States that a job that is no longer live does not become live again. This holds for every event
-/// in a reachable state of a well-formed plan.
+/// States that no event makes a dead job live again. A dead job is a job that was created and is no
+/// longer live. This holds in every reachable state of a well-formed plan.
 pub fn dead_jobs_stay_dead()
     ensures { DeadJobsStayDead }
 {}

@@ -128,9 +128,10 @@ impl LiveJobs {
         self.kept.reserve()
     }
 
-    /// Adds the new job `job`. Removes the job `latest` if it is done and was created by the same
-    /// submit of the same actor, because no get can return it any more. Every other live job of
-    /// this submit must be unfinished. [`LiveJobs::reserve_for`] must have reserved memory.
+    /// Adds the new job `job`. Removes the job `latest` if two conditions hold: it is done, and the
+    /// same submit of the same actor created both jobs. No get can return the removed job any more.
+    /// Every other live job of this submit must be unfinished. [`LiveJobs::reserve_for`] must have
+    /// reserved memory.
     pub fn create(&mut self, latest: Option<usize>, job: JobView)
         requires room { 0 < room_for self.old.room job.parent }
         requires parent { WasMade self.old.jobs job.parent }
@@ -153,9 +154,9 @@ impl LiveJobs {
     }
 
     /// Finishes the job with this number. `job` is the data of this job before it finishes. The
-    /// finished job stays live only if its parent may still get it and it is the latest job of its
-    /// submit. Removes the done jobs that the finished job created, because no actor can get them
-    /// any more.
+    /// finished job stays live only under two conditions: its parent may still get jobs, and the
+    /// finished job is the latest job of its submit. Removes the done jobs that the finished job
+    /// created, because no actor can get them any more.
     pub fn finish(&mut self, number: usize, job: JobView)
         requires live { live_job self.old.jobs number ≡ Some job }
         requires going { is_done job.phase ≡ false }

@@ -1,4 +1,4 @@
-//! Sets of jobs that wait only for their own members.
+//! Waiting sets: sets of jobs that wait only for each other.
 
 ghost use Rattle.std.specs.Prelude.{◌≡◌, ◌<◌, ◌↔◌, true, false, length, IsTrue};
 ghost use Rattle.job_bodies.specs.WellFormed.{IsWellFormed};
@@ -22,12 +22,12 @@ use written_machine::Parent;
 impl World {
     ghost use Rattle.interleaving.specs.OfPlan.{IsReachableView};
 
-    /// Returns `true` if the jobs with these numbers, the members, are a waiting set. This means
-    /// that there is at least one member, and that each member is an unfinished job of one of these
-    /// kinds:
+    /// Returns `true` if the jobs with these numbers are a waiting set. The jobs are the *members*
+    /// of the set. A waiting set has at least one member. Each member is an unfinished job of one
+    /// of these kinds:
     ///
-    /// - The member is at a get of a member.
-    /// - The member is in the queue of a pool that has no idle worker and runs only members.
+    /// - The member runs, and is at a get that waits for a member.
+    /// - The member is queued, and its pool has no idle worker and runs only members.
     ///
     /// Allocates no memory. Looks up each member in the list a few times: by binary search if the
     /// list is sorted, and otherwise by a scan.

@@ -23,12 +23,12 @@ impl World {
     /// is one of these:
     ///
     /// - The pool accepts the job. The job is created, and the actor moves to its next position.
-    /// - The pool does not accept the job, but may reject jobs. The job is created as a done job,
-    ///   and the actor moves to its next position.
+    /// - The pool rejects the job. This is possible only if the pool may reject jobs. The job is
+    ///   created as a done job, and the actor moves to its next position.
     /// - The pool refuses the job. The refusal is counted, and the actor does not move.
     ///
-    /// `next` has the position of the submit in the body. If the body has a get of this submit, no
-    /// earlier job of this submit may be live.
+    /// `next` has the position of the submit in the body. If the body has a get of this submit, the
+    /// earlier jobs of this submit must no longer be live.
     ///
     /// # Errors
     ///

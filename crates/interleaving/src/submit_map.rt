@@ -16,11 +16,11 @@ pub(crate) type SubmitKey = (usize, usize);
 const TABLE_LEN: usize = 4096;
 
 /// A map from submit calls to job numbers. A submit call consists of the number of an actor and the
-/// position of a submit in its body.
+/// position of a submit in the actor's body.
 ///
-/// The place of a call in the vector `table` is at the index that is the actor's number modulo the
-/// length of `table`. A call is stored in the map `others` if another call already occupies its
-/// place. A look-up reads `table` first.
+/// Each call has a place in the vector `table`. The index of this place is the actor's number
+/// modulo the length of `table`. If another call already occupies the place, the call is stored in
+/// the map `others`. A look-up reads `table` first.
 #[derive(Drop)]
 pub(crate) struct SubmitMap {
     // The entries of the table, of which there are none before the first call of `reserve`.

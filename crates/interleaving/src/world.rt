@@ -67,8 +67,8 @@ impl World {
         })
     }
 
-    /// Returns the number of refused submits. Does not count a submit that a pool rejects as the
-    /// plan allows.
+    /// Returns the number of refused submits. A rejected submit is not counted, because the plan
+    /// allows its pool to reject jobs.
     pub fn refusals(&self) -> u64
         ensures { result ≡ self.now.view.refusals }
     {

@@ -2,10 +2,11 @@
 
 use job_bodies::Action;
 
-/// Returns true if `body` costs less than `other`, or if it costs the same and has fewer actions.
+/// Returns true if `body` costs less than `other`. Also returns true if both cost the same and
+/// `body` has fewer actions.
 ///
-/// For each class that a body submits, [`peak_of`] returns the maximum number of its jobs that are
-/// open at the same time. The cost of the body is the sum of these numbers.
+/// The cost of a body is a sum over the classes that it submits. For each class, [`peak_of`]
+/// returns the maximum number of jobs of this class that are open at the same time.
 pub(crate) fn is_preferred(body: &[Action], other: &[Action]) -> bool {
     let peaks = sum_of_peaks(body);
     let other_peaks = sum_of_peaks(other);

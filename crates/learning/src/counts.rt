@@ -57,8 +57,8 @@ impl KindCount {
 ///
 /// # Errors
 ///
-/// - [`LearnError::InferenceLimit`] if a round has no kind, or if the name of its kind does not
-///   belong to the family of the round's label ([`is_of_family`]).
+/// - [`LearnError::InferenceLimit`] if a round has no kind. Also if the kind of a round has a name
+///   outside the family of the round's label ([`is_of_family`]).
 /// - [`LearnError::Memory`] if memory runs out.
 pub(crate) fn kind_counts(
     alloc: Global,

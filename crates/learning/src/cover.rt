@@ -31,9 +31,9 @@ use std::alloc::{AllocError, Global};
 /// - Otherwise, the result is the best of several candidates that all paths match. A candidate has
 ///   all submits of each path, in the path's order, and gets each job as soon as the paths allow.
 ///
-/// The cost of a candidate is a sum over its classes: for each class, the maximum number of its
-/// jobs that are open at the same time. The best candidate has the lowest cost. Among candidates of
-/// the same cost, it has the fewest actions.
+/// The cost of a candidate is a sum over its classes. Each class adds the maximum number of jobs of
+/// this class that are open at the same time. The best candidate has the lowest cost. Among
+/// candidates of the same cost, it has the fewest actions.
 ///
 /// Returns `None` if no body with at most [`MAX_ACTIONS`] actions is found. After the first step,
 /// no body is found if a path has one of these faults:

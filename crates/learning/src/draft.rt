@@ -44,8 +44,8 @@ impl PlanDraft {
         }
     }
 
-    /// Adds the class or client kind that the line names, unless the draft already has it. Does not
-    /// add a class whose pool is not in `pools`.
+    /// Adds the class or client kind that occurs in the line, unless the draft already has it. Does
+    /// not add a class whose pool is not in `pools`.
     ///
     /// # Errors
     ///
@@ -126,8 +126,10 @@ impl PlanDraft {
     /// Returns the class of a job with this label, pool and path. If the path matches no body of
     /// the label's classes, changes one of these bodies or adds a class.
     ///
-    /// Returns `None` if no body is found that the path matches, or if the draft has no class of
-    /// this label in the pool.
+    /// Returns `None` in these cases:
+    ///
+    /// - The path matches no existing body, and no new body is found for it.
+    /// - The draft has no class of this label in the pool.
     ///
     /// # Errors
     ///
@@ -157,8 +159,10 @@ impl PlanDraft {
     /// Returns the client kind of a round with this label and path. If the path matches no body of
     /// the label's kinds, changes one of these bodies or adds a kind.
     ///
-    /// Returns `None` if no body is found that the path matches, or if the draft has no kind of
-    /// this label.
+    /// Returns `None` in these cases:
+    ///
+    /// - The path matches no existing body, and no new body is found for it.
+    /// - The draft has no kind of this label.
     ///
     /// # Errors
     ///

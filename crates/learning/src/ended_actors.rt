@@ -20,7 +20,7 @@ impl EndedActors {
         }
     }
 
-    /// Adds the actor that the line ends, if the line ends an actor.
+    /// Adds an actor if the line is the end of this actor. Does nothing for any other line.
     ///
     /// # Errors
     ///

@@ -95,8 +95,8 @@ impl Entries {
         self.entries.iter().any(|entry| entry.is_of(label, pool))
     }
 
-    /// Adds an entry with an empty body. The name of the entry is the first of LABEL, LABEL_2,
-    /// LABEL_3 and so on that no other entry has.
+    /// Adds an entry with an empty body. The entry gets the first free name among LABEL, LABEL_2,
+    /// LABEL_3 and so on. A name is free if no other entry has it.
     ///
     /// # Errors
     ///

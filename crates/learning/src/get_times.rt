@@ -3,8 +3,9 @@
 use crate::path_jobs::{JobStep, PathJob, submitted_jobs};
 use std::alloc::{AllocError, Global};
 
-/// Returns the *time* of each job that a body submits: the number, from 0, of the submit after
-/// which the body may first get the job. The time is `None` if the body must not get the job.
+/// Returns, for each job that a body submits, the earliest *time* at which the body may get the
+/// job. A time is the number of a submit, from 0: the body gets the job after this submit. The time
+/// is `None` if the body must not get the job.
 ///
 /// - `common` has the jobs that the body submits, in order. The jobs of each path are a subsequence
 ///   of `common`.
@@ -32,8 +33,8 @@ pub(crate) fn get_times(
     Ok(times)
 }
 
-/// Replaces each time that is earlier than the time at the same index of `others` by that later
-/// time. `None` is later than any time.
+/// Compares each time with the time at the same index of `others`, and keeps the later one. `None`
+/// is later than any time.
 fn delay(times: &mut [Option<usize>], others: &[Option<usize>]) {
     for (time, other) in times.iter_mut().zip(others) {
         *time = later(*time, *other);
@@ -91,11 +92,12 @@ fn mark(made: &mut [bool], index: usize) {
 }
 
 /// Returns the times of [`get_times`] for a single path. `made` says, for each submit of the body,
-/// whether a submit of the path is matched with it. The time of a job is
+/// whether a submit of the path is matched with it. The time of a job is one of these:
 ///
-/// - `None` if `is_got` of the job is false, or the path submits the job and never gets it,
-/// - the number of the job's own submit if the path does not submit the job, and
-/// - otherwise the number of the last matched submit before the path's get of the job.
+/// - `None` if `is_got` of the job is false.
+/// - `None` if the path submits the job and never gets it.
+/// - The number of the job's own submit if the path does not submit the job.
+/// - Otherwise, the number of the last matched submit before the path's get of the job.
 fn times_of_path(
     alloc: Global,
     common: &[PathJob],
@@ -114,8 +116,8 @@ fn times_of_path(
     Ok(times)
 }
 
-/// Records `time` as the time of each get of the path from index `from` to the path's next submit.
-/// Returns the index of this submit, or the length of the path if there is no further submit.
+/// Records `time` for each get of the path from index `from` to the next submit. Returns the index
+/// of this submit, or the length of the path if there is no further submit.
 fn record_gets(
     common: &[PathJob],
     path: &[JobStep],

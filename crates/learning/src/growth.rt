@@ -33,8 +33,8 @@ pub(crate) struct Assignment {
 }
 
 impl Entries {
-    /// Returns the assignment of the path to the first entry of this label and pool whose body the
-    /// path matches. Returns `None` if there is no such entry.
+    /// Searches the entries of this label and pool for the first one whose body the path matches.
+    /// Returns the assignment of the path to this entry, or `None` if there is no such entry.
     ///
     /// # Errors
     ///
@@ -62,9 +62,9 @@ impl Entries {
     /// the path and the entry's earlier paths match it. If this is possible for no entry, adds an
     /// entry for this path alone.
     ///
-    /// Skips the classes that `reachable` marks. The path leads to jobs of these classes (see
-    /// [`reachable_classes`]), so a job of such a class would lead to jobs of its own class without
-    /// end.
+    /// Skips the classes that are marked in `reachable`, because the path leads to jobs of these
+    /// classes (see [`reachable_classes`]). If the path belonged to such a class, a job of the
+    /// class would lead to further jobs of the same class, without end.
     ///
     /// Returns the assignment, or `None` in these cases:
     ///
@@ -220,8 +220,8 @@ fn mark_step(reachable: &mut [bool], step: &PathStep) {
     }
 }
 
-/// Marks each class that the body of a marked class submits. Returns true if another class is
-/// marked afterwards.
+/// Marks each class that the body of a marked class submits. Returns true if this marks a class
+/// that was not marked before.
 fn propagate(classes: &Entries, reachable: &mut [bool]) -> bool {
     let mut is_more = false;
     for number in 0..classes.entries.len() {

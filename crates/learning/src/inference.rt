@@ -43,9 +43,9 @@ use std::alloc::{AllocError, Global};
 ///   body;
 /// - the number of rounds in the selected part.
 ///
-/// The contract promises that the bodies form a plan. It promises neither that the recording
-/// matches the bodies, nor that a plan is found whenever one exists. The caller must compare the
-/// recording with the plan.
+/// The contract promises that the bodies form a plan. It does not promise that the recording
+/// matches the bodies, so the caller must compare the recording with the plan. It also does not
+/// promise to find a plan whenever one exists.
 ///
 /// # Errors
 ///

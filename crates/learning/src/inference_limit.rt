@@ -17,7 +17,8 @@ pub enum InferenceLimit {
     Kinds,
     /// A class or client kind would need a name that is too long.
     Names,
-    /// More rounds of a client kind that are open at the same time than a plan may have clients.
+    /// Too many rounds of one client kind: more of them are open at the same time than a plan may
+    /// have clients.
     Rounds,
     /// No bodies were found for the paths of some jobs or rounds. This is also the reason in these
     /// cases:

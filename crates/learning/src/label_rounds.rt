@@ -58,8 +58,9 @@ impl LabelRounds {
     ///
     /// # Errors
     ///
-    /// - [`LearnError::InferenceLimit`] if the line begins a round whose number is not the number
-    ///   of earlier rounds, or ends a round that is not open. A valid recording has no such line.
+    /// - [`LearnError::InferenceLimit`] if the line begins a round with a wrong number, or ends a
+    ///   round that is not open. The right number is the number of rounds that began earlier. A
+    ///   valid recording has no such line.
     /// - [`LearnError::Memory`] if memory runs out.
     pub(crate) fn take(&mut self, line: &Line<'_>) -> Result<(), LearnError>
         ensures ok { (before : List RecordedLine)

@@ -11,7 +11,8 @@ use crate::learn_error::LearnError;
 use job_bodies::MAX_NAME_BYTES;
 use std::alloc::{AllocError, Global};
 
-/// Returns the first of the names LABEL, LABEL_2, LABEL_3 and so on that no entry has.
+/// Returns the first free name among LABEL, LABEL_2, LABEL_3 and so on. A name is free if no entry
+/// has it.
 ///
 /// # Errors
 ///

@@ -19,8 +19,8 @@ use std::alloc::{AllocError, Global};
 /// The state of a pass over a part of a recording.
 #[derive(Drop)]
 pub(crate) struct Pass {
-    /// The first client kind of the plan to which each round can belong, by round number. It is
-    /// `None` if the round matches no kind or is not yet classified.
+    /// For each round, by round number, the first client kind of the plan to which the round can
+    /// belong. The value is `None` if the round matches no kind or is not yet classified.
     pub(crate) kinds: Vec<Option<usize>>,
     /// True if the pass changed a body.
     pub(crate) is_changed: bool,

@@ -17,7 +17,7 @@ use job_bodies::Pool;
 use recordings::{CheckedLines, Line, RecordingFault, first_fault};
 use std::alloc::{AllocError, Global};
 
-/// The pools, classes and client kinds that the lines of a recording name, and the numbers of
+/// The pools, classes and client kinds that occur in the lines of a recording, and the numbers of
 /// rounds and jobs.
 #[derive(Drop)]
 pub(crate) struct RecordedNames {

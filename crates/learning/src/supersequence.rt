@@ -93,8 +93,12 @@ fn push_from(jobs: &mut Vec<PathJob>, more: &[PathJob], index: usize) -> Result<
 }
 
 /// Returns true if the merged list can continue with the next job of the first list and still be a
-/// shortest one. This holds if the longest common subsequence of the jobs that then remain is at
-/// least as long as after the next job of the second list.
+/// shortest common supersequence.
+///
+/// To decide this, compares two possible next jobs: that of the first list, and that of the second
+/// list. After each of them, the jobs that remain in the two lists have a longest common
+/// subsequence. The result is true if this subsequence is at least as long after the job of the
+/// first list as after that of the second list.
 ///
 /// - `left` and `other_left` are the numbers of jobs that remain in the two lists.
 /// - `lengths` is the table that [`common_lengths`] returns.
@@ -110,9 +114,9 @@ fn length_at(lengths: &[Vec<usize>], left: usize, other_left: usize) -> usize {
     }
 }
 
-/// Returns a table with the length of the longest common subsequence of each suffix of the first
-/// list and each suffix of the second list. The lengths of the two suffixes are the outer and the
-/// inner index of the table.
+/// Returns a table with one entry for each pair of a suffix of the first list and a suffix of the
+/// second list. The entry is the length of the longest common subsequence of the two suffixes. The
+/// lengths of the two suffixes are the outer and the inner index of the table.
 fn common_lengths(
     alloc: Global,
     first: &[PathJob],

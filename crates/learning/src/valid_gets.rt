@@ -30,8 +30,12 @@ fn is_valid_at(body: &[Action], position: usize) -> bool
     }
 }
 
-/// Returns true if a get at index `position` may name index `submit`: this earlier index has a
-/// submit, and no get before `position` names it.
+/// Returns true if a get at index `position` may name the action at index `submit`. This action
+/// must satisfy three conditions:
+///
+/// - It is before the get.
+/// - It is a submit.
+/// - No get before `position` names it.
 fn is_valid_get(body: &[Action], position: usize, submit: usize) -> bool
     ensures { result ≡ spec.is_valid_get body.now position submit }
 {

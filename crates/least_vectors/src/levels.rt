@@ -59,8 +59,8 @@ impl Levels {
     }
 
     /// Gives `level` to each class that has no level yet and submits only classes of lower levels.
-    /// Appends these classes to the order. `known` has, for each class, the length of a prefix of
-    /// its body that needs no further check. Updates these lengths.
+    /// Appends these classes to the order. `known` has a number for each class: this many actions
+    /// at the start of the class's body need no further check. Updates these numbers.
     fn add_level(&mut self, plan: &Plan, level: u64, known: &mut [usize]) -> Result<(), AllocError>
         ensures { vec_len self.new.of_classes ≡ vec_len self.old.of_classes }
     {
@@ -76,9 +76,9 @@ impl Levels {
         Ok(())
     }
 
-    /// Returns the length of the longest prefix of the class's body that submits only classes below
-    /// `level`. The first `known` actions are known to be in this prefix, and are not checked
-    /// again.
+    /// Returns the length of a prefix of the class's body. The prefix ends before the first submit
+    /// of a class at `level` or above. If there is no such submit, the prefix is the whole body.
+    /// The first `known` actions are known to be in this prefix, and are not checked again.
     fn known_actions(&self, class: &Class, level: u64, known: usize) -> usize {
         let mut known = known;
         for action in class.body.iter().skip(known) {

@@ -78,8 +78,8 @@ pub(crate) fn minimize_total(
     })
 }
 
-/// Returns a vector of the target's pool and kind with a total of at most the target's limit, or
-/// `None` if the search finds none.
+/// Returns a vector of the target's pool and kind. The total of the vector is at most the limit of
+/// the target. Returns `None` if the search finds no such vector.
 pub(crate) fn least_vector(
     alloc: Global,
     plan: &Plan,
@@ -99,9 +99,10 @@ pub(crate) fn least_vector(
     vector_of(alloc, plan, target, workers, &sketch)
 }
 
-/// Returns the vector of the target's pool and kind with the smallest total that the search finds,
-/// or `None` if the search finds none. The limit of the target must be 0, so that the search does
-/// not stop early. The total of the vector may be above this limit.
+/// Returns a vector of the target's pool and kind. Of all the vectors that the search finds, this
+/// one has the smallest total. Returns `None` if the search finds none. The limit of the target
+/// must be 0, so that the search does not stop early. The total of the vector may be above this
+/// limit.
 pub(crate) fn lightest_vector(
     alloc: Global,
     plan: &Plan,
@@ -121,8 +122,9 @@ pub(crate) fn lightest_vector(
     vector_of(alloc, plan, target, workers, &sketch)
 }
 
-/// Returns the next loan, or `None` if no loan helps. Uses [`relieving_loan`] if a class that is
-/// never submitted has a weight above `MAX_WEIGHT`, and [`best_loan`] otherwise.
+/// Returns the next loan, or `None` if no loan helps. Uses [`relieving_loan`] if there is an
+/// overweight class, and [`best_loan`] otherwise. A class is *overweight* if it is never submitted
+/// and has a weight above `MAX_WEIGHT`.
 ///
 /// - `workers` has the current weights of workers. They are the same after the call, unless memory
 ///   runs out.

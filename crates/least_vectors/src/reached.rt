@@ -1,6 +1,6 @@
-//! The reaches of classes. The reach of a class is the greatest rank of the pools on which its jobs
-//! depend. These are its own pool, and the pools of all jobs that its jobs get, directly or through
-//! other jobs.
+//! The reaches of classes. A job depends on its own pool, and on the pools of all jobs that it
+//! gets, directly or through other jobs. The reach of a class is the greatest rank of the pools on
+//! which its jobs depend.
 
 ghost use Rattle.std.specs.Prelude.{◌≡◌, IfOk, length, vec_len};
 
@@ -10,9 +10,9 @@ use job_bodies::{Action, Class, Plan};
 use std::alloc::{AllocError, Global};
 use weights::submitted_class;
 
-/// Returns the reach of each class, given the ranks of the pools. The reach of a class is the
-/// greatest rank of the pools on which its jobs depend. These are its own pool, and the pools of
-/// all jobs that its jobs get, directly or through other jobs.
+/// Returns the reach of each class, given the ranks of the pools. A job depends on its own pool,
+/// and on the pools of all jobs that it gets, directly or through other jobs. The reach of a class
+/// is the greatest rank of the pools on which its jobs depend.
 ///
 /// # Errors
 ///

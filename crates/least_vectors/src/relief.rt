@@ -1,5 +1,5 @@
 //! Loans for classes that are never submitted and have a weight above `MAX_WEIGHT`. The jobs of
-//! such a class do not count towards the total, but the vector must have weights for them of at
+//! such a class do not count towards the total, but their weights in the vector must still be at
 //! most `MAX_WEIGHT`. A loan gives the workers of a pool weight, so that the queued jobs of the
 //! pool can weigh less.
 
@@ -14,9 +14,10 @@ use std::alloc::AllocError;
 /// The number of steps in which bisection finds one weight from 0 to [`MAX_SIZE`].
 const HALVINGS: usize = 20;
 
-/// Returns the loan that leaves the fewest overweight classes, or `None` if no loan makes their
-/// number smaller. Of several such loans, returns the one after which all workers together weigh
-/// least. A class is *overweight* if it is never submitted and has a weight above `MAX_WEIGHT`.
+/// Returns the loan that leaves the fewest *overweight* classes. A class is overweight if it is
+/// never submitted and has a weight above `MAX_WEIGHT`. Returns `None` if no loan makes the number
+/// of overweight classes smaller. If several loans leave the fewest, returns the loan after which
+/// all workers together weigh least.
 ///
 /// - `workers` has the current weights of workers. They are the same after the call, unless memory
 ///   runs out.
@@ -67,9 +68,10 @@ pub(crate) fn relieving_loan(
     Ok(best)
 }
 
-/// Returns the least weight of a worker of the pool with which at most `overweight_unsubmitted`
-/// classes are overweight, or `MAX_SIZE` if no smaller weight has this effect. A class is
-/// *overweight* if it is never submitted and has a weight above `MAX_WEIGHT`.
+/// Returns a weight for each worker of the pool: the least weight that leaves at most
+/// `overweight_unsubmitted` classes overweight. A class is *overweight* if it is never submitted
+/// and has a weight above `MAX_WEIGHT`. Returns `MAX_SIZE` if every smaller weight leaves more
+/// classes overweight.
 ///
 /// Uses bisection, since heavier workers never leave more classes overweight. Changes the weight of
 /// the pool's workers in `workers`.

@@ -3,8 +3,8 @@
 //!
 //! - A *standing vector* bounds the number of queued jobs of the pool.
 //! - A *lifetime vector* bounds the number of all jobs that are ever submitted to the pool.
-//! - A *blocked vector* bounds the number of the pool's jobs that wait at gets of classes with a
-//!   high reach (see [`Kind::Blocked`]).
+//! - A *blocked vector* bounds the number of the pool's jobs that wait at certain gets. These gets
+//!   wait for jobs of classes with a high reach (see [`Kind::Blocked`]).
 
 ghost use Rattle.std.specs.Prelude.{◌≡◌, ◌<◌, length, IfOk, IfSome, IsTrue, vec_len};
 ghost use Rattle.weights.specs.Vector.{vector_fits};
@@ -25,8 +25,8 @@ pub struct VectorSummary {
     /// For each pool, the weight of one of its workers.
     pub workers: Vec<u64>,
     /// The pools whose workers had weight at some point in the search. A search with other maximums
-    /// gives the same result if these pools have the same maximums, and no other pool has a smaller
-    /// maximum.
+    /// gives the same result under two conditions: the maximums of these pools are the same, and no
+    /// other pool has a smaller maximum.
     pub lenders: Vec<usize>,
     /// The total of the vector: the weight of all clients at the start of their bodies, plus the
     /// weight of all workers if each pool has its maximum of workers.
@@ -42,13 +42,13 @@ pub enum Kind<'a> {
     /// A lifetime vector. No workers have weight.
     Lifetime,
     /// A blocked vector of a pool with the rank `rank`. It bounds the number of the pool's jobs
-    /// that wait at gets of classes with a reach of at least `rank`. The workers of this pool weigh
-    /// 0. If each of them weighed at least 1, the total would be at least the core size, but it
-    /// must be less.
+    /// that wait at certain gets. These gets wait for jobs of classes with a reach of at least
+    /// `rank`. The workers of this pool weigh 0. If each of them weighed at least 1, the total
+    /// would be at least the core size. But the total must be less than the core size.
     Blocked {
-        /// The reach of each class: the greatest rank of the pools on which its jobs depend. These
-        /// are its own pool, and the pools of all jobs that its jobs get, directly or through other
-        /// jobs.
+        /// The reach of each class. A job of the class depends on its own pool, and on the pools of
+        /// all jobs that it gets, directly or through other jobs. The reach is the greatest rank of
+        /// these pools.
         reach: &'a [u64],
         rank: u64,
         /// Whether the workers of other pools may have weight.
@@ -66,9 +66,9 @@ pub struct ResizedPlan<'a> {
 }
 
 impl ResizedPlan<'_> {
-    /// Returns the summary of a vector of the pool with a total of at most `enough`. If the search
-    /// finds no such vector, returns the summary of the vector with the smallest total that it
-    /// found.
+    /// Searches for a vector of the pool, and returns the summary of the vector. If the search
+    /// finds a vector with a total of at most `enough`, returns the summary of this vector.
+    /// Otherwise, returns the summary of the vector with the smallest total that the search found.
     ///
     /// Returns `None` if the search finds no vector at all, because a number would be above
     /// `MAX_WEIGHT` or a repeating client would need more weight in each repetition.
@@ -102,10 +102,10 @@ impl ResizedPlan<'_> {
         }))
     }
 
-    /// Returns the vector of this kind for the pool, with these worker weights, one for each pool.
-    /// Returns `None` if a number of the vector is above `MAX_WEIGHT`, or if the number of worker
-    /// weights is wrong. The conditions of the returned vector need not hold, so the caller must
-    /// check them.
+    /// Returns the vector of this kind for the pool. `workers` has the worker weights of the
+    /// vector, one for each pool. Returns `None` if a number of the vector is above `MAX_WEIGHT`,
+    /// or if the number of worker weights is wrong. The conditions of the returned vector need not
+    /// hold, so the caller must check them.
     ///
     /// # Errors
     ///

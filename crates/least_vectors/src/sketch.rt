@@ -1,5 +1,5 @@
-//! The weights of jobs when queued and when done, and of clients at their start, computed in one
-//! pass over the bodies.
+//! Sketches of vectors. A sketch has the weights of queued jobs, of done jobs, and of clients at
+//! the start of their bodies. It is computed in one pass over the bodies.
 
 use crate::Levels;
 use crate::numbers::{number_at, put_at};
@@ -9,9 +9,9 @@ use job_bodies::{Action, Class, Client, MAX_WEIGHT, Plan};
 use std::alloc::{AllocError, Global};
 use weights::submitted_class;
 
-/// The value of a sketch's total if there is no vector with its worker weights, or if the total
-/// overflows. There is no vector if another weight would be above `MAX_WEIGHT`, or if a repeating
-/// client would need more weight in each repetition.
+/// The total of a sketch if there is no vector with the given worker weights, or if the total
+/// overflows. There is no vector in two cases: another weight would be above `MAX_WEIGHT`, or a
+/// repeating client would need more weight in each repetition.
 pub(crate) const TOO_HEAVY: u64 = u64::MAX;
 
 /// The parts of a vector that determine its total, without the weights at the positions of bodies.

@@ -63,8 +63,9 @@ impl<'a> SketchCache<'a> {
         Ok(place)
     }
 
-    /// Returns the number of classes that are never submitted and have a weight above `MAX_WEIGHT`
-    /// if the workers have these weights. Computes the sketch anew and does not cache it.
+    /// Returns the number of *overweight* classes for these worker weights. A class is overweight
+    /// if it is never submitted and has a weight above `MAX_WEIGHT`. Computes the sketch anew and
+    /// does not cache it.
     pub(crate) fn overweight_unsubmitted(&self, workers: &[u64]) -> Result<usize, AllocError> {
         let sketch = Sketch::of(self.alloc, self.plan, self.levels, self.target, workers)?;
         Ok(sketch.overweight_unsubmitted)

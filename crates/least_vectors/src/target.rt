@@ -2,8 +2,8 @@
 //!
 //! - A *standing vector* bounds the number of queued jobs of the pool.
 //! - A *lifetime vector* bounds the number of all jobs that are ever submitted to the pool.
-//! - A *blocked vector* bounds the number of the pool's jobs that wait at gets of classes with a
-//!   high reach (see [`WeightRequirement::AtGets`]).
+//! - A *blocked vector* bounds the number of the pool's jobs that wait at certain gets. These gets
+//!   wait for jobs of classes with a high reach (see [`WeightRequirement::AtGets`]).
 
 use crate::numbers::number_at;
 use job_bodies::{Action, Class, Plan, Pool};
@@ -15,12 +15,12 @@ use weights::submitted_class;
 pub(crate) enum WeightRequirement<'a> {
     /// While the job is queued. A standing vector has this requirement.
     WhileQueued,
-    /// At each get that waits for a job of a class whose reach is at least `rank`, the rank of the
-    /// pool. A blocked vector has this requirement.
+    /// At each get that waits for a job of a class with a high reach. A reach is high if it is at
+    /// least `rank`, which is the rank of the pool. A blocked vector has this requirement.
     AtGets {
-        /// The reach of each class: the greatest rank of the pools on which its jobs depend. These
-        /// are its own pool, and the pools of all jobs that its jobs get, directly or through other
-        /// jobs.
+        /// The reach of each class. A job of the class depends on its own pool, and on the pools of
+        /// all jobs that it gets, directly or through other jobs. The reach is the greatest rank of
+        /// these pools.
         reach: &'a [u64],
         rank: u64,
     },
@@ -57,7 +57,8 @@ pub(crate) struct Target<'a> {
 }
 
 impl<'a> Target<'a> {
-    /// Creates the target of a standing vector of pool `number` with a total of at most `limit`.
+    /// Creates the target of a search for a standing vector of a pool. `number` is the index of the
+    /// pool, and `limit` is the greatest total that the search accepts.
     pub(crate) fn standing(number: usize, limit: u64) -> Target<'static> {
         Target {
             pool: number,
@@ -68,7 +69,8 @@ impl<'a> Target<'a> {
         }
     }
 
-    /// Creates the target of a lifetime vector of pool `number` with a total of at most `limit`.
+    /// Creates the target of a search for a lifetime vector of a pool. `number` is the index of the
+    /// pool, and `limit` is the greatest total that the search accepts.
     pub(crate) fn lifetime(number: usize, limit: u64) -> Target<'static> {
         Target {
             pool: number,
@@ -79,8 +81,9 @@ impl<'a> Target<'a> {
         }
     }
 
-    /// Creates the target of a blocked vector of pool `number` with a total of at most `limit`.
-    /// `rank` is the rank of the pool, and `reach` has the reach of each class.
+    /// Creates the target of a search for a blocked vector of a pool. `number` is the index of the
+    /// pool, and `limit` is the greatest total that the search accepts. `rank` is the rank of the
+    /// pool, and `reach` has the reach of each class.
     pub(crate) fn blocked(number: usize, limit: u64, reach: &'a [u64], rank: u64) -> Target<'a> {
         Target {
             pool: number,
@@ -133,7 +136,7 @@ impl<'a> Target<'a> {
         total
     }
 
-    /// Returns true if an actor that gets a done job takes over the weight of this job.
+    /// Returns `true` if an actor takes over the weight of a done job when the actor gets this job.
     pub(crate) fn gives_back(&self) -> bool {
         !matches!(self.requirement, WeightRequirement::Everywhere)
     }

@@ -4,11 +4,11 @@
 //!   queued jobs of the pool. A *lifetime vector* bounds the number of all jobs that are ever
 //!   submitted to the pool. A pool that may reject jobs or has an unbounded queue needs no bound,
 //!   but can have one.
-//! - The *blocked vector*. It bounds the number of the pool's jobs that wait at gets of classes
-//!   whose reach is at least the rank of the pool.
+//! - The *blocked vector*. It bounds the number of the pool's jobs that wait at certain gets. These
+//!   gets wait for jobs of classes with a reach of at least the pool's rank.
 //!
-//! The *reach* of a class is the greatest rank of the pools on which its jobs depend. These are its
-//! own pool, and the pools of all jobs that its jobs get, directly or through other jobs.
+//! A job depends on its own pool, and on the pools of all jobs that it gets, directly or through
+//! other jobs. The *reach* of a class is the greatest rank of the pools on which its jobs depend.
 
 ghost use Rattle.std.specs.Prelude.{◌<◌, IfOk, IfSome, IsTrue, length};
 ghost use Rattle.weights.specs.Vector.{vector_fits};
@@ -59,9 +59,10 @@ pub fn pool_bound(
     }
 }
 
-/// Returns the number of jobs that the pool accepts before it can refuse one: its capacity plus its
-/// maximum, minus its prestarted threads. If core threads may time out, this is only the capacity
-/// of its queue, because Java then starts threads without a job.
+/// Returns the number of jobs that the pool accepts before it can refuse one. This is the capacity
+/// of the queue plus the maximum of the pool, minus the number of prestarted threads. If core
+/// threads may time out, it is only the capacity of the queue, because Java then starts threads
+/// without a job.
 fn lifetime_limit(pool: &Pool) -> u64 {
     if pool.core_timeout {
         return pool.queue;
@@ -70,8 +71,8 @@ fn lifetime_limit(pool: &Pool) -> u64 {
     places.saturating_sub(pool.first_workers())
 }
 
-/// Returns the standing vector of the pool with the smallest total that the search finds, or `None`
-/// if it finds none.
+/// Returns a standing vector of the pool. Of all the standing vectors that the search finds, this
+/// one has the smallest total. Returns `None` if the search finds none.
 fn lightest_standing(
     alloc: Global,
     plan: &Plan,

@@ -8,8 +8,8 @@ pub(crate) struct Weight {
     /// The least weight at this position. It depends on the weight that the actor has at the end of
     /// the body, which was passed to [`Weight::at_end`].
     pub(crate) number: u64,
-    /// The greatest number by which the weight at the end of the body can increase without an
-    /// increase of the weight at this position.
+    /// The greatest increase of the end weight that does not increase the weight at this position.
+    /// The end weight is the weight at the end of the body.
     pub(crate) slack: u64,
 }
 

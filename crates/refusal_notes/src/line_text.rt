@@ -141,8 +141,8 @@ fn push_note(text: &mut String, plan: &Plan, note: &Note) -> Result<(), AllocErr
 }
 
 /// Appends the line of the note, such as `pool p blocked, total: B2 1 above 0`, and a newline. If
-/// the plan does not have the pool, class or client kind of the note, its name is empty in the
-/// line.
+/// the plan does not have the pool, class or client kind of the note, the line has an empty name in
+/// its place.
 ///
 /// # Errors
 ///

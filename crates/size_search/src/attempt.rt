@@ -20,15 +20,18 @@ pub(crate) struct Attempt {
     /// The sum of the amounts by which the needed cores, maximums and queues exceed the declared
     /// ones. The maximum of a pool with an unbounded queue does not count.
     pub(crate) cost: u64,
-    /// The largest number of pools from which a round chose the pool to raise. It is 0 if no round
-    /// raised a core. If the rounds were repeated, only their first execution counts.
+    /// The largest number of candidates that a round had. The candidates of a round are the pools
+    /// whose core the round could raise. The number is 0 if no round raised a core. If the rounds
+    /// were repeated, only their first execution counts.
     pub(crate) choices: usize,
 }
 
-/// Searches for a certificate and for the least sizes with which it accepts the plan. The search
-/// starts with the cores and maximums in `threads`. If no pool has a large enough core in a round,
-/// the round raises the core of the pool that needs the smallest increase. But the first such round
-/// skips the `passed_over` pools that need the smallest increases.
+/// Searches for a certificate of the plan, and for the least sizes that this certificate needs. The
+/// search starts with the cores and maximums in `threads`.
+///
+/// If no pool has a large enough core in a round, the round raises the core of one pool: the pool
+/// that needs the smallest increase. The first such round skips the `passed_over` pools with the
+/// smallest increases, and raises the core of the next pool.
 ///
 /// # Errors
 ///

@@ -46,8 +46,8 @@ pub(crate) fn bound_of(
     }
 }
 
-/// Returns the standing vector with the smallest total that the search finds for the pool, or
-/// `None` if the search finds no standing vector.
+/// Searches for standing vectors of the pool, and returns the one with the smallest total that was
+/// found. Returns `None` if no standing vector was found.
 fn standing_bound(
     alloc: Global,
     cache: &mut VectorCache,
@@ -73,9 +73,9 @@ struct LeastBound {
     missing: u64,
 }
 
-/// Returns the standing vector or the lifetime vector of the pool: the one that requires the
-/// smaller increase of the queue, or the standing vector if both increases are equal. Returns
-/// `None` if the search finds no vector.
+/// Returns a vector that bounds the queue of the pool. This is either the standing vector or the
+/// lifetime vector, whichever requires the smaller increase of the queue. If both increases are
+/// equal, it is the standing vector. Returns `None` if the search finds no vector.
 fn least_bound(
     alloc: Global,
     cache: &mut VectorCache,
@@ -125,8 +125,9 @@ fn least_bound(
 }
 
 /// Returns the queue capacity that the pool needs to accept this number of jobs in its lifetime.
-/// Threads that are not prestarted make it smaller: each of them starts with a job, which needs no
-/// place in the queue. If core threads may time out, it equals the number of jobs.
+/// Each thread that is not prestarted starts with a job, which needs no place in the queue. So the
+/// capacity is the number of jobs minus the number of these threads, or 0 if there are fewer jobs.
+/// If core threads may time out, the capacity equals the number of jobs.
 fn lifetime_queue(pool: &Pool, pool_threads: PoolThreads, jobs: u64) -> u64 {
     if pool.core_timeout {
         return jobs;

@@ -16,8 +16,11 @@ pub enum Cause {
     /// The number of a pool whose last thread can wait for another job of this pool. The core
     /// threads of the pool may time out, so one thread can be left.
     ///
-    /// The job on this thread waits at a get until the other job ends. There can be further jobs in
-    /// between: each one gets the next job, or it is queued in a pool whose last thread executes a
-    /// job that gets the next job.
+    /// The job on this thread waits at a get until the other job ends. The wait can be direct, or
+    /// it can go through a chain of further jobs. Each job of the chain waits for the next job in
+    /// one of two ways:
+    ///
+    /// - It gets the next job.
+    /// - It is queued in a pool whose last thread executes a job that gets the next job.
     PoolWaitsForItself(usize),
 }

@@ -39,15 +39,14 @@ pub fn cause_of(alloc: Global, plan: &Plan) -> Result<Option<Cause>, AllocError>
     pool_circle(alloc, plan)
 }
 
-/// Returns whether it is possible that no sizes are enough for the plan's steady certificate
-/// although the plan has no cause. This is so in two cases:
+/// Returns whether the plan's steady certificate may be unusable: possibly no sizes are enough for
+/// it. The plan must have no cause (see [`cause_of`]). The certificate may be unusable in two
+/// cases:
 ///
-/// - A repeating client submits a job to a pool that needs no bound, directly or through other
-///   jobs, and the job is never got.
-/// - A class has a get, the core threads of its pool may time out, and no client submits this
-///   class, directly or through other jobs.
-///
-/// [`cause_of`] must have found no cause.
+/// - A repeating client submits a job, directly or through other jobs. The job is never got, and
+///   its pool needs no bound.
+/// - A class has a get, but no client submits this class, directly or through other jobs. The core
+///   threads of the class's pool may time out.
 pub(crate) fn is_unsteady(alloc: Global, plan: &Plan) -> Result<bool, AllocError>
     requires { IsWithoutCause plan.now }
     ensures unsteady { IfOk result
@@ -61,8 +60,9 @@ pub(crate) fn is_unsteady(alloc: Global, plan: &Plan) -> Result<bool, AllocError
     Ok(has_unused_get(plan, &submitted))
 }
 
-/// Returns whether a repeating client submits a job to a pool that needs no bound, directly or
-/// through other jobs, and the job is never got. [`cause_of`] must have found no cause.
+/// Returns whether a repeating client submits a job of the following kind, directly or through
+/// other jobs: the job is never got, and its pool needs no bound. [`cause_of`] must have found no
+/// cause.
 fn loses_without_bound(alloc: Global, plan: &Plan) -> Result<bool, AllocError>
     requires { IsWithoutCause plan.now }
     ensures loses { IfOk result (λ loses. loses ≡ true → LosesWithoutBound plan.now) }
@@ -109,9 +109,13 @@ fn pool_circle(alloc: Global, plan: &Plan) -> Result<Option<Cause>, AllocError>
     }
 }
 
-/// Returns whether some class has a get and is not marked in `submitted`, and the core threads of
-/// its pool may time out. The marked classes must be those that clients submit, directly or through
-/// other jobs.
+/// Returns whether some class satisfies these three conditions:
+///
+/// - The class has a get.
+/// - The class is not marked in `submitted`.
+/// - The core threads of the class's pool may time out.
+///
+/// The marked classes must be those that clients submit, directly or through other jobs.
 fn has_unused_get(plan: &Plan, submitted: &[bool]) -> bool
     requires { MarksSubmitted plan.now submitted.now }
     ensures unused { result ≡ true → HasUnusedGet plan.now }
@@ -159,10 +163,10 @@ fn may_lose_threads(plan: &Plan, pool: usize) -> bool
     }
 }
 
-/// Returns the first submit without a get in the bodies of the repeating client kinds, as the
-/// number of the client kind and the position of the submit. Returns `None` if there is no such
-/// submit. If `without_bound` is `true`, considers only submits to pools that need no bound, and
-/// otherwise only submits to the other pools.
+/// Searches the bodies of the repeating client kinds for the first submit of a job that the body
+/// never gets. Returns the number of the client kind and the position of the submit, or `None` if
+/// there is no such submit. If `without_bound` is `true`, considers only submits to pools that need
+/// no bound, and otherwise only submits to the other pools.
 fn lost_by_clients(plan: &Plan, without_bound: bool) -> Option<(usize, usize)>
     ensures lost { IfSome result (λ found. LostByClients plan.now without_bound found.0 found.1) }
     ensures none { IfNone result ((c i : ℕ) → ¬ LostByClients plan.now without_bound c i) }
@@ -178,10 +182,10 @@ fn lost_by_clients(plan: &Plan, without_bound: bool) -> Option<(usize, usize)>
     None
 }
 
-/// Returns the first submit without a get in the bodies of the marked classes, as the number of the
-/// class and the position of the submit. Returns `None` if there is no such submit. The marked
-/// classes must be those that repeating clients submit, directly or through other jobs.
-/// `without_bound` is as in [`lost_by_clients`].
+/// Searches the bodies of the marked classes for the first submit of a job that the body never
+/// gets. Returns the number of the class and the position of the submit, or `None` if there is no
+/// such submit. The marked classes must be those that repeating clients submit, directly or through
+/// other jobs. `without_bound` is as in [`lost_by_clients`].
 fn lost_by_jobs(plan: &Plan, repeated: &[bool], without_bound: bool) -> Option<(usize, usize)>
     requires { MarksRepeated plan.now repeated.now }
     ensures lost { IfSome result (λ found. LostByJobs plan.now without_bound found.0 found.1) }

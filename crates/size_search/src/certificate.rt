@@ -130,8 +130,12 @@ fn blocked_of(alloc: Global, vector: &Vector, uncounted: bool) -> Result<Vector,
     Ok(vector)
 }
 
-/// Returns the part of the steady certificate for one pool. `vector` is the bound of the pool if
-/// the pool needs one, and its blocked vector unless its core threads may time out.
+/// Returns the part of the steady certificate for one pool. This part has a bound and a blocked
+/// vector:
+///
+/// - If the pool needs a bound, the bound is `vector`. Otherwise there is no bound.
+/// - If the core threads of the pool never time out, the blocked vector is `vector`. Otherwise the
+///   blocked vector is 0.
 fn pool_of(alloc: Global, vector: &Vector, pool: &Pool) -> Result<PoolCert, AllocError>
     requires { has_small_numbers vector.now ≡ true }
     ensures { IfOk result (λ part. part ≡ spec.pool_of vector.now pool.now) }
@@ -189,7 +193,8 @@ fn halves_of(
 ///
 /// - No repeating client submits, directly or through other jobs, a job that is never got.
 /// - No pool whose core threads may time out waits for itself.
-/// - Clients submit, directly or through other jobs, each class of such a pool that has a get.
+/// - If a class of such a pool has a get, clients submit this class, directly or through other
+///   jobs.
 ///
 /// The queues of pools that may reject jobs need not be large.
 ///

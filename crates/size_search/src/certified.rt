@@ -69,11 +69,11 @@ fn pool_certs(
     Ok(pools)
 }
 
-/// Returns the blocked vector that was found for a pool in the round that gave the pool this rank.
-/// If there is none, returns the pool as the obstacle.
+/// Returns the blocked vector of the hit's pool. The search found this vector in the round that
+/// gave the pool its rank. If the search found none, returns the pool as the obstacle.
 ///
-/// Other pools that had no rank in that round get this rank or a higher one in later rounds. So the
-/// vector remains valid.
+/// The vector remains valid after that round: every other pool that had no rank yet gets the same
+/// rank or a higher one.
 fn blocked_of(
     alloc: Global,
     cache: &VectorCache,

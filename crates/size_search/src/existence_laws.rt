@@ -7,27 +7,28 @@
 ghost use Rattle.size_search.specs.NoSizesHelp.{NoSizesHelp};
 ghost use Rattle.size_search.specs.NoSizesHelp.{SizesExist};
 
-/// States that no certificate accepts a plan with a cause, whatever its sizes. A cause is one of
-/// these:
+/// States that no certificate accepts a plan with a cause, whatever sizes the plan has. A cause is
+/// one of these:
 ///
 /// - A class submits itself, directly or through other classes.
-/// - A repeating client submits a job to a pool that needs a bound, directly or through other jobs,
-///   and the job is never got.
+/// - A repeating client submits a job, directly or through other jobs. The job is never got, and
+///   its pool needs a bound.
 /// - The core threads of a pool may time out, and its last thread can wait until a job of the pool
 ///   ends.
 pub fn no_sizes_help()
     ensures { NoSizesHelp }
 {}
 
-/// States that a plan has sizes with which some certificate accepts it exactly when the plan has no
-/// cause, as in [`no_sizes_help`]. The premises are these:
+/// States that enough sizes exist for a plan without a cause, and do not exist for a plan with a
+/// cause. Sizes are *enough* if some certificate accepts the plan with these sizes. The causes are
+/// listed in [`no_sizes_help`]. The premises are these:
 ///
 /// - Each weight of the plan's steady certificate is at most `MAX_WEIGHT`.
 /// - The total of this certificate's vector is below `MAX_SIZE`.
-/// - Each job that a repeating client submits to a pool that needs no bound, directly or through
-///   other jobs, is got.
-/// - Clients submit, directly or through other jobs, each class that has a get and whose pool's
-///   core threads may time out.
+/// - If a repeating client submits a job to a pool that needs no bound, directly or through other
+///   jobs, the job is got.
+/// - If a class has a get and the core threads of its pool may time out, clients submit this class,
+///   directly or through other jobs.
 pub fn sizes_exist()
     ensures { SizesExist }
 {}

@@ -55,8 +55,8 @@ fn queue_of_bound(plan: &Plan, bound: &Bound, pool: &Pool) -> u64
     }
 }
 
-/// Returns the queue capacity that pool `number` needs for this bound if it has the core and
-/// maximum of `pool`. Returns 0 if there is no bound or the queue is unbounded.
+/// Returns the queue capacity that a pool needs for this bound. `number` is the number of the pool,
+/// and `pool` has its core and maximum. Returns 0 if there is no bound or the queue is unbounded.
 fn queue_needed(plan: &Plan, bound: &Option<Bound>, number: usize, pool: &Pool) -> u64
     requires well_formed { IsWellFormed plan.now }
     requires fits { IsTrue (bound_fits plan.now number bound.now) }
@@ -68,8 +68,8 @@ fn queue_needed(plan: &Plan, bound: &Option<Bound>, number: usize, pool: &Pool) 
     }
 }
 
-/// Returns the capacity of the pool's queue, raised to `needed` if it is smaller. If the pool needs
-/// no bound, returns the capacity unchanged.
+/// Returns the capacity of the pool's queue, but at least `needed`. If the pool needs no bound,
+/// returns the capacity unchanged.
 fn raised_queue(pool: &Pool, needed: u64) -> u64
     ensures { result
         ≡ (if needs_no_bound pool.now then pool.now.queue else max pool.now.queue needed) }
@@ -94,9 +94,10 @@ fn raised_core(pool: &Pool, needed: u64) -> u64
     }
 }
 
-/// Returns the pool with this number, with its core and then its queue raised to what the
-/// certificate needs. A prestarted pool with a larger core can need a larger queue. The queue of a
-/// pool that needs no bound stays unchanged, and so does a core whose threads may time out.
+/// Returns the pool with this number, after its core and then its queue were raised to what the
+/// certificate needs. The core is raised first, because a prestarted pool with a larger core can
+/// need a larger queue. The queue of a pool that needs no bound stays unchanged. A core whose
+/// threads may time out stays unchanged too.
 fn raised_pool(alloc: Global, plan: &Plan, cert: &Cert, number: usize) -> Result<Pool, AllocError>
     requires fits { IsTrue (cert_fits plan.now cert.now) }
     requires number { number < length plan.now.pools }
@@ -155,9 +156,9 @@ fn failing_elsewhere(alloc: Global, plan: &Plan, cert: &Cert) -> Result<Option<N
     Ok(first_elsewhere(&failing))
 }
 
-/// Returns whether the queue of pool `number` is smaller than the certificate needs, after the
-/// sizes were raised. This is possible only for a pool that may reject jobs, because the queue of
-/// such a pool is not raised.
+/// Returns whether the queue of the pool with this number is smaller than the certificate needs,
+/// after the sizes were raised. This is possible only for a pool that may reject jobs, because the
+/// queue of such a pool is not raised.
 fn is_tight(plan: &Plan, cert: &Cert, raised: &[Pool], number: usize) -> bool
     requires well_formed { IsWellFormed plan.now }
     requires fits { IsTrue (cert_fits plan.now cert.now) }
@@ -219,8 +220,8 @@ fn short_pool(plan: &Plan, cert: &Cert, raised: &[Pool]) -> Option<Unfit>
     None
 }
 
-/// Returns the reason why the sizes that the certificate needs are not possible, or `None` if they
-/// are possible. `raised` has the plan's pools with these sizes.
+/// Returns `None` if the sizes that the certificate needs are possible, and otherwise the reason
+/// why they are not. `raised` has the plan's pools with these sizes.
 fn unfit_sizes(plan: &Plan, cert: &Cert, raised: &[Pool]) -> Option<Unfit>
     requires well_formed { IsWellFormed plan.now }
     requires fits { IsTrue (cert_fits plan.now cert.now) }
@@ -256,9 +257,9 @@ fn unfit(
     }
 }
 
-/// Returns the plan with the smallest cores and queues with which the certificate accepts it. A
+/// Returns the plan with the least cores and queues that make the certificate accept the plan. A
 /// core or a queue is only raised, never made smaller. Larger maximums would not allow smaller
-/// cores. If there is no such plan, the inner error has the given plan and the reason.
+/// cores. If no cores and queues are enough, the inner error has the given plan and the reason.
 ///
 /// These sizes stay unchanged:
 ///
@@ -332,8 +333,8 @@ fn smallest_pools(alloc: Global, plan: &Plan) -> Result<Vec<Pool>, AllocError>
 /// Returns the plan with each core and each queue set to 1. These sizes stay unchanged: the cores
 /// whose threads may time out, the queues of pools that may reject jobs, and the unbounded queues.
 ///
-/// [`fitted`] raises the sizes of the returned plan to the least cores and queues with which the
-/// certificate accepts the plan. These sizes can be smaller than the declared sizes.
+/// [`fitted`] raises the sizes of the returned plan to the least cores and queues that make a
+/// certificate accept the plan. These sizes can be smaller than the declared sizes.
 ///
 /// # Errors
 ///

@@ -5,17 +5,18 @@ ghost use Rattle.size_search.specs.Fitted.{FittedSizesAreLeast, AcceptedPlansFit
 ghost use Rattle.size_search.specs.Widened.{WidenedMaxesAreLeast};
 ghost use Rattle.size_search.specs.Unfit.{ReportedCoresNeedLargerMaxes};
 
-/// States that fitting gives the least cores and queues with which a certificate accepts a plan.
+/// States that fitting gives the least cores and queues that make a certificate accept a plan.
 ///
 /// Call a plan *larger* than the given plan if these conditions hold:
 ///
 /// - The two plans differ only in cores and queues.
-/// - No core and no queue is smaller.
-/// - Each pool that may reject jobs or has an unbounded queue has the same queue.
+/// - No core and no queue is smaller than in the given plan.
+/// - The queues of pools that may reject jobs are the same, and so are the unbounded queues.
+/// - The cores whose threads may time out are the same.
 ///
-/// Then the fitted plan is larger, and the certificate accepts it. No larger plan that the
-/// certificate accepts has a smaller core or queue than the fitted plan. If there is no fitted
-/// plan, the certificate accepts no larger plan.
+/// Then the fitted plan is larger, and the certificate accepts it. Among the larger plans that the
+/// certificate accepts, none has a smaller core or queue than the fitted plan. If there is no
+/// fitted plan, the certificate accepts no larger plan.
 pub fn fitted_sizes_are_least()
     ensures { FittedSizesAreLeast }
 {}
@@ -28,14 +29,17 @@ pub fn accepted_plans_fit()
 /// States when a certificate that accepts a plan also accepts it with other cores and queues.
 ///
 /// Let two plans differ only in cores and queues, and let the certificate accept the first plan.
-/// Assume that no core of the second plan is smaller. Assume also that no limit on the total of a
-/// bound is smaller, except for unbounded queues. Then the certificate accepts the second plan.
+/// The certificate also accepts the second plan if these conditions hold:
+///
+/// - No core is smaller than in the first plan.
+/// - For each pool with a bounded queue, the limit on the total of its bound is not smaller than in
+///   the first plan.
 pub fn larger_sizes_are_accepted()
     ensures { LargerSizesAreAccepted }
 {}
 
-/// States that fitting the smallest plan gives the least cores and queues with which the
-/// certificate accepts a plan.
+/// States that fitting the smallest plan gives the least cores and queues that make the certificate
+/// accept a plan.
 ///
 /// In the smallest plan, each core and each queue is 1. These sizes are unchanged in the smallest
 /// plan and in the fitted plan: the queues of pools that may reject jobs, the unbounded queues, and
@@ -45,22 +49,26 @@ pub fn smallest_fit_is_least()
     ensures { SmallestFitIsLeast }
 {}
 
-/// States that no maximum of the widened plan is larger than necessary. In the widened plan, each
-/// maximum is raised to the core that the certificate needs with the plan's own maximums, if this
-/// core is larger.
+/// States that no maximum of the widened plan is larger than necessary. In the widened plan, a
+/// maximum is raised if the certificate needs a larger core. It is then equal to this core. The
+/// needed cores are computed with the plan's own maximums. The maximum of a pool whose core threads
+/// may time out stays unchanged.
 ///
-/// Let the certificate accept the plan with other sizes, and let no maximum be smaller than in the
-/// plan. Then each maximum of these sizes is at least as large as in the widened plan. Each core is
-/// at least the core that the certificate needs with the plan's own maximums.
+/// Let the certificate accept the plan with other sizes, whose maximums are no smaller than the
+/// plan's. Then these sizes satisfy two conditions:
+///
+/// - Each maximum is at least as large as in the widened plan.
+/// - Each core whose threads never time out is at least the core that the certificate needs with
+///   the plan's own maximums.
 pub fn widened_maxes_are_least()
     ensures { WidenedMaxesAreLeast }
 {}
 
-/// States that the maximum of a pool is too small if the core of this pool is the reason why the
-/// plan cannot be fitted.
+/// States that a pool's maximum is too small if the plan cannot be fitted because of this pool's
+/// core.
 ///
-/// Let the certificate accept the plan with other sizes, and let no maximum be smaller than in the
-/// plan. Then the maximum of this pool is larger than in the plan.
+/// Let the certificate accept the plan with other sizes, whose maximums are no smaller than the
+/// plan's. Then the maximum of this pool is larger than in the plan.
 pub fn reported_cores_need_larger_maxes()
     ensures { ReportedCoresNeedLargerMaxes }
 {}

@@ -7,8 +7,8 @@ use cert_text::Cert;
 use job_bodies::Plan;
 use std::alloc::AllocError;
 
-/// The result of a search for sizes: the plan with sizes with which a certificate accepts it, or
-/// the reason why the search found none.
+/// The result of a search for sizes: the plan with enough sizes and a certificate that accepts it,
+/// or the reason why the search found no sizes.
 #[derive(Drop)]
 pub enum SizesFound {
     /// The plan with the sizes that were found, and a certificate that accepts it.
@@ -27,11 +27,11 @@ pub enum NoSizes {
     ///
     /// - It needs sizes above 1,000,000.
     /// - It has a weight above [`MAX_WEIGHT`](job_bodies::MAX_WEIGHT).
-    /// - Possibly no sizes are enough for it, because a repeating client submits a job that is
-    ///   never got, directly or through other jobs. The job goes to a pool that may reject jobs or
-    ///   has an unbounded queue.
-    /// - Possibly no sizes are enough for it, because a class has a get, the core threads of its
-    ///   pool may time out, and no client submits this class, directly or through other jobs.
+    /// - Possibly no sizes are enough for it, because some job is never got. A repeating client
+    ///   submits this job, directly or through other jobs. The job goes to a pool that may reject
+    ///   jobs or has an unbounded queue.
+    /// - Possibly no sizes are enough for it, because a class has a get, but no client submits this
+    ///   class, directly or through other jobs. The core threads of the class's pool may time out.
     ///
     /// Other sizes can exist. The field is the number of the pool at which the first attempt
     /// failed, or 0 if that attempt failed at no particular pool.

@@ -91,7 +91,8 @@ fn class_waits(alloc: Global, plan: &Plan, number: usize) -> Result<Vec<usize>, 
     Ok(nodes)
 }
 
-/// Returns the classes whose jobs the marked classes of the pool get.
+/// Looks at each get in the bodies of the pool's marked classes, and returns the classes of the
+/// jobs that are got.
 fn marked_gets(
     alloc: Global,
     plan: &Plan,
@@ -113,7 +114,8 @@ fn marked_gets(
 }
 
 /// Returns the successors of a pool in the graph of waits. If core threads of the pool may time
-/// out, they are the classes whose jobs the pool's marked classes get. Otherwise there are none.
+/// out, the successors are the classes of the jobs that the pool's marked classes get. Otherwise
+/// there are no successors.
 fn pool_waits(
     alloc: Global,
     plan: &Plan,
@@ -162,9 +164,9 @@ fn push_pools(
 
 /// Returns the graph of waits. Its nodes are the classes and then the pools:
 ///
-/// - The successors of a class are its pool and the classes whose jobs it gets.
-/// - The successors of a pool whose core threads may time out are the classes whose jobs the pool's
-///   marked classes get. Any other pool has no successors.
+/// - The successors of a class are its pool and the classes of the jobs that it gets.
+/// - If core threads of a pool may time out, the successors of the pool are the classes of the jobs
+///   that the pool's marked classes get. Any other pool has no successors.
 pub(crate) fn wait_graph(alloc: Global, plan: &Plan, marks: &[bool]) -> Result<Graph, AllocError>
     requires { length marks.now ≡ length plan.now.classes }
     ensures graph { IfOk result (λ graph. graph ≡ spec.wait_graph plan.now marks.now) }

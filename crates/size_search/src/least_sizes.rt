@@ -31,8 +31,8 @@ pub(crate) fn least_sizes(
 
 /// Returns the plan with its maximums raised until no maximum is below the core that its pool
 /// needs. One raise can make another necessary, so the raises are repeated, at most once for each
-/// pool. The inner error is the reason if no sizes are enough or the certificate does not have the
-/// shape of the plan.
+/// pool. If no sizes are enough, or the certificate does not have the shape of the plan, the inner
+/// error is the reason.
 fn widest(alloc: Global, plan: &Plan, cert: &Cert) -> Result<Result<Plan, Unfit>, AllocError>
     ensures { IfOk result (λ answer. IfOk answer (IsLeastWide plan.now cert.now)) }
 {

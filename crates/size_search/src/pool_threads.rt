@@ -25,7 +25,7 @@ impl PoolThreads {
         }
     }
 
-    /// Returns the number of threads that the pool has at least while a job is in its queue.
+    /// Returns the least number of threads that the pool can have while its queue has a job.
     pub(crate) fn least_threads(self) -> u64 {
         if self.core_timeout { 1 } else { self.core }
     }
@@ -56,8 +56,8 @@ impl PoolThreads {
         }
     }
 
-    /// Returns the core and the maximum, each raised to `core` if it is smaller, unless core threads
-    /// may time out.
+    /// Returns the core and the maximum, each of them raised to at least `core`. If core threads
+    /// may time out, returns both unchanged.
     pub(crate) fn raised(self, core: u64) -> PoolThreads {
         if self.core_timeout {
             return self;

@@ -20,8 +20,8 @@ pub(crate) struct RankAssignment {
     /// Whether a round raised the maximum of a pool, because it raised the pool's core above that
     /// maximum.
     pub(crate) has_widened: bool,
-    /// The largest number of pools from which a round chose the pool to raise. It is 0 if no round
-    /// raised a core.
+    /// The largest number of candidates that a round had. The candidates of a round are the pools
+    /// whose core the round could raise. The number is 0 if no round raised a core.
     pub(crate) choices: usize,
 }
 
@@ -91,9 +91,9 @@ impl RankAssignment {
         any
     }
 
-    /// Gives the rank to one pool. Raises the core of this pool, and if necessary its maximum, to
-    /// what its blocked vector needs. The pool is number `choice`, counted from 0, in ascending
-    /// order of the necessary increases.
+    /// Gives the rank to one of the pools of `hits`. Raises the core of this pool, and if necessary
+    /// its maximum, to what its blocked vector needs. `choice` selects the pool: it is the index of
+    /// the pool, from 0, in ascending order of the necessary increases.
     ///
     /// # Errors
     ///
@@ -116,8 +116,8 @@ impl RankAssignment {
         Ok(())
     }
 
-    /// Returns the hits of the pools for which a core of at most `MAX_SIZE` is enough. A pool whose
-    /// core threads may time out is included only if it needs no larger core.
+    /// Returns the hits whose pools need a core of at most `MAX_SIZE`. A pool whose core threads
+    /// may time out is included only if it needs no larger core.
     fn within_limit(&self, alloc: Global, hits: &[CacheHit]) -> Result<Vec<CacheHit>, AllocError> {
         hits.iter()
             .filter(|hit| core_for(hit) <= MAX_SIZE && self.shortfall(hit) < u64::MAX)
@@ -125,8 +125,8 @@ impl RankAssignment {
             .collect(alloc)
     }
 
-    /// Returns the obstacle of a round in which a core of at most `MAX_SIZE` is enough for none of
-    /// the pools without a rank. The obstacle names the pool with the smallest shortfall.
+    /// Returns the obstacle of a round that finds no candidate: for each pool without a rank, no
+    /// core up to `MAX_SIZE` is enough. The obstacle names the pool with the smallest shortfall.
     fn obstacle_of(&self, hits: &[CacheHit]) -> Obstacle {
         match self.choice_of(hits, 0) {
             Some(hit) => Obstacle::Pool(hit.pool),
@@ -134,9 +134,10 @@ impl RankAssignment {
         }
     }
 
-    /// Returns the hit of pool number `choice`, counted from 0, in ascending order of shortfalls.
-    /// The shortfall of a pool is the increase of its core and maximum that its blocked vector
-    /// requires. Returns `None` if there are not that many hits.
+    /// Returns the hit of one pool. `choice` selects the pool: it is the index of the pool, from 0,
+    /// in ascending order of the shortfalls. Returns `None` if there are not that many hits. The
+    /// shortfall of a pool is how much its core and maximum must grow, in total, for its blocked
+    /// vector.
     fn choice_of(&self, hits: &[CacheHit], choice: usize) -> Option<CacheHit> {
         for hit in hits {
             let shortfall = self.shortfall(hit);
@@ -160,8 +161,8 @@ impl RankAssignment {
         }
     }
 
-    /// Returns the shortfall of the hit's pool: the sum of the increases of its core and maximum
-    /// that the blocked vector requires.
+    /// Returns the shortfall of the hit's pool: how much its core and maximum must grow, in total,
+    /// for the blocked vector.
     fn shortfall(&self, hit: &CacheHit) -> u64 {
         match self.threads.get(hit.pool) {
             Some(pool_threads) => pool_threads.shortfall(core_for(hit)),
@@ -191,8 +192,9 @@ fn core_for(hit: &CacheHit) -> u64 {
 ///
 /// # Errors
 ///
-/// Returns an obstacle if a round must raise a core but finds no pool for which a core of at most
-/// `MAX_SIZE` is enough. In the first such round, the pools that it skips do not count.
+/// Returns an obstacle if a round must raise a core, but no core up to `MAX_SIZE` is enough for any
+/// pool. The first such round also fails if such a core is enough only for pools that the round
+/// skips.
 pub(crate) fn assign_ranks(
     alloc: Global,
     cache: &mut VectorCache,
@@ -223,9 +225,9 @@ pub(crate) fn assign_ranks(
     Ok(assignment)
 }
 
-/// Repeats all rounds until no maximum grows, because a larger maximum can increase totals. Returns
-/// the last assignment. The number of repetitions is limited. In the last possible repetition,
-/// workers have no weight, so that totals do not depend on maximums.
+/// Repeats all rounds until no maximum grows, and returns the last assignment. The repetitions are
+/// necessary because a larger maximum can increase totals. Their number is limited. In the last
+/// possible repetition, workers have no weight, so that totals do not depend on maximums.
 ///
 /// `passed_over` and the field `choices` of the result concern only the first execution of the
 /// rounds.

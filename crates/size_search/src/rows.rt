@@ -16,7 +16,7 @@ use job_bodies::Plan;
 use std::alloc::{AllocError, Global};
 use weights::{Vector, are_small};
 
-/// Replaces the row of class `number`.
+/// Replaces the row of the class with this number.
 fn put_row(jobs: &mut Vector, number: usize, row: Vec<u64>)
     requires { number < length jobs.old.classes }
     ensures { jobs.new ≡ record jobs.old { classes = slice_set jobs.old.classes number row.items } }

@@ -22,19 +22,19 @@ use job_bodies::{MAX_POOLS, Plan};
 use least_vectors::Levels;
 use std::alloc::{AllocError, Global};
 
-/// The maximum number of attempts, after the first attempt, that start with the declared sizes.
-/// These attempts differ in the pool whose core they raise first. In a plan with more than
-/// [`FEW_POOLS`] pools, it is also the maximum number of attempts in which one pool is reset to its
-/// declared sizes.
+/// The maximum number of attempts that start with the declared sizes, in addition to the first
+/// attempt. These attempts differ in the pool whose core they raise first. In a plan with more than
+/// [`FEW_POOLS`] pools, it is also the maximum number of attempts that reset one pool to its
+/// declared core and maximum.
 const FURTHER_ATTEMPTS: usize = 3;
 
-/// The largest number of pools of a plan for which each raised pool gets an attempt of its own. In
-/// this attempt, the pool starts with its declared core and maximum. In a plan with more pools,
-/// only the most raised pools get such an attempt.
+/// The maximum number of pools in a small plan. In a small plan, each raised pool gets an attempt
+/// of its own, which starts with the declared core and maximum of this pool. In a plan with more
+/// pools, only the most raised pools get such an attempt.
 const FEW_POOLS: usize = 8;
 
-/// Searches for sizes with which a certificate accepts the plan, with few and small increases. If
-/// the certificate `first` already accepts the plan, returns the unchanged plan and `first`.
+/// Searches for sizes that make a certificate accept the plan, with few and small increases. If the
+/// certificate `first` already accepts the plan, returns the unchanged plan and `first`.
 ///
 /// The search makes several attempts. The result is the attempt with the smallest sum of increases.
 /// An attempt works in rounds, in which pools get ranks and blocked vectors, as in the search for a
@@ -45,23 +45,24 @@ const FEW_POOLS: usize = 8;
 ///
 /// The queue of a pool stays unchanged if the pool may reject jobs or the queue is unbounded. The
 /// certificate has a bound of such a pool only if the search finds a vector for which the queue is
-/// large enough. An unbounded queue is large enough for each standing vector. The core and the
-/// maximum of a pool whose core threads may time out stay unchanged too.
+/// large enough. An unbounded queue is large enough for each standing vector. If core threads of a
+/// pool may time out, its core and maximum stay unchanged too.
 ///
-/// If no attempt succeeds, the result is the *steady certificate* of the plan with the least sizes
-/// for it. In this certificate, one vector is the blocked vector of every pool whose core threads
-/// never time out. The same vector is the bound of every pool that needs one. A pool needs no bound
-/// if it may reject jobs or has an unbounded queue. The other blocked vectors are 0.
+/// If no attempt succeeds, the search uses the plan's *steady certificate*, and returns the least
+/// sizes that this certificate needs. In the steady certificate, one vector is the blocked vector
+/// of every pool whose core threads never time out. The same vector is the bound of every pool that
+/// needs one. A pool needs no bound if it may reject jobs or has an unbounded queue. The other
+/// blocked vectors are 0.
 ///
-/// The steady certificate is not used if it is too large. This is so in the following cases. In the
-/// last two, possibly no sizes are enough for it.
+/// The steady certificate is not used if it is too large. It is too large in the following cases.
+/// In the last two cases, possibly no sizes are enough for it.
 ///
 /// - It needs sizes above 1,000,000.
 /// - It has a weight above [`MAX_WEIGHT`](job_bodies::MAX_WEIGHT).
-/// - A repeating client submits a job to a pool that needs no bound, directly or through other
-///   jobs, and the job is never got.
-/// - A class has a get, the core threads of its pool may time out, and no client submits this
-///   class, directly or through other jobs.
+/// - A repeating client submits a job, directly or through other jobs. The job is never got, and
+///   its pool needs no bound.
+/// - A class has a get, but no client submits this class, directly or through other jobs. The core
+///   threads of the class's pool may time out.
 ///
 /// If no sizes are found, one of these is the reason:
 ///
@@ -71,15 +72,15 @@ const FEW_POOLS: usize = 8;
 /// If none of these reasons holds, sizes are found. Unless the certificate is `first`, a new search
 /// then finds a certificate of the plan with these sizes.
 ///
-/// The contract proves that the certificate accepts the plan with the sizes that were found, and
-/// that these sizes are the least for this certificate. Compare them with any other sizes that are
-/// no smaller than the declared ones, and with which the certificate accepts the plan:
+/// The contract proves that the certificate accepts the plan with the sizes that were found. It
+/// also proves that these sizes are the least for this certificate. Compare them with any other
+/// sizes that make the certificate accept the plan and are no smaller than the declared sizes:
 ///
 /// - No maximum and no core of the other sizes is smaller.
 /// - If the other sizes have the same maximums, no queue is smaller. With larger maximums, smaller
 ///   queues can be enough.
 ///
-/// A maximum that is larger than declared equals the core of its pool. Another certificate can need
+/// If a maximum was raised, it equals the core of the same pool. Another certificate can need
 /// smaller sizes.
 ///
 /// # Errors
@@ -104,8 +105,7 @@ pub fn search_sizes(
     search_without_first(alloc, plan)
 }
 
-/// Searches for sizes as [`search_sizes`] does if it has no certificate `first` that accepts the
-/// plan.
+/// Searches for sizes as [`search_sizes`] does if `first` is `None` or does not accept the plan.
 fn search_without_first(alloc: Global, plan: &Plan) -> Result<SizesFound, AllocError>
     ensures found { IfOk result (IsFound plan.now) }
     ensures decided { IfOk result (IsDecided plan.now) }
@@ -117,7 +117,7 @@ fn search_without_first(alloc: Global, plan: &Plan) -> Result<SizesFound, AllocE
     Ok(found)
 }
 
-/// Searches for sizes for a plan for which [`cause_of`] finds no cause.
+/// Searches for sizes for a plan without a cause (see [`cause_of`]).
 fn sizes_without_cause(alloc: Global, plan: &Plan) -> Result<SizesFound, AllocError>
     requires free { IsWithoutCause plan.now }
     requires well_formed { IsWellFormed plan.now }
@@ -192,9 +192,10 @@ fn best_from_declared(
     Ok(best)
 }
 
-/// Makes further attempts, and returns the cheapest of these attempts and `best`. Each further
-/// attempt starts with the cores and maximums of the cheapest attempt so far, except that one of
-/// the most raised pools starts with its declared core and maximum.
+/// Makes further attempts, and returns the cheapest attempt. This is `best` if no further attempt
+/// is cheaper. Each further attempt starts with the cores and maximums of the cheapest attempt so
+/// far, but resets one pool to its declared core and maximum. This pool is one of the most raised
+/// pools.
 fn improved_attempt(
     alloc: Global,
     cache: &mut VectorCache,

@@ -1,4 +1,5 @@
-//! Sizes with which a new search finds a certificate again.
+//! Stable sizes. Sizes are *stable* if a new search finds a certificate that accepts the plan with
+//! these sizes.
 
 ghost use Rattle.std.specs.Prelude.{IfOk};
 ghost use Rattle.size_search.specs.Causes.{IsWithoutCause};
@@ -30,16 +31,17 @@ enum Recheck {
     Nothing,
 }
 
-/// Returns a plan and a certificate that accepts it, such that a new search finds a certificate for
-/// this plan again. `fit` is the plan with the sizes that were found, and `cert` is a certificate
+/// Searches for stable sizes. Sizes are *stable* if a new search finds a certificate that accepts
+/// the plan with these sizes. Returns the plan with the resulting sizes, and a certificate that
+/// accepts this plan. `fit` is the plan with the sizes that were found, and `cert` is a certificate
 /// that accepts `fit`.
 ///
 /// 1. If no size of `fit` has grown, or if a new search finds a certificate that accepts `fit`,
 ///    returns `fit` and `cert`.
 /// 2. If the new search finds a certificate that needs larger sizes, repeats step 1 with this
 ///    certificate and these sizes, at most [`MAX_TURNS`] times.
-/// 3. Otherwise returns the least sizes for the steady certificate or, if they are too large, `fit`
-///    and `cert`.
+/// 3. Otherwise returns the least sizes for the steady certificate. If these sizes are too large,
+///    returns `fit` and `cert`.
 pub(crate) fn stabilize(
     alloc: Global,
     plan: &Plan,

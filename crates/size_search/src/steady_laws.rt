@@ -10,12 +10,15 @@ ghost use Rattle.size_search.specs.SteadyLaws.{SteadyCertificatesAccept};
 /// - No class submits itself, directly or through other classes.
 /// - No repeating client submits, directly or through other jobs, a job that is never got.
 /// - No pool whose core threads may time out waits for itself.
-/// - Clients submit, directly or through other jobs, each class of such a pool that has a get.
+/// - If a class of such a pool has a get, clients submit this class, directly or through other
+///   jobs.
 /// - The weights of the certificate are within their limit.
 ///
-/// Then only conditions on the certificate's total can fail. So the certificate accepts the plan
-/// exactly when two conditions hold: the queue of every pool that needs a bound is at least the
-/// total, and every core whose threads never time out is larger than the total.
+/// Then only conditions on the certificate's total can fail. The certificate accepts the plan if
+/// the following conditions hold, and only then:
+///
+/// - The queue of every pool that needs a bound is at least the total.
+/// - Every core whose threads never time out is larger than the total.
 pub fn steady_certificates_accept()
     ensures { SteadyCertificatesAccept }
 {}

@@ -16,13 +16,17 @@ pub enum Unfit {
     Shape,
     /// The first failing condition that does not depend on cores and queues.
     Condition(Note),
-    /// The core of the pool with this number would have to be too large: for
-    /// [`fitted`](crate::fitted), larger than the pool's maximum, and for
-    /// [`widened`](crate::widened), larger than 1,000,000.
+    /// A pool needs a core that is too large. The field is the number of the pool. For
+    /// [`fitted`](crate::fitted), a core is too large if it is above the pool's maximum. For
+    /// [`widened`](crate::widened), it is too large if it is above 1,000,000.
     Core(usize),
-    /// The queue of the pool with this number would have to be larger than 1,000,000. Or the pool
-    /// may reject jobs, so its queue is not raised, and the queue is too small. An unbounded queue
-    /// is never the reason.
+    /// The queue of a pool is too small. The field is the number of the pool. This happens in two
+    /// cases:
+    ///
+    /// - The queue would have to be larger than 1,000,000.
+    /// - The pool may reject jobs, so its queue is not raised.
+    ///
+    /// An unbounded queue is never the reason.
     Queue(usize),
     /// Jobs of the pool with this number can wait at counted gets, but its core threads may time
     /// out, so only one thread may be left.

@@ -55,8 +55,8 @@ impl CacheEntry {
     /// each pool, the maximum must be the same as in the entry, or it must be larger and the pool's
     /// workers must have no weight.
     ///
-    /// The larger maximum then changes nothing: weight of the workers would only add more to the
-    /// total.
+    /// In the second case, the larger maximum changes nothing. The workers still get no weight,
+    /// because their weight would only add more to the total.
     fn is_valid_for(&self, maxes: &[u64]) -> bool {
         self.key.maxes.iter().zip(maxes).enumerate().all(|(pool, (before, now))| before == now
             || (before < now && !self.is_lender(pool)))
@@ -134,10 +134,10 @@ impl<'a> VectorCache<'a> {
         })
     }
 
-    /// Returns, as a cache hit, the lightest vector of this kind for the pool with these maximums.
-    /// Computes the vector if the cache does not have it. The computation stops when the total is
-    /// at most `enough`. The hit has no vector if the search finds none, or if there is no such
-    /// pool.
+    /// Returns the cache hit of the pool's lightest vector of this kind. `maxes` has the maximum of
+    /// each pool. Computes the vector if the cache does not have it. The computation stops when the
+    /// total is at most `enough`. The hit has no vector if the search finds none, or if there is no
+    /// such pool.
     ///
     /// # Errors
     ///

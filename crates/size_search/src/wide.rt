@@ -14,8 +14,8 @@ use cert_text::Cert;
 use job_bodies::{Plan, Pool};
 use std::alloc::{AllocError, Global};
 
-/// Returns the maximum of the pool, raised to `core` if it is smaller. The maximum of a pool whose
-/// core threads may time out stays unchanged.
+/// Returns the maximum of the pool, but at least `core`. If core threads may time out, returns the
+/// maximum unchanged.
 fn raised_max(pool: &Pool, core: u64) -> u64
     ensures { result ≡ (if pool.now.core_timeout then pool.now.max else max pool.now.max core) }
 {
@@ -26,8 +26,9 @@ fn raised_max(pool: &Pool, core: u64) -> u64
     }
 }
 
-/// Returns the pool with this number, with its maximum raised to the core that the certificate
-/// needs if this core is larger. The maximum stays unchanged if core threads may time out.
+/// Returns the pool with this number. If the certificate needs a core above the maximum of the
+/// pool, the maximum is raised to this core. The maximum stays unchanged if core threads may time
+/// out.
 fn widened_pool(alloc: Global, plan: &Plan, cert: &Cert, number: usize) -> Result<Pool, AllocError>
     requires fits { IsTrue (cert_fits plan.now cert.now) }
     requires number { number < length plan.now.pools }
@@ -57,11 +58,12 @@ fn widened_pools(alloc: Global, plan: &Plan, cert: &Cert) -> Result<Vec<Pool>, A
 /// a pool whose core threads may time out stays unchanged. If the raises increase totals, the
 /// certificate can need still larger cores.
 ///
-/// Each raise is necessary: if the certificate accepts the plan with other sizes whose maximums are
-/// no smaller than the plan's, these maximums are no smaller than those of the result.
+/// Each raise is necessary. Let the certificate accept the plan with other sizes, whose maximums
+/// are no smaller than the plan's. Then these maximums are no smaller than those of the result
+/// either.
 ///
 /// If the certificate does not fit the plan, or needs a core above 1,000,000, there are no such
-/// sizes. The inner error is then the reason.
+/// other sizes. The inner error is then the reason.
 ///
 /// # Errors
 ///

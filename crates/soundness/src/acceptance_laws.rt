@@ -2,16 +2,16 @@
 //!
 //! - A *job event* is an event in which a job performs its next action or finishes.
 //! - A *take* is the event in which a worker takes a job from a queue.
-//! - The *remaining work* of a job is the number of job events and takes that are left until it and
-//!   all jobs that it will submit are done.
+//! - The *remaining work* of a job is the number of job events and takes that are still needed to
+//!   finish the job and all jobs that it will submit.
 //! - A *standing* or *lifetime* vector bounds the queue of a pool. Its *rows* are the conditions on
 //!   it.
 //! - A pool that must not reject jobs *refuses* a job if it has no room. A pool that may reject
 //!   jobs *rejects* the job in this case. The submit is then skipped together with its get, and
 //!   does not count as refused.
 //! - Java *looks* at a pool whose core threads may time out, after each successful offer and after
-//!   the end of each thread. It starts a thread if a job is queued and the pool has no thread.
-//!   Other events can occur before that look.
+//!   the end of each thread. Java then starts a thread if a job is queued and the pool has no
+//!   thread. Other events can occur before that look.
 
 ghost use Rattle.soundness.specs.Headline.{
   AcceptedPlansAreSafe,
@@ -31,8 +31,8 @@ ghost use Rattle.soundness.specs.Headline.{AcceptedBoundsNeverReject, AcceptedBo
 /// state, these facts hold:
 ///
 /// - No submit was refused.
-/// - No set of unfinished jobs waits only for its own members, either now or at later gets of its
-///   members.
+/// - No set of unfinished jobs waits only for its own members. This includes gets that the members
+///   have not yet reached.
 /// - No pool has more threads than its maximum.
 /// - No bounded queue has more jobs than its capacity. If the capacity is 0, the queue has at most
 ///   as many jobs as its pool has idle workers.
@@ -126,8 +126,8 @@ pub fn standing_pools_are_not_asked()
     ensures { StandingPoolsAreNotAsked }
 {}
 
-/// States that, if a certificate accepts a well-formed plan, every reachable state is safe even
-/// under these weaker assumptions:
+/// States that accepted plans are safe even under weaker assumptions. Let a certificate accept a
+/// well-formed plan. Then every reachable state is safe, even if the following is allowed:
 ///
 /// - Submits may take the separate steps of Java's `execute`.
 /// - An actor, which is a client or a job, may skip a submit of its body together with the get of
@@ -140,9 +140,12 @@ pub fn accepted_plans_may_skip()
 {}
 
 /// States that accepted plans make progress even if actors skip submits and exchange their jobs of
-/// one class. Let a certificate accept a well-formed plan. Then an event of a job, a take from a
-/// queue or a look at a pool is possible in every reachable state with an unfinished job. No
-/// further skip or exchange is needed for it.
+/// one class. Let a certificate accept a well-formed plan. Then one of these events is possible in
+/// every reachable state with an unfinished job, without a further skip or exchange:
+///
+/// - An event of a job.
+/// - A take from a queue.
+/// - A look at a pool, in which Java checks whether the pool needs a thread.
 pub fn accepted_plans_make_progress_with_skips()
     ensures { AcceptedPlansMakeProgressWithSkips }
 {}
@@ -151,10 +154,10 @@ pub fn accepted_plans_make_progress_with_skips()
 /// class. Let a certificate accept a well-formed plan, and suppose that no client acts after some
 /// reachable state. Then these facts hold:
 ///
-/// - The number of job events, takes, skips by jobs and missed offers by jobs that follow has a
-///   limit. It is three times the remaining work of the jobs in that state (see
-///   [`accepted_plans_drain`]). A missed offer fails at a queue of capacity 0, although a thread may
-///   be idle.
+/// - Only a limited number of these steps follow: job events, takes, skips by jobs and missed
+///   offers by jobs. The limit is three times the remaining work of the jobs in that state (see
+///   [`accepted_plans_drain`]). A missed offer fails at a queue of capacity 0, although a thread
+///   may be idle.
 /// - When no job event, no take and no look at a pool is possible any longer, no job is unfinished.
 ///
 /// Threads may end in between, as far as their pools allow it, and jobs may be exchanged.
@@ -162,9 +165,9 @@ pub fn accepted_plans_drain_with_skips()
     ensures { AcceptedPlansDrainWithSkips }
 {}
 
-/// States that, if a certificate accepts a well-formed plan, a pool with a bound in the certificate
-/// rejects no job in any reachable state. This holds even if the plan says that the pool may reject
-/// jobs.
+/// States that a pool with a bound rejects no job. Let a certificate accept a well-formed plan, and
+/// let the certificate have a bound of some pool. Then this pool rejects no job in any reachable
+/// state, even if the plan says that the pool may reject jobs.
 pub fn accepted_bounds_never_reject()
     ensures { AcceptedBoundsNeverReject }
 {}

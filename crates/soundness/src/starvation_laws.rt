@@ -7,10 +7,10 @@
 ghost use Rattle.soundness.specs.CountedGets.{FewerThanCoreMayBlock, NoLooseWaitingSets};
 ghost use Rattle.soundness.specs.Drain.{FullIsWhole, FullIsOfThePlan};
 
-/// Proves a limit on the jobs of a pool that can be blocked. A job can be blocked if it runs, and
-/// its current action or a later action is a counted get, which can block a thread that other jobs
+/// Proves a limit on how many jobs of a pool can be blocked. A running job *can be blocked* if its
+/// current action or a later action is a counted get. Such a get can block a thread that other jobs
 /// need. Let the rows (the conditions) of the ranks and of the pool's blocked vector hold. Then the
-/// number of these jobs has two limits in every reachable state:
+/// number of jobs that can be blocked has two limits in every reachable state:
 ///
 /// - It is at most the vector's total.
 /// - It is less than the pool's core size. If core threads may time out, it is 0.
@@ -18,12 +18,13 @@ pub fn fewer_than_core_may_block()
     ensures { FewerThanCoreMayBlock }
 {}
 
-/// States that jobs never wait only for each other, if the rows (the conditions) of the ranks and
-/// of a blocked vector for each pool hold. In every reachable state, no non-empty set of unfinished
-/// jobs waits only for its own members.
+/// States that jobs never wait only for each other. The rows (the conditions) of the ranks must
+/// hold, and also the rows of a blocked vector for each pool. Then in every reachable state, no
+/// non-empty set of unfinished jobs waits only for its own members.
 ///
-/// The law also covers jobs that have not yet reached their get. A running member already counts as
-/// waiting for a member that it created, if its body still has a get of a job of the same class.
+/// The law also covers jobs that have not yet reached their get. Let a running member A have
+/// created another member B. If the body of A still has a get of a job of B's class, A already
+/// counts as waiting for B.
 pub fn no_loose_waiting_sets()
     ensures { NoLooseWaitingSets }
 {}

@@ -31,8 +31,8 @@ pub fn bounds_refuse_nothing()
     ensures { BoundsRefuseNothing }
 {}
 
-/// States that the total of a vector bounds the number of queued jobs of a pool in every reachable
-/// state, whether the queue is bounded or unbounded. These conditions must hold:
+/// States that the queue of a pool never has more jobs than the total of a vector. This holds in
+/// every reachable state, whether the queue is bounded or unbounded. These conditions must hold:
 ///
 /// - The rows (the conditions) of the vector hold.
 /// - Each queued job of the pool weighs at least 1.
@@ -41,8 +41,8 @@ pub fn queues_stay_within_total()
     ensures { QueuesStayWithinTotal }
 {}
 
-/// States that the total of a pool's lifetime vector bounds the number of jobs ever submitted to
-/// the pool, in every reachable state. These conditions must hold:
+/// States a limit on the number of jobs ever submitted to a pool. In every reachable state, this
+/// number is at most the total of the pool's lifetime vector. These conditions must hold:
 ///
 /// - The rows (the conditions) of the vector hold.
 /// - The queue of the pool is bounded.

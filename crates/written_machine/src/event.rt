@@ -13,7 +13,7 @@ pub enum Event {
     Take(usize),
     /// An idle worker of the pool with this index ends. This is possible only in these cases:
     ///
-    /// - The pool has more than core threads.
+    /// - The pool has more threads than its core size.
     /// - Core threads of the pool may time out, and the pool has another thread or no queued job.
     Retire(usize),
 }

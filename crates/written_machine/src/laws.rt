@@ -15,29 +15,33 @@ ghost use Rattle.written_machine.specs.Laws.{
 
 /// States that no pool exceeds its sizes in a reachable state of a well-formed plan:
 ///
-/// - A pool has at most its maximum of threads.
-/// - A bounded queue has at most as many jobs as its capacity. If the capacity is 0, it has at most
-///   as many jobs as its pool has idle workers.
+/// - A pool has at most as many threads as its maximum.
+/// - A bounded queue has at most as many jobs as its capacity. If the capacity is 0, the queue has
+///   at most as many jobs as its pool has idle workers.
 pub fn pools_keep_their_sizes()
     ensures { PoolsKeepTheirSizes }
 {}
 
 /// Proves that a pool with a queued job always has threads. In every reachable state of a
-/// well-formed plan, it has at least core threads, or at least one thread if its core threads may
-/// time out. The reason is that a pool queues a job only if it has at least core threads. Its last
-/// threads do not end while jobs are queued.
+/// well-formed plan, such a pool has at least this number of threads:
+///
+/// - If its core threads may time out, one thread.
+/// - Otherwise, as many threads as its core size.
+///
+/// The reason is that a pool queues a job only if it has at least as many threads as its core size.
+/// Its last threads do not end while jobs are queued.
 pub fn queues_have_threads()
     ensures { QueuesHaveThreads }
 {}
 
-/// States that, in every reachable state of a well-formed plan, a client or job at a get has
-/// created the job for which it waits. This awaited job is the latest job that the client or job
-/// created at the submit that the get names. It has these properties:
+/// States that a client or job at a get has created the job for which it waits. A get refers to a
+/// submit of the same body. The *awaited job* is the latest job that the client or job created by
+/// this submit. In every reachable state of a well-formed plan, each client or job at a get has an
+/// awaited job with these properties:
 ///
-/// - The awaited job has the class that the submit names.
+/// - The awaited job belongs to the class of the submit.
 /// - No get has returned the result of the awaited job yet.
-/// - If a job waits for it, the number of the waiting job is smaller than the number of the awaited
-///   job.
+/// - If a job waits for the awaited job, the waiting job has the smaller number of the two.
 pub fn gets_have_children()
     ensures { GetsHaveChildren }
 {}
@@ -54,16 +58,20 @@ pub fn waiting_sets_are_tested()
 /// waiting set, a running member need not be at a get yet, but it must meet these two conditions:
 ///
 /// - The member created another member.
-/// - The body of the member has, at its position or later, a get of a job of that other member's
-///   class.
+/// - The member's body has a get at the member's position or later. This get waits for a job of the
+///   other member's class.
 pub fn waiting_sets_are_loose()
     ensures { WaitingSetsAreLoose }
 {}
 
 /// Proves that a full waiting set is permanent. A waiting set is full if each pool with a queued
-/// member has its maximum of threads, or has an unbounded queue and at least core threads. Consider
-/// a full waiting set in a reachable state of a well-formed plan. After any list of events, these
-/// facts hold:
+/// member is full. A pool is full in these cases:
+///
+/// - The pool has as many threads as its maximum.
+/// - Its queue is unbounded, and it has at least as many threads as its core size.
+///
+/// Consider a full waiting set in a reachable state of a well-formed plan. After any list of
+/// events, these facts hold:
 ///
 /// - The set is still a full waiting set.
 /// - Its jobs are unchanged.
@@ -75,25 +83,26 @@ pub fn full_waiting_sets_stay()
 /// Proves that a waiting set is full if the sizes of its pools are fixed. The sizes of a pool are
 /// fixed in these cases:
 ///
-/// - Its core equals its maximum, and its core threads never time out.
+/// - Its core size equals its maximum, and its core threads never time out.
 /// - Its core threads may time out, and its maximum is 1.
 ///
-/// In every reachable state of a well-formed plan, consider a waiting set. If the sizes of each
-/// pool with a queued member are fixed, each of these pools has its maximum of threads.
+/// Consider a waiting set in a reachable state of a well-formed plan. If the sizes of each pool
+/// with a queued member are fixed, each of these pools has as many threads as its maximum.
 pub fn fixed_pools_are_full()
     ensures { FixedPoolsAreFull }
 {}
 
-/// States that the jobs that were created for a pool limit its threads and its queue. Let `n` be
-/// the number of these jobs plus the number of the pool's prestarted threads. In every reachable
-/// state of a well-formed plan, the pool's threads and queued jobs together are at most `n`.
+/// States a limit for the threads and the queue of a pool. Let `n` be the number of jobs that were
+/// created for the pool, plus the number of its prestarted threads. In every reachable state of a
+/// well-formed plan, the pool's threads and queued jobs together are at most `n`.
 pub fn threads_have_jobs()
     ensures { ThreadsHaveJobs }
 {}
 
-/// States that a pool refuses a job only after enough jobs were created for it. Let `n` be the
-/// number of these jobs plus the number of the pool's prestarted threads. If the pool refuses a job
-/// in a reachable state of a well-formed plan, `n` is at least its queue capacity plus its maximum.
+/// States that a pool refuses a job only after enough jobs were created for the pool. Let `n` be
+/// the number of these jobs plus the number of the pool's prestarted threads. If the pool refuses a
+/// job in a reachable state of a well-formed plan, `n` is at least the pool's queue capacity plus
+/// its maximum.
 pub fn refusals_need_jobs()
     ensures { RefusalsNeedJobs }
 {}
