@@ -1,25 +1,25 @@
-# The commands of this repository. Only the toolchain (rt), make, gcc and python3 are needed, and for `java` and `dist` a JDK and Maven.
+# The commands of this repository. They need the toolchain (rt), make, gcc and python3; `java` and `dist` also need a JDK and Maven.
 PREFIX ?= /usr/local
 PROGRAM = crates/sizing/out/sizing
 READER = bench/plan_reader/out/plan_reader
 
-# What the programs are proved from: they are proved again where one of these is newer.
+# The sources of the programs. A program is proved again if one of its sources is newer.
 PROGRAM_SOURCES := $(shell python3 tools/crates.py sizing)
 READER_SOURCES := $(shell python3 tools/crates.py plan_reader)
 
 .PHONY: help demo program install dist release-notes test gate gate-all rows mutants names examples quick-checks checks java bench plan_reader clean
 
-# Lists the commands, each with what it does.
+# Prints each command with what it does.
 help:
 	@awk '/^#/ { said = said (said == "" ? "" : "\n                   ") substr($$0, 3) } \
 	      /^[a-z_-]+:/ && said != "" { sub(/:.*/, ""); printf "make %-13s %s\n", $$0, said } \
 	      !/^#/ { said = "" }' Makefile
 
-# Asks about the plans that README.md shows, before any proof: two to four minutes on a fresh machine.
+# Runs `sizing ask` on the plans of README.md, without any proof: two to four minutes on a fresh machine.
 demo:
 	@examples/demo
 
-# Proves and builds the program: 25 to 50 minutes on four cores, and nothing where it is built and no source is newer.
+# Proves and builds the program: 25 to 50 minutes on four cores. Does nothing if it is built and no source is newer.
 program: $(PROGRAM)
 
 $(PROGRAM): $(PROGRAM_SOURCES)
@@ -30,7 +30,7 @@ install:
 	@room=$$(mktemp -d) && trap 'rm -rf "$$room"' EXIT && tar -xzf "$(DIST)" -C "$$room" && DESTDIR="$(DESTDIR)" "$$room"/*/install.sh $(PREFIX)
 else
 # Proves and builds the program, and installs it below PREFIX with its manual page, its completions for bash, zsh and fish, and
-# the schema of plans. DIST=FILE installs a release.
+# the schema of plans. With DIST=FILE, installs a release.
 install: program
 	install -D -m 755 $(PROGRAM) $(DESTDIR)$(PREFIX)/bin/sizing
 	@tools/man $(PROGRAM) $(dir $(PROGRAM))sizing.1
@@ -43,33 +43,33 @@ install: program
 	@echo "sizing is in $(DESTDIR)$(PREFIX)/bin"
 endif
 
-# Packs what `make gate` built, and the jars of java/, into dist/sizing-VERSION-linux-x86_64.tar.gz: about a minute, and the
-# same bytes each time. It needs what `make java` needs.
+# Packs the program that `make gate` built and the jars of java/ into dist/sizing-VERSION-linux-x86_64.tar.gz: about a
+# minute, and the same bytes each time. Needs what `make java` needs.
 dist:
 	@tools/dist
 
-# Prints what CHANGELOG.md says about the version in the file VERSION.
+# Prints the section of CHANGELOG.md for the version in the file VERSION.
 release-notes:
 	@tools/version --notes
 
-# Runs every test, every worked row but the long ones, and each program's stored run before any proof: about 6 minutes on
-# four cores. It proves nothing.
+# Runs every test, every row except the long ones, and each program's stored run: about 6 minutes on four cores. Proves
+# nothing.
 test:
 	@tools/test
 
-# Proves the product from nothing in a copy, tries the mutants of must-fail/, and builds the program with both compilers.
+# Proves the product from scratch in a copy, tries the mutants of must-fail/, and builds the program with both compilers.
 gate:
 	@tools/gate
 
-# Proves everything in place, the crates of tests too, as a plain `rt ci` does.
+# Proves everything in place, including the test crates, with a plain `rt ci`.
 gate-all:
 	rt ci
 
-# Answers the worked rows with the programs that `make gate` built.
+# Runs the programs that `make gate` built on the rows, and compares their answers.
 rows:
 	@tools/rows
 
-# Tries the mutants of the crates that changed and writes mutants.lock; of one crate: CRATE=NAME; all from nothing: ALL=1.
+# Tries the mutants of the crates that changed, and writes mutants.lock. CRATE=NAME: of one crate. ALL=1: all from scratch.
 mutants:
 	@tools/mutants $(if $(ALL),--all) $(CRATE)
 
@@ -77,7 +77,7 @@ mutants:
 names:
 	@tools/names
 
-# Runs the built program on each example, and compares what it answers.
+# Runs the built program on each example, and compares its answers.
 examples: program
 	python3 examples/check.py
 
@@ -85,9 +85,8 @@ examples: program
 quick-checks: program
 	@tools/quick_checks
 
-# What no contract says of the built program: a refused growth of memory, the ends of its streams, that runs end, and how
-# cheap the sizes are that it finds; that a release is complete and runs in a fresh Debian, if root asks; and what Java's
-# own executors do beside it, where a JDK is there.
+# Tests the built program beyond its contracts: out of memory, the ends of its streams, termination of runs, sizes of `fit`.
+# Tests a release, as root also in a fresh Debian, and with a JDK compares Java's own executors with the plans.
 checks: program
 	python3 checks/refused_growths.py
 	python3 checks/ends_of_streams.py
@@ -110,12 +109,10 @@ checks: program
 java:
 	@tools/java
 
-# Times a replay beside a plain program that only splits and counts the same lines, the reading of a plan beside the
-# reading of its TOML alone, check and explain beside the reading of their two texts alone, certify beside the reading of
-# its plan, conform and learn beside such a program on a recording, fit beside certify on the sizes that it finds, and a run beside a plain program that passes as many events
-# through one lock; and last, four of the commands beside a plain Rust program that gives the same answers.
+# Measures each command and compares it with a simpler program: one that only reads the same input, `certify` for `fit`, one
+# that only passes as many events through a lock for `run`, and a plain Rust program with the same answers for four commands.
 bench: program plan_reader
-	@command -v valgrind > /dev/null || echo "there is no valgrind: install it (apt-get install valgrind), else no instructions are counted"
+	@command -v valgrind > /dev/null || echo "no instructions are counted: valgrind is missing (apt-get install valgrind)"
 	python3 bench/replay.py
 	python3 bench/read.py
 	python3 bench/check.py
@@ -126,12 +123,12 @@ bench: program plan_reader
 	python3 bench/recordings.py
 	python3 bench/plain.py
 
-# Proves and builds the program that reads the texts alone.
+# Proves and builds plan_reader, which only reads plans and certificates.
 plan_reader: $(READER)
 
 $(READER): $(READER_SOURCES)
 	@tools/build plan_reader
 
-# Removes what was built and kept in the working tree; the proofs that rt keeps on this machine stay.
+# Removes the build outputs from the working tree. The proofs that rt caches on this machine stay.
 clean:
 	rm -rf dist out crates/*/out bench/*/out
