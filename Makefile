@@ -1,4 +1,5 @@
-# The commands of this repository. They need the toolchain (rt), make, gcc and python3; `java` and `dist` also need a JDK and Maven.
+# The commands of this repository. They need the toolchain (rt), make, gcc and python3; `java` and `dist` also need a
+# JDK and Maven.
 PREFIX ?= /usr/local
 PROGRAM = crates/sizing/out/sizing
 READER = bench/plan_reader/out/plan_reader
@@ -29,8 +30,8 @@ ifdef DIST
 install:
 	@room=$$(mktemp -d) && trap 'rm -rf "$$room"' EXIT && tar -xzf "$(DIST)" -C "$$room" && DESTDIR="$(DESTDIR)" "$$room"/*/install.sh $(PREFIX)
 else
-# Proves and builds the program, and installs it below PREFIX with its manual page, its completions for bash, zsh and fish, and
-# the schema of plans. With DIST=FILE, installs a release.
+# Proves and builds the program, and installs it below PREFIX with its manual page, its completions for bash, zsh and
+# fish, and the schema of plans. With DIST=FILE, installs a release.
 install: program
 	install -D -m 755 $(PROGRAM) $(DESTDIR)$(PREFIX)/bin/sizing
 	@tools/man $(PROGRAM) $(dir $(PROGRAM))sizing.1
@@ -57,7 +58,8 @@ release-notes:
 test:
 	@tools/test
 
-# Proves the product from scratch in a copy, tries the mutants of must-fail/, and builds the program with both compilers.
+# Proves the product from scratch in a copy, tries the mutants of must-fail/, and builds the program with both
+# compilers.
 gate:
 	@tools/gate
 
@@ -69,7 +71,8 @@ gate-all:
 rows:
 	@tools/rows
 
-# Tries the mutants of the crates that changed, and writes mutants.lock. CRATE=NAME: of one crate. ALL=1: all from scratch.
+# Tries the mutants of the crates that changed, and writes mutants.lock. CRATE=NAME: of one crate. ALL=1: all from
+# scratch.
 mutants:
 	@tools/mutants $(if $(ALL),--all) $(CRATE)
 
@@ -85,8 +88,8 @@ examples: program
 quick-checks: program
 	@tools/quick_checks
 
-# Tests the built program beyond its contracts: out of memory, the ends of its streams, termination of runs, sizes of `fit`.
-# Tests a release, as root also in a fresh Debian, and with a JDK compares Java's own executors with the plans.
+# Tests the built program beyond its contracts: out of memory, the ends of its streams, termination of runs, sizes of
+# `fit`. Tests a release, as root also in a fresh Debian, and with a JDK compares Java's own executors with the plans.
 checks: program
 	python3 checks/refused_growths.py
 	python3 checks/ends_of_streams.py
@@ -105,12 +108,14 @@ checks: program
 	python3 checks/java/check.py
 	python3 checks/java/jars.py
 
-# Builds and tests the Java modules with Maven, offline, from Debian's packages: about a minute. java/README.md names them.
+# Builds and tests the Java modules with Maven, offline, from Debian's packages: about a minute. java/README.md names
+# them.
 java:
 	@tools/java
 
-# Measures each command and compares it with a simpler program: one that only reads the same input, `certify` for `fit`, one
-# that only passes as many events through a lock for `run`, and a plain Rust program with the same answers for four commands.
+# Measures each command and compares it with a simpler program: one that only reads the same input, `certify` for `fit`,
+# one that only passes as many events through a lock for `run`, and a plain Rust program with the same answers for four
+# commands.
 bench: program plan_reader
 	@command -v valgrind > /dev/null || echo "no instructions are counted: valgrind is missing (apt-get install valgrind)"
 	python3 bench/replay.py
