@@ -53,13 +53,11 @@ dist:
 release-notes:
 	@tools/version --notes
 
-# Runs every test, every row except the long ones, and each program's stored run: about 6 minutes on four cores. Proves
-# nothing.
+# Runs every test, every row except the long ones, and each stored run, without proofs: about 6 minutes on four cores.
 test:
 	@tools/test
 
-# Proves the product from scratch in a copy, tries the mutants of must-fail/, and builds the program with both
-# compilers.
+# Proves the product from scratch in a copy, tries the mutants of must-fail/, and builds it with both compilers.
 gate:
 	@tools/gate
 
@@ -71,8 +69,7 @@ gate-all:
 rows:
 	@tools/rows
 
-# Tries the mutants of the crates that changed, and writes mutants.lock. CRATE=NAME: of one crate. ALL=1: all from
-# scratch.
+# Tries the mutants of the crates that changed, and writes mutants.lock. CRATE=NAME: of one crate; ALL=1: all, anew.
 mutants:
 	@tools/mutants $(if $(ALL),--all) $(CRATE)
 
@@ -108,14 +105,12 @@ checks: program
 	python3 checks/java/check.py
 	python3 checks/java/jars.py
 
-# Builds and tests the Java modules with Maven, offline, from Debian's packages: about a minute. java/README.md names
-# them.
+# Builds and tests the Java modules with Maven, offline, from the Debian packages of java/README.md: about a minute.
 java:
 	@tools/java
 
-# Measures each command and compares it with a simpler program: one that only reads the same input, `certify` for `fit`,
-# one that only passes as many events through a lock for `run`, and a plain Rust program with the same answers for four
-# commands.
+# Measures the commands, and compares them with simpler programs: with one that only reads the input, `fit` with
+# `certify`, `run` with one that passes as many events through a lock, and four commands with a plain Rust program.
 bench: program plan_reader
 	@command -v valgrind > /dev/null || echo "no instructions are counted: valgrind is missing (apt-get install valgrind)"
 	python3 bench/replay.py
