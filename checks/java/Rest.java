@@ -26,7 +26,7 @@ final class Rest {
         }
     }
 
-    /** Waits for the latch, however long it takes. */
+    /** Waits until the latch opens, without a time limit. */
     static void hold(CountDownLatch latch) {
         try {
             latch.await();
