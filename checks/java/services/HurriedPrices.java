@@ -8,7 +8,10 @@ import java.util.concurrent.Future;
 import java.util.concurrent.TimeUnit;
 import java.util.concurrent.TimeoutException;
 
-/** Prices for patient clients, and for four in a hurry: one of the four waits, one asks again, one continues, and one cancels. */
+/**
+ * A service of prices for patient clients and for four in a hurry: one of the four waits, one asks again, one continues, and one
+ * cancels.
+ */
 final class HurriedPrices implements Services.Service {
     private static final int ASKS_AGAIN = 1;
     private static final int GOES_ON = 2;

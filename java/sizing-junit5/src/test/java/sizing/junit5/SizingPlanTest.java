@@ -31,7 +31,7 @@ import org.junit.platform.launcher.listeners.TestExecutionSummary;
 import org.opentest4j.AssertionFailedError;
 import org.opentest4j.TestAbortedException;
 
-/** Classes with {@link SizingPlan}, run by the launcher. */
+/** Tests that run classes with {@link SizingPlan} by the launcher. */
 class SizingPlanTest {
     private static final String SHOP = Path.of("target", "test-classes", "shop.toml").toString();
     private static final String SMALL_SHOP = Path.of("target", "test-classes", "shop-small.toml").toString();
@@ -40,7 +40,7 @@ class SizingPlanTest {
     private String program;
     private String optional;
 
-    /** The service: a page asks the database and waits. */
+    /** Runs the service: a page that asks the database and waits. */
     static String visit(ExecutorService web, ExecutorService database) throws Exception {
         return web.submit(label("request", () -> database.submit(label("query", () -> "rows")).get() + " as a page")).get();
     }
@@ -92,7 +92,7 @@ class SizingPlanTest {
         void nothing() {}
     }
 
-    /** The page is not waited for, which is another path than that of the plan. */
+    /** A class whose visitors do not wait for the page. The plan has no such path. */
     @SizingPlan("shop.toml")
     static class Hurried {
         @Test
@@ -123,7 +123,7 @@ class SizingPlanTest {
         }
     }
 
-    /** One executor is the service's own, and one has the sizes of the plan. */
+    /** A class with an executor of the service and an executor with the sizes of the plan. */
     @SizingPlan("shop-unbounded.toml")
     static class Fixed {
         @Test
