@@ -33,14 +33,14 @@ class Actor {
         send(order);
         String answer = answers.poll(Rest.MILLISECONDS, TimeUnit.MILLISECONDS);
         if (answer == null) {
-            throw new IllegalStateException("no answer of an actor");
+            throw new IllegalStateException("an actor did not answer within 10 seconds");
         }
         return answer;
     }
 
     void send(Order order) throws InterruptedException {
         if (!orders.offer(order, Rest.MILLISECONDS, TimeUnit.MILLISECONDS)) {
-            throw new IllegalStateException("an actor does not wait");
+            throw new IllegalStateException("an actor did not wait for an order within 10 seconds");
         }
     }
 

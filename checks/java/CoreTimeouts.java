@@ -140,7 +140,7 @@ final class CoreTimeouts {
     private static void hold(CountDownLatch latch) {
         try {
             if (!latch.await(Rest.MILLISECONDS, TimeUnit.MILLISECONDS)) {
-                throw new IllegalStateException("no rest");
+                throw new IllegalStateException("a latch did not open within 10 seconds");
             }
         } catch (InterruptedException over) {
             Thread.currentThread().interrupt();

@@ -14,7 +14,7 @@ final class Rest {
 
     static void within(long turns) {
         if (turns > MILLISECONDS) {
-            throw new IllegalStateException("no rest");
+            throw new IllegalStateException("the threads are not at rest after 10 seconds");
         }
     }
 

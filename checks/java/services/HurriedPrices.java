@@ -36,7 +36,7 @@ final class HurriedPrices implements Services.Service {
         }
         try {
             price.get(1, TimeUnit.MILLISECONDS);
-            throw new AssertionError("there is a price before its time");
+            throw new AssertionError("the job ended before its latch opened");
         } catch (TimeoutException over) {
             afterwards(client, price, go);
         } finally {

@@ -152,7 +152,7 @@ final class Run {
 
     static void await(CountDownLatch latch) throws InterruptedException {
         if (!latch.await(SECONDS, TimeUnit.SECONDS)) {
-            throw new AssertionError("waited too long");
+            throw new AssertionError("a latch did not open within 60 seconds");
         }
     }
 
@@ -230,7 +230,7 @@ final class Run {
         for (ThreadPoolExecutor executor : executors.values()) {
             executor.shutdown();
             if (clients.stream().anyMatch(Thread::isAlive) || !executor.awaitTermination(SECONDS, TimeUnit.SECONDS)) {
-                throw new AssertionError("the service does not come to its end");
+                throw new AssertionError("the service did not end within 60 seconds");
             }
         }
     }

@@ -32,7 +32,7 @@ final class ActorLog {
     void endRound(Actor round) {
         ThreadState state = threads.get();
         if (state.actor != round) {
-            throw new IllegalStateException("a round is closed by the thread that began it");
+            throw new IllegalStateException("only the thread that began a round may close it");
         }
         end(round);
         state.actor = null;

@@ -99,7 +99,7 @@ public final class Recorder implements AutoCloseable {
      * Returns a view of the executor that records what is done with it. Threads that the executor has already are recorded as
      * prestarted, so call this after {@code prestartAllCoreThreads} and before the first submit.
      *
-     * @throws IllegalArgumentException if the executor is recorded already, or if the recorder has a pool of the same name
+     * @throws IllegalArgumentException if the executor is already recorded, or if the recorder has a pool of the same name
      */
     public ExecutorService pool(String name, ThreadPoolExecutor executor) {
         return pool(name, executor, UnaryOperator.identity());
@@ -109,16 +109,16 @@ public final class Recorder implements AutoCloseable {
      * Returns a view of the executor that records what is done with it. The decorator is applied to each task on the thread that
      * submits it, before the submit is recorded, as Spring's {@code TaskDecorator} is. So it may acquire a permit.
      *
-     * @throws IllegalArgumentException if the executor is recorded already, or if the recorder has a pool of the same name
+     * @throws IllegalArgumentException if the executor is already recorded, or if the recorder has a pool of the same name
      */
     public ExecutorService pool(String name, ThreadPoolExecutor executor, UnaryOperator<Runnable> decorator) {
         String poolName = Names.of(name);
         synchronized (pools) {
             if (pools.containsKey(poolName)) {
-                throw new IllegalArgumentException("pool " + poolName + " is recorded already");
+                throw new IllegalArgumentException("pool " + poolName + " is already recorded");
             }
             if (executor.getRejectedExecutionHandler() instanceof NotedHandler) {
-                throw new IllegalArgumentException("the executor of pool " + poolName + " is recorded already");
+                throw new IllegalArgumentException("the executor of pool " + poolName + " is already recorded");
             }
             Pool pool = new Pool(poolName, executor, log, lines);
             pools.put(poolName, pool);

@@ -89,8 +89,8 @@ class RecorderTest {
         Recording recording = new Recording();
         ThreadPoolExecutor executor = Recording.executor(1, 1, 1);
         recording.pool("Web Pool", executor);
-        assertEquals("IllegalArgumentException: pool web_pool is recorded already", thrownBy(() -> recording.pool("web_pool")));
-        assertEquals("IllegalArgumentException: the executor of pool db is recorded already", thrownBy(() -> recording.pool("db", executor)));
+        assertEquals("IllegalArgumentException: pool web_pool is already recorded", thrownBy(() -> recording.pool("web_pool")));
+        assertEquals("IllegalArgumentException: the executor of pool db is already recorded", thrownBy(() -> recording.pool("db", executor)));
         assertEquals(3, recording.lines().size());
     }
 
@@ -299,7 +299,7 @@ class RecorderTest {
     void aRoundIsClosedOnceByItsOwnThread() throws Exception {
         Recording recording = new Recording();
         Recorder.Round round = recording.recorder.round("a");
-        Recording.on("other", () -> assertEquals("IllegalStateException: a round is closed by the thread that began it", thrownBy(round::close)));
+        Recording.on("other", () -> assertEquals("IllegalStateException: only the thread that began a round may close it", thrownBy(round::close)));
         round.close();
         round.close();
         assertLines(recording.acts(), "round 0 begin a", "round 0 end");

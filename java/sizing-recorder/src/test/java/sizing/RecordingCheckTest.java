@@ -89,7 +89,7 @@ class RecordingCheckTest {
         all.add(lines[lines.length - 1]);
         List<String> found = RecordingCheck.faults(all);
         if (!found.contains("line " + all.size() + ": " + rule)) {
-            throw new AssertionError("of " + lines[lines.length - 1] + " " + found + " is found, wanted " + rule);
+            throw new AssertionError(lines[lines.length - 1] + ": expected " + rule + ", but was " + found);
         }
     }
 }

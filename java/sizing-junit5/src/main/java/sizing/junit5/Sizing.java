@@ -82,7 +82,7 @@ public final class Sizing {
         List<String> differences = PlanCheck.differences(plan, Map.of(name, executor)).stream()
                 .filter(line -> line.startsWith("pool " + name + ": ") && !line.startsWith("pool " + name + ": handler ")).toList();
         if (!differences.isEmpty()) {
-            throw new AssertionFailedError("the executor is not that of " + plan + ":\n  " + String.join("\n  ", differences));
+            throw new AssertionFailedError("the executor differs from the pool of " + plan + ":\n  " + String.join("\n  ", differences));
         }
         ExecutorService pool = recorder.pool(name, executor);
         pools.put(name, pool);
@@ -146,7 +146,7 @@ public final class Sizing {
                 long alive = clients.stream().filter(Thread::isAlive).count();
                 clients.forEach(Thread::interrupt);
                 throw new AssertionFailedError("no round of kind " + kind + " ended for " + MAX_IDLE_SECONDS + " seconds, and " + alive
-                        + " of " + clients.size() + " threads are in one");
+                        + " of " + clients.size() + " threads are still in a round");
             }
             for (Thread client : clients) {
                 client.join(Math.max(1, 100 / clients.size()));

@@ -15,16 +15,18 @@ import sizing.PlanMismatchException;
  * names, or it is on the path. If it is not found, the assertion fails; with {@code -Dsizing.optional=true} the test is skipped.
  */
 public final class SizingAssertions {
+    private static final String UNSAFE = "` did not answer SAFE without warnings";
+
     private SizingAssertions() {}
 
     /** Asserts that the plan is safe and has no warning: {@code sizing ask --strict PLAN}. */
     public static void assertSafe(Path plan) {
-        assertSuccess(plan + " is not safe, or has warnings", SizingProgram.run("ask", "--strict", plan));
+        assertSuccess("`sizing ask --strict " + plan + UNSAFE, SizingProgram.run("ask", "--strict", plan));
     }
 
     /** Asserts the same with a certificate, which takes no search: {@code sizing ask --strict PLAN CERTIFICATE}. */
     public static void assertSafe(Path plan, Path certificate) {
-        assertSuccess(plan + " is not safe by " + certificate + ", or has warnings", SizingProgram.run("ask", "--strict", plan, certificate));
+        assertSuccess("`sizing ask --strict " + plan + " " + certificate + UNSAFE, SizingProgram.run("ask", "--strict", plan, certificate));
     }
 
     /** Asserts that the service did what the plan says: {@code sizing conform PLAN RECORDING}. */
@@ -37,7 +39,7 @@ public final class SizingAssertions {
         try {
             PlanCheck.check(plan, executors);
         } catch (PlanMismatchException differs) {
-            throw new AssertionFailedError("the executors are not those of " + plan + ":\n  " + String.join("\n  ", differs.lines()), differs);
+            throw new AssertionFailedError("the executors differ from the pools of " + plan + ":\n  " + String.join("\n  ", differs.lines()), differs);
         }
     }
 

@@ -86,7 +86,7 @@ final class SizingExtension implements BeforeAllCallback, AfterAllCallback, Para
     public Object resolveParameter(ParameterContext parameter, ExtensionContext context) {
         Sizing sizing = context.getStore(NAMESPACE).get(Sizing.class, Sizing.class);
         if (sizing == null) {
-            throw new ParameterResolutionException("a parameter of type Sizing needs @SizingPlan on the class of the test");
+            throw new ParameterResolutionException("a parameter of type Sizing needs @SizingPlan on the test class");
         }
         return sizing;
     }

@@ -76,7 +76,7 @@ final class SizingProgram {
             process.getOutputStream().close();
             if (!process.waitFor(MAX_SECONDS, TimeUnit.SECONDS)) {
                 process.destroyForcibly();
-                throw new IOException("it did not end within " + MAX_SECONDS + " seconds");
+                throw new IOException("the program did not end within " + MAX_SECONDS + " seconds");
             }
             return new Answer(process.exitValue(), read(output), read(errors));
         } finally {

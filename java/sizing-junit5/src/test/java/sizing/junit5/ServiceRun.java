@@ -105,7 +105,7 @@ final class ServiceRun {
     void await(CountDownLatch latch) {
         try {
             if (!latch.await(60, TimeUnit.SECONDS)) {
-                throw new AssertionError("waited too long");
+                throw new AssertionError("a latch did not open within 60 seconds");
             }
         } catch (InterruptedException interrupted) {
             Thread.currentThread().interrupt();
@@ -151,7 +151,7 @@ final class ServiceRun {
         for (ThreadPoolExecutor executor : executors) {
             executor.shutdown();
             if (!executor.awaitTermination(60, TimeUnit.SECONDS)) {
-                throw new AssertionError("jobs do not end");
+                throw new AssertionError("jobs did not end within 60 seconds");
             }
         }
         recorder.close();
