@@ -161,8 +161,8 @@ final class Facts {
     // ---- threads
 
     /**
-     * Submits three jobs to a pool with core 2, max 2 and queue 1, whose threads pause before they take a job. Calls {@code
-     * prestartAllCoreThreads} after the first submit if {@code isPrestarted}. Returns which submits were served.
+     * Submits three jobs to a pool with core 2, max 2 and queue 1, whose threads pause before they take a job. Calls
+     * {@code prestartAllCoreThreads} after the first submit if {@code isPrestarted}. Returns which submits were served.
      */
     private static String prestartedLate(boolean isPrestarted) throws Exception {
         CountDownLatch held = new CountDownLatch(1);

@@ -360,8 +360,9 @@ class PermitsTest {
     }
 
     /**
-     * Thread 1 submits row 2 and later gives back a permit that it did not use. Meanwhile row 2 is done, and thread 2, which submitted
-     * row 3, is about to give back its permit. If thread 1 ended the round of row 2, thread 2 would end that of row 3, which is open.
+     * Thread 1 submits row 2 and later gives back a permit that it did not use. Meanwhile row 2 is done, and thread 2, which
+     * submitted row 3, is about to give back its permit. If thread 1 ended the round of row 2, thread 2 would end that of row 3,
+     * which is open.
      */
     @Test
     void aReleaseOfAnUnusedPermitDoesNotEndOneThatAnotherThreadGivesBack() throws Exception {

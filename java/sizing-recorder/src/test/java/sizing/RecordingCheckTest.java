@@ -79,7 +79,9 @@ class RecordingCheckTest {
         }
     }
 
-    /** Asserts that the last of these lines, put before the line of this number, breaks the rule, and that those before it do not. */
+    /**
+     * Asserts that the last of these lines, put before the line of this number, breaks the rule, and that those before it do not.
+     */
     private static void finds(String rule, int before, String... lines) {
         List<String> all = new ArrayList<>(WHOLE.subList(0, before - 1));
         for (int at = 0; at < lines.length - 1; at++) {

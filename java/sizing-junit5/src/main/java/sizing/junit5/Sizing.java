@@ -51,14 +51,14 @@ public final class Sizing {
         return recording;
     }
 
-    /** Returns the recorder, for what this class does not offer. */
+    /** Returns the recorder, for methods that this class lacks. */
     public Recorder recorder() {
         return recorder;
     }
 
     /**
-     * Returns a recorded executor with the sizes of the plan's pool. The first call for a pool creates it, and it is shut down after
-     * the tests of the class.
+     * Returns a recorded executor with the sizes of the plan's pool. The first call for a pool creates it, and it is shut down
+     * after the tests of the class.
      *
      * @throws IllegalArgumentException if the plan has no such pool
      */
@@ -76,7 +76,7 @@ public final class Sizing {
     /**
      * Returns a recorded view of the service's own executor.
      *
-     * @throws AssertionFailedError if its sizes are not those of the plan's pool
+     * @throws AssertionFailedError if the executor differs from the plan's pool
      */
     public synchronized ExecutorService pool(String name, ThreadPoolExecutor executor) throws IOException {
         List<String> differences = PlanCheck.differences(plan, Map.of(name, executor)).stream()
@@ -100,8 +100,7 @@ public final class Sizing {
     }
 
     /**
-     * Runs the body on this number of threads at once, each of which runs it as this number of rounds of the kind, one after the
-     * other.
+     * Runs the body on this number of threads at once. Each thread runs it as this number of rounds of the kind, in sequence.
      *
      * @throws AssertionFailedError with the first exception of a body as its cause, or if no round ends for 60 seconds
      */

@@ -9,7 +9,7 @@ import sizing.PlanCheck;
 import sizing.PlanMismatchException;
 
 /**
- * Assertions on plans, recordings and executors. The message of a failure is what the program prints.
+ * Assertions on plans, recordings and executors. The message of a failure contains the output of the program.
  *
  * <p>The program {@code sizing} is the file that the property {@code sizing.program} or the environment variable {@code SIZING}
  * names, or it is on the path. If it is not found, the assertion fails; with {@code -Dsizing.optional=true} the test is skipped.
@@ -24,12 +24,15 @@ public final class SizingAssertions {
         assertSuccess("`sizing ask --strict " + plan + UNSAFE, SizingProgram.run("ask", "--strict", plan));
     }
 
-    /** Asserts the same with a certificate, which takes no search: {@code sizing ask --strict PLAN CERTIFICATE}. */
+    /**
+     * Asserts that a certificate accepts the plan and that it has no warning, without a search:
+     * {@code sizing ask --strict PLAN CERTIFICATE}.
+     */
     public static void assertSafe(Path plan, Path certificate) {
         assertSuccess("`sizing ask --strict " + plan + " " + certificate + UNSAFE, SizingProgram.run("ask", "--strict", plan, certificate));
     }
 
-    /** Asserts that the service did what the plan says: {@code sizing conform PLAN RECORDING}. */
+    /** Asserts that the recorded run conforms to the plan: {@code sizing conform PLAN RECORDING}. */
     public static void assertConforms(Path plan, Path recording) {
         assertSuccess(recording + " does not conform to " + plan, SizingProgram.run("conform", plan, recording));
     }

@@ -71,7 +71,7 @@ final class SizingExtension implements BeforeAllCallback, AfterAllCallback, Para
         return relative(Path.of(resource.toURI()));
     }
 
-    /** Returns the path from the working directory, if the file is inside it, for shorter messages. */
+    /** Returns the path relative to the working directory if the file is inside it, for shorter messages. */
     private static Path relative(Path file) {
         Path here = Path.of("").toAbsolutePath();
         return file.startsWith(here) ? here.relativize(file) : file;

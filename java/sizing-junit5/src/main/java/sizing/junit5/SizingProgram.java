@@ -28,7 +28,7 @@ final class SizingProgram {
 
     private SizingProgram() {}
 
-    /** Returns the program, if there is one. */
+    /** Returns the path of the program, or empty if none is named or on the path. */
     static Optional<Path> find() {
         return Stream.of(System.getProperty("sizing.program"), System.getenv("SIZING"))
                 .filter(name -> name != null && !name.isBlank()).map(Path::of).findFirst().or(SizingProgram::onPath);
