@@ -24,7 +24,7 @@ import java.util.concurrent.TimeUnit;
 import java.util.concurrent.atomic.AtomicBoolean;
 import org.junit.jupiter.api.Test;
 
-/** Differences between executors and a plan. */
+/** Tests of the differences between executors and a plan. */
 class PlanCheckTest {
     private static final String PLAN = """
             # two pools
@@ -85,7 +85,7 @@ class PlanCheckTest {
             body = ["submit ping", "submit query as p", "get p"]
             """;
 
-    /** A handler that is none of the JDK. */
+    /** A handler that the JDK does not have. */
     private static class Retry implements RejectedExecutionHandler {
         @Override
         public void rejectedExecution(Runnable task, ThreadPoolExecutor executor) {
@@ -428,7 +428,7 @@ class PlanCheckTest {
         return executors;
     }
 
-    /** Compares a pool that may reject and has this handler. */
+    /** Checks the lines for a pool with {@code may_reject} and this handler. */
     private static void handled(RejectedExecutionHandler handler, String bodies, String... lines) throws Exception {
         compared(file(SHEDDING + bodies), shedding(handler), lines);
     }

@@ -28,14 +28,14 @@ import java.util.concurrent.atomic.AtomicBoolean;
 import org.junit.jupiter.api.Test;
 import org.junit.jupiter.api.function.Executable;
 
-/** Pools, jobs, rounds and labels. */
+/** Tests of pools, jobs, rounds and labels. */
 class RecorderTest {
     private static final class PriceQuery implements Runnable {
         @Override
         public void run() {}
     }
 
-    /** A queue of another class, which may have another order. */
+    /** A queue of a subclass, which may have another order. */
     private static final class OwnQueue extends LinkedBlockingQueue<Runnable> {
         private static final long serialVersionUID = 1;
     }
