@@ -207,7 +207,7 @@ def rounds_that_timed_out(lines):
 
 
 def live_jobs(lines, ordered=lambda jobs: jobs):
-    """Returns the plan and a recording of a round whose jobs are all submitted before the first one starts, and got in this order."""
+    """Returns the plan and a recording of a round that submits all its jobs before one starts, and gets them in this order."""
     recording = Recording()
     actor = recording.begin()
     jobs = [recording.submit(actor) for _ in range(lines // 4)]
