@@ -26,7 +26,7 @@ class Actor {
         this.submitted = new Job[body.size()];
     }
 
-    // ---- the driver's side
+    // ---- called by the driver
 
     /** Orders one step and returns its outcome. */
     String step(Order order) throws InterruptedException {

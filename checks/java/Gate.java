@@ -48,7 +48,7 @@ class Gate implements Moments {
         Actor.pause("found the queue full");
     }
 
-    // ---- the driver's side
+    // ---- called by the driver
 
     synchronized int idle() {
         return idle.size();

@@ -19,7 +19,7 @@ final class HandOverGate extends Gate {
     private int holders;
     private Thread timedOut;
 
-    // ---- the side of the pool's threads and of submitters
+    // ---- called by the pool's threads and by submitters
 
     synchronized void arrives(boolean timed) {
         atQueue.put(Thread.currentThread(), timed);
@@ -62,7 +62,7 @@ final class HandOverGate extends Gate {
         return timedOut == Thread.currentThread();
     }
 
-    // ---- the driver's side
+    // ---- called by the driver
 
     @Override
     synchronized int idle() {

@@ -116,7 +116,7 @@ final class HandOvers {
         return report;
     }
 
-    /** Submits three jobs one after the other while two threads are idle, and returns the outcome of each. */
+    /** Submits three jobs in sequence while two threads are idle, and returns the outcome of each. */
     private static String twoIdleThreads(int max) throws Exception {
         Pool pool = new Pool(2, max, new AbortPolicy());
         pool.prestartAllCoreThreads();

@@ -17,7 +17,7 @@ final class Job extends Actor implements Callable<Job> {
 
     @Override
     public Job call() throws InterruptedException, ExecutionException {
-        // Read before `begun` opens: the driver sends an order to each job that has begun, and each of those must wait for one.
+        // read before `begun` opens: the driver sends an order to each job that has begun, and each of those must wait for one.
         boolean freely = replay.runsFree();
         begun.countDown();
         go(freely);

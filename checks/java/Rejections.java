@@ -149,7 +149,7 @@ final class Rejections {
         try {
             pool.submit(job);
         } catch (RejectedExecutionException full) {
-            // The pool has no room, and no thread gets the job.
+            // the pool has no room, and no thread gets the job
         }
     }
 

@@ -184,7 +184,7 @@ final class Replay {
         return "retired";
     }
 
-    // ---- what is seen of the executors
+    // ---- the observed state of the executors
 
     /** Returns whether each of these jobs waits only for others among them. Reads the states of the pools and the futures. */
     private String stuck(String[] words) {

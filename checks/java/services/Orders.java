@@ -25,7 +25,7 @@ final class Orders implements Services.Service {
 
     private int order(boolean isThere) throws Exception {
         int first = stock(isThere);
-        // the slip: both branches, the later one first
+        // the slip: an order that takes both branches, in the other order
         return takesAnotherPath && !isThere ? stock(true) : first;
     }
 

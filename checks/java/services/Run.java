@@ -165,7 +165,7 @@ final class Run {
             ThreadPoolExecutor first = executors.values().iterator().next();
             first.setMaximumPoolSize(first.getMaximumPoolSize() + 1);
             if (first.getQueue() instanceof LinkedBlockingQueue) {
-                // over an unbounded queue the maximum has no effect
+                // the maximum has no effect over an unbounded queue
                 first.setCorePoolSize(first.getMaximumPoolSize());
             }
         }

@@ -123,7 +123,7 @@ final class ActorLog {
         ThreadState state = threads.get();
         Actor now = state.actor;
         if (now != null && now != job.actor && !now.hasLabel() && !now.ended) {
-            // a round without a label that began after the job's last line
+            // this round without a label began after the job's last line
             end(now);
         }
         state.actor = job.outerActor;
@@ -222,7 +222,7 @@ final class ActorLog {
     void endSubmit(Actor submitter, Job job) {
         job.offering = null;
         if (!submitter.isShared()) {
-            // the job keeps no reference to its submitter, so a job that submits the next one does not keep all before it
+            // otherwise a job that submits the next one would keep all jobs before it reachable
             job.submitter = null;
         }
         if (submitter.isAfterEnd) {
@@ -239,7 +239,7 @@ final class ActorLog {
             Actor actor = job.submitter;
             synchronized (actor) {
                 actor.removeUnclaimed(job);
-                // a `refused` line follows its submit at once, and another thread may have added a line of a shared actor
+                // a `refused` line must directly follow its submit, but another thread may have added a line of a shared actor
                 boolean follows = !actor.isShared() || actor.sharedLines == job.submitLine;
                 lines.action(actor, follows ? "refused" : "cancel", job);
             }

@@ -153,7 +153,7 @@ final class RecordedPool extends AbstractExecutorService {
         if (permit == null && sources.isEmpty()) {
             List<Job> finished = submitter.finishedUnclaimed();
             if (finished.size() == 1 && (stage.isDependent() || Stages.isInFunctionOfStage())) {
-                // the source is a stage in no pool, and comes after the only job that is done
+                // the source is a stage in no pool, which comes after the only finished job
                 sources.addAll(finished);
             }
         }

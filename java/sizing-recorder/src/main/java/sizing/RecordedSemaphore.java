@@ -36,7 +36,7 @@ final class RecordedSemaphore extends Semaphore {
         synchronized (taken) {
             Actor permit = choose(acquired);
             while (permit != null && !taken.remove(permit)) {
-                // the thread that runs its job gave it back meanwhile
+                // the thread that runs the permit's job has given it back in the meantime
                 permit = choose(acquired);
             }
             return permit;

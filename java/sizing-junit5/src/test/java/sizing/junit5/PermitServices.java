@@ -227,7 +227,7 @@ final class PermitServices {
 
     static void oneBurst(ServiceRun run) throws Exception {
         ExecutorService mail = run.pool("mail");
-        // Orders that begin at different times look like one client that repeats: `learn` would then write `repeat`.
+        // all orders begin at once: otherwise they would look like one client that repeats, and `learn` would write `repeat`
         CyclicBarrier burst = new CyclicBarrier(3);
         run.rounds("order", 3, 1, () -> {
             burst.await();

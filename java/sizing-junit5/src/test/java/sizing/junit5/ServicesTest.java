@@ -398,7 +398,7 @@ class ServicesTest {
     void conforms(Case one) throws Exception {
         Path recording = recordingOf(one);
         SizingProgram.Answer answer = conform(planOf(one), recording);
-        // The program adds a line for each pool that rejected jobs, as the plan allows.
+        // the program adds a line for each pool that rejected jobs as the plan allows
         assertEquals(List.of("conforms"), answer.lines().stream().filter(line -> !line.endsWith(", as the plan allows")).toList());
         assertEquals(0, answer.status());
     }
