@@ -7,9 +7,9 @@ final class Job {
     final Pool pool;
     /** Whether it is a stage of a {@code CompletableFuture} whose fields are readable. */
     boolean isStage;
-    /** Whether it counts as got once it is done: nothing shows that its submitter waits for it. */
+    /** Whether it counts as got once it is done, because the recorder cannot see whether its submitter waits for it. */
     boolean isGotWhenDone;
-    /** The actor that submitted it, while it is offered; afterwards only if that actor is shared. */
+    /** The actor that submitted it, while it is offered. Afterwards null, unless that actor is shared. */
     Actor submitter;
     /** The number of its submit among the lines of a shared actor. */
     int submitLine;

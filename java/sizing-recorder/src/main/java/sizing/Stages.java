@@ -20,12 +20,12 @@ import java.util.function.Supplier;
 /**
  * The stages of CompletableFutures on recorded pools.
  *
- * <p>A pool gets a stage by {@code execute}, as an object of a private class of the JDK. Its fields say which future it
- * completes, which futures it comes after, and which function it calls. They are readable if {@code java.util.concurrent} is open
- * to this package; otherwise a stage is recorded as a command like any other.
+ * <p>A pool gets a stage by {@code execute}, as an object of a private class of the JDK. The object's fields hold the future that
+ * the stage completes, the futures after which it comes, and the function that it calls. They are readable if
+ * {@code java.util.concurrent} is open to this package. Otherwise a stage is recorded as any other command.
  *
- * <p>A stage's future is done before its {@code run} returns, and a thread that waits for it may continue at once. So the
- * function of the stage is replaced by one that also records the end of the job.
+ * <p>A stage's future is done before its {@code run} returns, and a thread that waits for it may continue at once. So this class
+ * replaces the function of the stage by one that also records the end of the job.
  */
 final class Stages {
     private static final Logger LOGGER = System.getLogger("sizing");

@@ -12,7 +12,8 @@ import sizing.PlanMismatchException;
  * Assertions on plans, recordings and executors. The message of a failure contains the output of the program.
  *
  * <p>The program {@code sizing} is the file that the property {@code sizing.program} or the environment variable {@code SIZING}
- * names, or it is on the path. If it is not found, the assertion fails; with {@code -Dsizing.optional=true} the test is skipped.
+ * names, or it is on the path. If it is not found, the assertion fails, or with {@code -Dsizing.optional=true} the test is
+ * skipped.
  */
 public final class SizingAssertions {
     private static final String UNSAFE = "` did not answer SAFE without warnings";
@@ -25,7 +26,7 @@ public final class SizingAssertions {
     }
 
     /**
-     * Asserts that a certificate accepts the plan and that it has no warning, without a search:
+     * Asserts that a certificate accepts the plan, without a search, and that the plan has no warning:
      * {@code sizing ask --strict PLAN CERTIFICATE}.
      */
     public static void assertSafe(Path plan, Path certificate) {

@@ -13,7 +13,10 @@ import java.util.stream.Stream;
 import org.opentest4j.AssertionFailedError;
 import org.opentest4j.TestAbortedException;
 
-/** The program {@code sizing}: that of the property {@code sizing.program}, of the variable {@code SIZING}, or on the path. */
+/**
+ * The program {@code sizing}: the file that the property {@code sizing.program} or the variable {@code SIZING} names, or the one
+ * on the path.
+ */
 final class SizingProgram {
     private static final long MAX_SECONDS = 300;
     private static final String HOW = " Install the program sizing from its release, and put it on the PATH or name it by "
