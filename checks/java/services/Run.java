@@ -112,8 +112,8 @@ final class Run {
 
     /**
      * Adds the threads of a kind of clients. In its first round, each waits until all of them have begun it. The slip `count`
-     * adds a thread to the first kind. If the settings are given, the clients with more than one round share the number of
-     * rounds.
+     * adds a thread to the first kind. If the settings are given, the clients with more than one round share the rounds that are
+     * left.
      */
     void clients(String kind, int count, int rounds, Round body) {
         int all = count + (slip.equals("count") && isFirstKind ? 1 : 0);
@@ -157,7 +157,8 @@ final class Run {
     }
 
     /**
-     * Runs all clients to their ends, and then shuts down the pools. With a slip, cuts the recording off after the time limit.
+     * Runs all clients to their ends, shuts down the pools, and closes the recorder. With a slip, waits for the clients only
+     * until the time limit, closes the recorder, and then interrupts all threads.
      */
     void toItsEnd() throws Exception {
         clients.forEach(Thread::start);

@@ -20,7 +20,7 @@ import java.util.concurrent.TimeoutException;
 import java.util.function.IntSupplier;
 
 /**
- * Services for the entries of docs/PATTERNS.md on bodies: correct uses, and uses that the page does not cover and `conform`
+ * Services for the entries of docs/PATTERNS.md on bodies: correct uses, and uses that the page does not cover and that `conform`
  * reports.
  */
 final class BodyServices {

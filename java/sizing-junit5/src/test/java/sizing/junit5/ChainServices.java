@@ -15,7 +15,7 @@ import java.util.concurrent.TimeUnit;
 import java.util.concurrent.TimeoutException;
 
 /**
- * Services for the entries of docs/PATTERNS.md on chains: correct uses, and uses that the page does not cover and `conform`
+ * Services for the entries of docs/PATTERNS.md on chains: correct uses, and uses that the page does not cover and that `conform`
  * reports.
  */
 final class ChainServices {
@@ -186,7 +186,7 @@ final class ChainServices {
         })).get());
     }
 
-    /** Submits a job from a stage in no pool, which runs on a thread after it completed its job. */
+    /** Submits a job from a stage in no pool. The stage runs on a thread of a pool, after the end of the thread's own job. */
     static void chainWithASubmitInNoPool(ServiceRun run) throws Exception {
         Chain chain = Chain.of(run);
         CountDownLatch joined = new CountDownLatch(1);

@@ -29,7 +29,7 @@ import java.util.stream.IntStream;
 import java.util.stream.Stream;
 
 /**
- * Services for the entries of docs/PATTERNS.md on clients: correct uses, and uses that the page does not cover and `conform`
+ * Services for the entries of docs/PATTERNS.md on clients: correct uses, and uses that the page does not cover and that `conform`
  * reports.
  */
 final class ClientServices {

@@ -119,7 +119,7 @@ final class OrderServices {
         });
     }
 
-    /** Leaves the loop by a get that throws, while the second quote is open. */
+    /** Leaves the loop by a get that throws an exception, while the second quote is open. */
     static void completionServiceWithAGetThatThrows(ServiceRun run) throws Exception {
         ExecutorService pool = run.pool("quotes");
         run.rounds("request", 1, 1, () -> {

@@ -25,7 +25,7 @@ import java.util.concurrent.TimeoutException;
 import java.util.function.Supplier;
 
 /**
- * Services for the entries of docs/PATTERNS.md on pools: correct uses, and uses that the page does not cover and `conform`
+ * Services for the entries of docs/PATTERNS.md on pools: correct uses, and uses that the page does not cover and that `conform`
  * reports.
  */
 final class PoolServices {
