@@ -114,7 +114,8 @@ class CoreTimeoutsTest {
         Map<String, ThreadPoolExecutor> executors = unbounded(Integer.MAX_VALUE, true);
         executors.get("tasks").setRejectedExecutionHandler(new ThreadPoolExecutor.DiscardOldestPolicy());
         PlanCheck.check(file(BOOT), executors);
-        assertEquals(List.of("pool tasks: handler DiscardOldestPolicy, which is never called if the plan is safe"), PlanCheck.differences(file(BOOT), executors));
+        assertEquals(List.of("pool tasks: handler DiscardOldestPolicy, which is never called if the plan is safe"),
+                PlanCheck.differences(file(BOOT), executors));
     }
 
     @Test

@@ -199,7 +199,8 @@ class PlanCheckTest {
         for (String key : new String[] {"", ", may_reject = true"}) {
             Path plan = file(UNBOUNDED.replace("}]", key + "}]"));
             PlanCheck.check(plan, Map.of("tasks", executor));
-            assertEquals(List.of("pool tasks: handler DiscardOldestPolicy, which is never called if the plan is safe"), PlanCheck.differences(plan, Map.of("tasks", executor)));
+            assertEquals(List.of("pool tasks: handler DiscardOldestPolicy, which is never called if the plan is safe"),
+                    PlanCheck.differences(plan, Map.of("tasks", executor)));
         }
     }
 
@@ -272,7 +273,8 @@ class PlanCheckTest {
     void aHandlerIsListedButDoesNotFailTheCheck() throws Exception {
         Map<String, ThreadPoolExecutor> executors = executors();
         executors.get("web").setRejectedExecutionHandler(new ThreadPoolExecutor.CallerRunsPolicy());
-        assertEquals(List.of("pool web: handler CallerRunsPolicy, which is never called if the plan is safe"), PlanCheck.differences(file(PLAN), executors));
+        assertEquals(List.of("pool web: handler CallerRunsPolicy, which is never called if the plan is safe"),
+                PlanCheck.differences(file(PLAN), executors));
         PlanCheck.check(file(PLAN), executors);
     }
 
@@ -287,10 +289,9 @@ class PlanCheckTest {
         Map<String, ThreadPoolExecutor> executors = shedding(new ThreadPoolExecutor.CallerRunsPolicy());
         Path plan = file(SHEDDING + GETS);
         PlanCheck.check(plan, executors);
-        assertEquals(List.of(
-                "pool bulkhead: handler CallerRunsPolicy, so copy the actions of class call in front of each `submit call` if they are not there",
-                "pool bulkhead: handler CallerRunsPolicy, so copy the actions of class late in front of each `submit late` if they are not there"),
-                PlanCheck.differences(plan, executors));
+        String copy = "pool bulkhead: handler CallerRunsPolicy, so copy the actions of class ";
+        assertEquals(List.of(copy + "call in front of each `submit call` if they are not there",
+                copy + "late in front of each `submit late` if they are not there"), PlanCheck.differences(plan, executors));
         handled(new ThreadPoolExecutor.CallerRunsPolicy(), NO_GETS);
     }
 
@@ -326,11 +327,13 @@ class PlanCheckTest {
         executors.get("db").setRejectedExecutionHandler(new Retry());
         Path plan = file(SHEDDING + GETS);
         PlanCheck.check(plan, executors);
-        assertEquals(List.of("pool db: handler Retry, which is never called if the plan is safe"), PlanCheck.differences(plan, executors));
+        assertEquals(List.of("pool db: handler Retry, which is never called if the plan is safe"),
+                PlanCheck.differences(plan, executors));
         Path without = file(SHEDDING.replace("may_reject = true", "may_reject = false") + GETS);
         executors.get("bulkhead").setRejectedExecutionHandler(new ThreadPoolExecutor.DiscardPolicy());
         PlanCheck.check(without, executors);
-        assertEquals("pool bulkhead: handler DiscardPolicy, which is never called if the plan is safe", PlanCheck.differences(without, executors).get(0));
+        assertEquals("pool bulkhead: handler DiscardPolicy, which is never called if the plan is safe",
+                PlanCheck.differences(without, executors).get(0));
     }
 
     @Test

@@ -90,7 +90,8 @@ class RecorderTest {
         ThreadPoolExecutor executor = Recording.executor(1, 1, 1);
         recording.pool("Web Pool", executor);
         assertEquals("IllegalArgumentException: pool web_pool is already recorded", thrownBy(() -> recording.pool("web_pool")));
-        assertEquals("IllegalArgumentException: the executor of pool db is already recorded", thrownBy(() -> recording.pool("db", executor)));
+        assertEquals("IllegalArgumentException: the executor of pool db is already recorded",
+                thrownBy(() -> recording.pool("db", executor)));
         assertEquals(3, recording.lines().size());
     }
 
@@ -299,7 +300,8 @@ class RecorderTest {
     void aRoundIsClosedOnceByItsOwnThread() throws Exception {
         Recording recording = new Recording();
         Recorder.Round round = recording.recorder.round("a");
-        Recording.on("other", () -> assertEquals("IllegalStateException: only the thread that began a round may close it", thrownBy(round::close)));
+        Recording.on("other", () -> assertEquals("IllegalStateException: only the thread that began a round may close it",
+                thrownBy(round::close)));
         round.close();
         round.close();
         assertLines(recording.acts(), "round 0 begin a", "round 0 end");

@@ -82,7 +82,8 @@ public final class Sizing {
         List<String> differences = PlanCheck.differences(plan, Map.of(name, executor)).stream()
                 .filter(line -> line.startsWith("pool " + name + ": ") && !line.startsWith("pool " + name + ": handler ")).toList();
         if (!differences.isEmpty()) {
-            throw new AssertionFailedError("the executor differs from the pool of " + plan + ":\n  " + String.join("\n  ", differences));
+            throw new AssertionFailedError("the executor differs from the pool of " + plan + ":\n  "
+                    + String.join("\n  ", differences));
         }
         ExecutorService pool = recorder.pool(name, executor);
         pools.put(name, pool);

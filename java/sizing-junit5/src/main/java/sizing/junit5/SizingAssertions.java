@@ -4,6 +4,8 @@ import java.io.IOException;
 import java.nio.file.Path;
 import java.util.Map;
 import java.util.concurrent.ExecutorService;
+import java.util.stream.Collectors;
+import java.util.stream.Stream;
 import org.opentest4j.AssertionFailedError;
 import sizing.PlanCheck;
 import sizing.PlanMismatchException;
@@ -16,13 +18,11 @@ import sizing.PlanMismatchException;
  * skipped.
  */
 public final class SizingAssertions {
-    private static final String UNSAFE = "` did not answer SAFE without warnings";
-
     private SizingAssertions() {}
 
     /** Asserts that the plan is safe and has no warning: {@code sizing ask --strict PLAN}. */
     public static void assertSafe(Path plan) {
-        assertSuccess("`sizing ask --strict " + plan + UNSAFE, SizingProgram.run("ask", "--strict", plan));
+        assertAnswersSafe("ask", "--strict", plan);
     }
 
     /**
@@ -30,7 +30,7 @@ public final class SizingAssertions {
      * {@code sizing ask --strict PLAN CERTIFICATE}.
      */
     public static void assertSafe(Path plan, Path certificate) {
-        assertSuccess("`sizing ask --strict " + plan + " " + certificate + UNSAFE, SizingProgram.run("ask", "--strict", plan, certificate));
+        assertAnswersSafe("ask", "--strict", plan, certificate);
     }
 
     /** Asserts that the recorded run conforms to the plan: {@code sizing conform PLAN RECORDING}. */
@@ -43,8 +43,14 @@ public final class SizingAssertions {
         try {
             PlanCheck.check(plan, executors);
         } catch (PlanMismatchException differs) {
-            throw new AssertionFailedError("the executors differ from the pools of " + plan + ":\n  " + String.join("\n  ", differs.lines()), differs);
+            throw new AssertionFailedError("the executors differ from the pools of " + plan + ":\n  "
+                    + String.join("\n  ", differs.lines()), differs);
         }
+    }
+
+    private static void assertAnswersSafe(Object... arguments) {
+        String command = Stream.of(arguments).map(Object::toString).collect(Collectors.joining(" "));
+        assertSuccess("`sizing " + command + "` did not answer SAFE without warnings", SizingProgram.run(arguments));
     }
 
     private static void assertSuccess(String message, SizingProgram.Answer answer) {

@@ -239,8 +239,8 @@ class SizingPlanTest {
         assertPasses(Visitors.class, 2);
         assertMatches(Pattern.quote(Path.of("target", "sizing", Hurried.class.getName() + ".recording") + " does not conform to " + SHOP
                 + " (exit status 1):\n  line ") + "\\d+: round 0 of kind visitor ended without a get of job \\d+ of class request in pool web; its body has a get before its end", failureOf(Hurried.class));
-        assertMatches(Pattern.quote("`sizing ask --strict " + SMALL_SHOP + "` did not answer SAFE without warnings (exit status 1):\n"
-                + "  NOT SAFE\n  refused by web, after ") + "(?s).*", failureOf(Small.class));
+        assertMatches(Pattern.quote("`sizing ask --strict " + SMALL_SHOP + "` did not answer SAFE without warnings "
+                + "(exit status 1):\n  NOT SAFE\n  refused by web, after ") + "(?s).*", failureOf(Small.class));
     }
 
     @Test
@@ -254,7 +254,8 @@ class SizingPlanTest {
     @Test
     void anExecutorOfOtherSizesFailsTheTest() throws Exception {
         try (StubProgram stub = new StubProgram(0, "SAFE", 0, "conforms")) {
-            assertEquals("the executor differs from the pool of " + SHOP + ":\n  pool web: max 4, plan 2", failureOf(OtherSizes.class));
+            assertEquals("the executor differs from the pool of " + SHOP + ":\n  pool web: max 4, plan 2",
+                    failureOf(OtherSizes.class));
             assertEquals(1, stub.runs().size());
         }
     }
@@ -268,7 +269,8 @@ class SizingPlanTest {
             List<String> pools = Files.readAllLines(recording).stream().filter(line -> line.startsWith("pool ")).toList();
             assertEquals(List.of("pool web core 2 max 2 queue linked 1000000000 timeout no prestarted 0 handler abort",
                     "pool database core 1 max 1 queue linked 1000000000 timeout no prestarted 0 handler abort"), pools);
-            assertEquals("the executor differs from the pool of " + UNBOUNDED + ":\n  pool web: queue 6, plan unbounded", failureOf(OtherQueue.class));
+            assertEquals("the executor differs from the pool of " + UNBOUNDED + ":\n  pool web: queue 6, plan unbounded",
+                    failureOf(OtherQueue.class));
         }
     }
 
@@ -282,8 +284,9 @@ class SizingPlanTest {
     @Test
     void aHandlerThatDoesNotFitMayRejectFailsTheTest() throws Exception {
         try (StubProgram stub = new StubProgram(0, "SAFE", 0, "conforms")) {
-            assertEquals("the executor differs from the pool of " + SHEDDING + ":\n  pool web: may_reject and handler DiscardPolicy, "
-                    + "but client visitor gets a job of class request: this get may never return", failureOf(Discarding.class));
+            assertEquals("the executor differs from the pool of " + SHEDDING + ":\n  pool web: may_reject and handler "
+                    + "DiscardPolicy, but client visitor gets a job of class request: this get may never return",
+                    failureOf(Discarding.class));
             assertEquals(2, stub.runs().size());
         }
     }
@@ -325,7 +328,8 @@ class SizingPlanTest {
     void executorsAreCompared() throws Exception {
         ThreadPoolExecutor web = new ThreadPoolExecutor(2, 2, 1, TimeUnit.SECONDS, new LinkedBlockingQueue<>(6));
         AssertionFailedError thrown = assertThrows(AssertionFailedError.class, () -> SizingAssertions.assertExecutors(Path.of(SHOP), Map.of("web", web)));
-        assertEquals("the executors differ from the pools of " + SHOP + ":\n  pool database: no executor given", thrown.getMessage());
+        assertEquals("the executors differ from the pools of " + SHOP + ":\n  pool database: no executor given",
+                thrown.getMessage());
         SizingAssertions.assertExecutors(Path.of(SHOP), Map.of("web", web, "database", new ThreadPoolExecutor(1, 1, 1, TimeUnit.SECONDS, new LinkedBlockingQueue<>(2))));
     }
 }
