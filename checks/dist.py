@@ -36,7 +36,7 @@ FILES = """
 NOT_PACKED = {"check.py", "demo", "pages.py"}
 # The files that a release adds to its own folder, and an installation does not need.
 NOT_INSTALLED = {"Dockerfile", "SHA256SUMS", "install.sh"}
-# What Maven builds, without the checksums beside it.
+# The modules and the files that Maven builds, without the checksums beside them.
 MODULES = ["sizing-junit5", "sizing-recorder", "sizing-spring"]
 ARTIFACTS = [f"sizing-parent/{VERSION}/sizing-parent-{VERSION}.pom"]
 ARTIFACTS += [f"{module}/{VERSION}/{module}-{VERSION}{ending}" for module in MODULES for ending in (".pom", ".jar", "-sources.jar", "-javadoc.jar")]

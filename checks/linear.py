@@ -170,7 +170,7 @@ def labels_of_rounds(lines):
 
 
 def open_rounds(lines):
-    """Rounds that all begin and submit before the first one gets its job and ends."""
+    """Returns the plan and a recording of rounds that all begin and submit before the first one gets its job and ends."""
     recording = Recording()
     opened = []
 
@@ -193,7 +193,7 @@ def rounds_that_never_end(lines):
 
 
 def rounds_that_timed_out(lines):
-    """Rounds whose last line is a get that timed out, before as many lines of other rounds."""
+    """Returns the plan and a recording: rounds that end with a get that timed out, and then as many lines of other rounds."""
     recording = Recording()
 
     def timed_out(_):
@@ -207,7 +207,7 @@ def rounds_that_timed_out(lines):
 
 
 def live_jobs(lines, ordered=lambda jobs: jobs):
-    """Jobs of one round, which are all submitted before the first one starts, and then got in this order."""
+    """Returns the plan and a recording of a round that submits all its jobs before one starts, and gets them in this order."""
     recording = Recording()
     actor = recording.begin()
     jobs = [recording.submit(actor) for _ in range(lines // 4)]
@@ -235,7 +235,7 @@ def jobs_without_a_get(lines):
 
 
 def jobs_in_a_chain(lines):
-    """Each job submits the next one before any of them ends."""
+    """Returns the plan and a recording of jobs that each submit the next one before any of them ends."""
     recording = Recording()
     job = recording.submit(recording.begin("d"), "b")
     jobs = [job]
@@ -257,7 +257,7 @@ def refused_jobs(lines):
 
 
 def invalid_lines(lines):
-    """Every line that invalidates the answer, again and again."""
+    """Returns the plan and a recording that repeats every line that invalidates the answer."""
     recording = Recording()
 
     def all_of_them(_):
@@ -277,7 +277,7 @@ def invalid_lines(lines):
 
 
 def gets_of_other_rounds(lines):
-    """One round gets the jobs of all others."""
+    """Returns the plan and a recording in which one round gets the jobs of all others."""
     recording = Recording()
     taker = recording.begin()
 
@@ -293,7 +293,7 @@ def gets_of_other_rounds(lines):
 
 
 def findings(lines, has_any=True):
-    """Each label of jobs and each label of rounds takes a path that its body does not have, in the last lines."""
+    """Returns a plan and a recording. If `has_any`, the last lines have a path for each label that its body does not have."""
     names = [name_of(n) for n in range(LABELS)]
     plan = pool("p") + "".join(job_class(name) + client(name, one_job(name)) for name in names)
     recording = Recording()
@@ -312,7 +312,7 @@ def findings(lines, has_any=True):
 
 
 def mixture(lines):
-    """A random step after another: each begins or ends a round, or submits, runs or gets a job of an actor that is live."""
+    """Returns the plan and a recording of random steps: begins and ends of rounds, and submits, runs and gets of live actors."""
     chance = random.Random(SEED)
     recording = Recording()
     actors, waiting, done = [], [], []

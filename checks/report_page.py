@@ -150,7 +150,7 @@ FOCUSED = f"""(() => {{
 WIDER = """[document.documentElement, ...document.querySelectorAll(".drawing, pre, section")]
   .filter(each => each.scrollWidth > each.clientWidth + 1).map(each => `${each.tagName} ${each.scrollWidth} above ${each.clientWidth}`)"""
 TALL = "Math.ceil(document.documentElement.getBoundingClientRect().height)"
-# Whether a link to a line of the plan shows the line.
+# A script that returns whether a link to a line of the plan shows the line.
 LINK = """(() => {
   const link = document.querySelector("a[href^='#L']");
   if (!link) return true;
@@ -159,7 +159,7 @@ LINK = """(() => {
   const box = target && target.checkVisibility() && target.getBoundingClientRect();
   return !!box && box.top >= 0 && box.bottom <= innerHeight;
 })()"""
-# Whether the first folded part is open, which gets the focus; null if there is none.
+# A script that focuses the first folded part and returns whether it is open, or null if there is none.
 FIRST_SUMMARY = """(() => {
   const summary = document.querySelector("summary");
   if (!summary) return null;

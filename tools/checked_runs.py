@@ -21,7 +21,7 @@ STORED_RUN = "the_stored_run"
 MAIN = re.compile(r"^fn main\(", re.M)
 MAIN_AS_TEST = f"fn main(_rt: HostRuntime) {{}}\n\n#[test]\nfn {STORED_RUN}("
 
-# What a test writes last if it passes, and what the checks write if they stop a run.
+# The last output of a test that passes, and the output of the checks when they stop a run.
 PASSED = b"\ntest result: ok\n"
 STOPPED = re.compile(r"^(?:AddressSanitizer:DEADLYSIGNAL\n)*(?:=+\n)?==\d+==ERROR: ", re.M)
 

@@ -6,7 +6,7 @@ import java.util.concurrent.RejectedExecutionException;
 import java.util.concurrent.SynchronousQueue;
 import java.util.concurrent.TimeUnit;
 
-/** A client or a job, with a thread of its own that makes one step when the driver says so. */
+/** A client or a job, with a thread of its own that makes one step for each order of the driver. */
 class Actor {
     enum Order { ACT, LEAVE_OUT, RUN_FREE }
 
@@ -26,21 +26,21 @@ class Actor {
         this.submitted = new Job[body.size()];
     }
 
-    // ---- the driver's side
+    // ---- called by the driver
 
-    /** Makes one step and returns its outcome. */
+    /** Orders one step and returns its outcome. */
     String step(Order order) throws InterruptedException {
         send(order);
         String answer = answers.poll(Rest.MILLISECONDS, TimeUnit.MILLISECONDS);
         if (answer == null) {
-            throw new IllegalStateException("no answer of an actor");
+            throw new IllegalStateException("an actor did not answer within 10 seconds");
         }
         return answer;
     }
 
     void send(Order order) throws InterruptedException {
         if (!orders.offer(order, Rest.MILLISECONDS, TimeUnit.MILLISECONDS)) {
-            throw new IllegalStateException("an actor does not wait");
+            throw new IllegalStateException("an actor did not wait for an order within 10 seconds");
         }
     }
 
@@ -52,14 +52,14 @@ class Actor {
         return !atEnd() && body.get(position).what() == what;
     }
 
-    /** Returns the job that the get is for, or null if its submit was skipped. */
+    /** Returns the job that the next action gets, or null if its submit was skipped. */
     Job awaited() {
         return submitted[body.get(position).operand()];
     }
 
     // ---- on the actor's own thread
 
-    /** Runs the body from the current position: one step for each order, or all of it if {@code freely}. */
+    /** Runs the body from the current position: one step for each order, or all of it at once if {@code freely}. */
     void go(boolean freely) throws InterruptedException, ExecutionException {
         CURRENT.set(this);
         free = freely;

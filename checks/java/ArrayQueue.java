@@ -1,7 +1,7 @@
 import java.util.concurrent.ArrayBlockingQueue;
 import java.util.concurrent.TimeUnit;
 
-/** Java's queue, with its moments. */
+/** Java's queue, which calls the hooks of its {@code Moments}. */
 final class ArrayQueue extends ArrayBlockingQueue<Runnable> {
     private static final long serialVersionUID = 1;
     private final transient Moments moments;

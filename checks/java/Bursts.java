@@ -7,12 +7,12 @@ import java.util.concurrent.ThreadPoolExecutor;
 import java.util.concurrent.TimeUnit;
 import java.util.concurrent.atomic.AtomicInteger;
 
-/** One-shot clients that submit all at once to a new pool, round after round. */
+/** One-shot clients that all submit at once to a new pool, once in each round. */
 final class Bursts {
     /**
-     * The options of a burst. With `nested` each job first submits another one, except the job of the additional client. A job
-     * is then held until all clients have submitted, or ends at once. A client may skip its submit. `SlowQueue` describes slow
-     * queues.
+     * The options of a burst. With `nested` each job first submits another one, except the job of an additional client. With
+     * `held` a job runs until all clients have submitted; otherwise it ends at once. `leaves` is the probability with which a
+     * client skips its submit. With `slow` the queue is slow as `SlowQueue` describes.
      */
     private record Burst(Plan.Pool pool, String kind, int clients, int more, boolean held, boolean nested, boolean slow, double leaves,
             int rounds, boolean untilRefused) {
@@ -31,7 +31,7 @@ final class Bursts {
     private final Burst burst;
     private final CyclicBarrier begin;
     private final CyclicBarrier end;
-    // The unfinished jobs of the pool, whose own counts miss a thread that is starting.
+    // The number of unfinished jobs of the pool. The pool's own counts miss a thread that is starting.
     private final AtomicInteger about = new AtomicInteger();
     private final AtomicInteger refused = new AtomicInteger();
     private volatile ThreadPoolExecutor pool;
@@ -44,8 +44,8 @@ final class Bursts {
     }
 
     /**
-     * Runs the burst that each argument describes. Prints in how many of its rounds a submit was refused, and how often a thread
-     * was asked for while the queue had room.
+     * Runs the burst that each argument describes. Prints the number of its rounds in which a submit was refused, and the number
+     * of times that a submitter asked for a thread while the queue had room.
      */
     public static void main(String[] lines) throws Exception {
         for (String line : lines) {
@@ -74,7 +74,7 @@ final class Bursts {
         return "rounds " + rounds + ", refused in " + withRefusals + ", most " + most + ", asked with room " + asked;
     }
 
-    /** Returns how often a thread was asked for while the queue had room. */
+    /** Runs a round and returns the number of times that a submitter asked for a thread while the queue had room. */
     private int round() throws InterruptedException, BrokenBarrierException {
         SlowQueue slow = new SlowQueue(burst.slow);
         slow.queue = burst.kind.equals("linked") ? new LinkedQueue(burst.pool.queue(), slow) : new ArrayQueue(burst.pool.queue(), slow);

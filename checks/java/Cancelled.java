@@ -5,7 +5,7 @@ import java.util.concurrent.CountDownLatch;
 import java.util.concurrent.RejectedExecutionException;
 
 /**
- * A pool with one thread, a queue of two, and two permits. Job A runs and B is queued. Their submitters stop waiting: they
+ * An experiment with one thread, a queue of two, and two permits. Job A runs and B is queued. Their submitters stop waiting: they
  * cancel the jobs, or a `get` times out. Then C and D ask for a permit. A running job that is cancelled continues to run.
  */
 final class Cancelled {
@@ -17,7 +17,7 @@ final class Cancelled {
         permits = new Permits(way, PERMITS, 1, new ArrayBlockingQueue<>(PERMITS));
     }
 
-    /** Prints a line for each way that is named. */
+    /** Prints a line for each named way of returning a permit. */
     public static void main(String[] words) throws InterruptedException {
         for (String way : words) {
             System.out.println(new Cancelled(Permits.Way.valueOf(way)).report());

@@ -10,21 +10,22 @@ import java.util.concurrent.TimeUnit;
 import java.util.concurrent.TimeoutException;
 
 /**
- * What `ThreadPoolExecutor` does if core threads may time out. The keep-alive is a millisecond, and a queue lets threads wait at moments
- * where they may be preempted as well: before an offer, after a poll that found nothing, and before a look whether the queue is empty.
+ * Experiments with a `ThreadPoolExecutor` whose core threads may time out. The keep-alive is a millisecond. The queue pauses
+ * threads at moments where the system may preempt them too: before an offer, after a poll that found nothing, and before a check
+ * that the queue is empty.
  */
 final class CoreTimeouts {
-    /** The sizes that Spring Boot gives its executor. A queue of `Integer.MAX_VALUE` is unbounded. */
+    /** The core size of Spring Boot's executor. */
     private static final int CORE = 8;
     private static final int UNBOUNDED = Integer.MAX_VALUE;
     /** The number of milliseconds after which jobs that wait for each other count as stuck. */
     private static final int STUCK = 2000;
-    /** The number of milliseconds for which a submitter waits although no core thread ends. */
+    /** The number of milliseconds that a submitter waits if no core thread ends. */
     private static final int NONE_ENDS = 200;
 
     private CoreTimeouts() {}
 
-    /** Prints one line for each name of a fact. */
+    /** Prints one line for each named fact. */
     public static void main(String[] names) throws Exception {
         for (String name : names) {
             System.out.println(fact(name).call());
@@ -51,15 +52,15 @@ final class CoreTimeouts {
         };
     }
 
-    /** A pool over a queue with moments, whose keep-alive is a millisecond. */
+    /** A pool over a {@code TimedQueue}. The keep-alive is a millisecond until a caller changes it. */
     private static final class Pool extends ThreadPoolExecutor {
         private static final ThreadLocal<Runnable> BEFORE_OFFER = new ThreadLocal<>();
         final List<Thread> threads = new CopyOnWriteArrayList<>();
-        /** What a thread does after it waited for a job in vain. */
+        /** The action of a thread after a poll that timed out without a job. */
         volatile Runnable afterTime = () -> { };
-        /** What a thread does before it takes a job. */
+        /** The action of a thread before it polls for a job. */
         volatile Runnable beforeTaking = () -> { };
-        /** What a thread does before it looks whether the queue is empty. */
+        /** The action of a thread before it checks whether the queue is empty. */
         volatile Runnable beforeLook = () -> { };
 
         Pool(int core, int max, int queue, boolean coreTimeout) {
@@ -74,7 +75,7 @@ final class CoreTimeouts {
             });
         }
 
-        /** Submits a job. The submitter does this first, after it has compared the threads with core. */
+        /** Submits a job. The submitter runs {@code beforeOffer} after it has compared the number of threads with core. */
         <T> Future<T> submit(Callable<T> job, Runnable beforeOffer) {
             BEFORE_OFFER.set(beforeOffer);
             try {
@@ -84,7 +85,7 @@ final class CoreTimeouts {
             }
         }
 
-        /** Starts all core threads with jobs that run until each has one, and waits until the threads are idle. */
+        /** Starts all core threads. Each runs a job until all of them have one. */
         Pool withCoreThreads() throws InterruptedException {
             CountDownLatch all = new CountDownLatch(getCorePoolSize());
             beforeTaking = () -> hold(all);
@@ -139,14 +140,14 @@ final class CoreTimeouts {
     private static void hold(CountDownLatch latch) {
         try {
             if (!latch.await(Rest.MILLISECONDS, TimeUnit.MILLISECONDS)) {
-                throw new IllegalStateException("no rest");
+                throw new IllegalStateException("a latch did not open within 10 seconds");
             }
         } catch (InterruptedException over) {
             Thread.currentThread().interrupt();
         }
     }
 
-    /** Waits until the condition holds, or the time is over. */
+    /** Waits until the condition holds, but at most for this number of milliseconds. */
     private static void within(long milliseconds, Rest.Condition condition) {
         long end = System.nanoTime() + TimeUnit.MILLISECONDS.toNanos(milliseconds);
         while (!condition.holds() && System.nanoTime() < end) {
@@ -166,9 +167,10 @@ final class CoreTimeouts {
     // ---- a job that gets a job
 
     /**
-     * Eight threads are idle. One takes an outer job, which submits an inner job and gets it, to its own pool or to another one of the same
-     * sizes. Between the look of this submit at the number of threads and its offer, the time of all idle threads of that pool ends. They
-     * end before the offer or, if {@code afterOffer}, wait until it is done.
+     * Runs an outer job that submits an inner job and gets it. The inner job goes to the same pool or to another one of the same
+     * sizes, whose core threads are all started. After that submit has counted the threads of its pool, and before its offer, the
+     * keep-alive of all idle threads there ends, if core threads may time out. These threads then end before the offer or, if
+     * {@code afterOffer}, pause until the offer is made. Returns whether the outer job is done.
      */
     private static String outerJob(int queue, boolean coreTimeout, boolean afterOffer, boolean inAnotherPool) throws Exception {
         int max = queue == UNBOUNDED ? Integer.MAX_VALUE : CORE;
@@ -210,7 +212,11 @@ final class CoreTimeouts {
 
     // ---- the last thread
 
-    /** A submitter finds one thread. Its time ends before the offer, and it also ends before the offer or it waits until that is done. */
+    /**
+     * Submits a job while the pool has one idle thread, whose keep-alive ends before the offer. The thread itself also ends
+     * before the offer if {@code endsBefore}, and otherwise pauses until the offer is made. Returns whether the job is done, and
+     * by which thread.
+     */
     private static String lastThread(boolean endsBefore) throws Exception {
         Pool pool = new Pool(1, 1, UNBOUNDED, true);
         pool.setKeepAliveTime(1, TimeUnit.HOURS);
@@ -235,8 +241,9 @@ final class CoreTimeouts {
     }
 
     /**
-     * A submitter finds one thread, which ends before the offer. The thread looks whether it must be replaced, and the submitter looks for
-     * a thread after its offer. Both find no thread and a job. Then two more jobs are submitted if the queue has a capacity.
+     * Submits a job while the only thread of the pool ends. The thread checks whether it must be replaced, and the submitter
+     * checks for a thread after its offer, so both find no thread and a queued job. Then submits one more job if the queue has a
+     * capacity. Returns the pool's counts.
      */
     private static String bothLook(int max, int queue) throws Exception {
         Pool pool = new Pool(1, max, queue, true);
@@ -247,7 +254,7 @@ final class CoreTimeouts {
         CountDownLatch free = new CountDownLatch(1);
         Thread first = pool.threads.get(0);
         Thread submitter = new Thread(() -> pool.submit(() -> 7, () -> {
-            // the second look of the thread, after it has ended, is the one that decides whether it is replaced
+            // the thread's second check, after it has ended, decides whether it is replaced
             pool.beforeLook = new Runnable() {
                 private int looks;
 

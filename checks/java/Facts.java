@@ -13,14 +13,14 @@ import java.util.concurrent.Semaphore;
 import java.util.concurrent.ThreadPoolExecutor;
 import java.util.concurrent.TimeUnit;
 
-/** What `ThreadPoolExecutor` and `FutureTask` do in the cases of docs/COVERAGE.md that no plan contains. */
+/** Experiments with `ThreadPoolExecutor` and `FutureTask` for the cases of docs/COVERAGE.md that no plan contains. */
 final class Facts {
-    /** An exception that a fact plans. */
+    /** An exception that a job throws on purpose. */
     private static final class Planned extends RuntimeException {
         private static final long serialVersionUID = 1;
     }
 
-    /** A pool whose threads note the exceptions that end them. */
+    /** A pool that records the classes of the exceptions that end its threads. */
     private static final class Pool extends ThreadPoolExecutor {
         final List<String> ended = Collections.synchronizedList(new ArrayList<>());
 
@@ -37,7 +37,7 @@ final class Facts {
 
     private Facts() {}
 
-    /** Prints one line for each name of a fact. */
+    /** Prints one line for each named fact. */
     public static void main(String[] names) throws Exception {
         for (String name : names) {
             System.out.println(fact(name).call());
@@ -160,7 +160,10 @@ final class Facts {
 
     // ---- threads
 
-    /** With core 2, max 2 and queue 1, whose threads wait before they take a job. */
+    /**
+     * Submits three jobs to a pool with core 2, max 2 and queue 1, whose threads pause before they take a job. Calls
+     * {@code prestartAllCoreThreads} after the first submit if {@code isPrestarted}. Returns which submits were served.
+     */
     private static String prestartedLate(boolean isPrestarted) throws Exception {
         CountDownLatch held = new CountDownLatch(1);
         Pool pool = new Pool(2, 2, new ArrayQueue(1, new Moments() {
@@ -196,8 +199,9 @@ final class Facts {
     }
 
     /**
-     * With core 2 and a long queue. A thread that is being added holds the lock of the pool (`addWorker` asks for its state there), so
-     * a thread that ends by an exception waits before it is replaced. Meanwhile one job is queued, and another one is submitted.
+     * Ends a thread by an exception in a pool with core 2 and a long queue. A thread that is being added holds the lock of the
+     * pool, because `addWorker` reads its state, so the thread that ends waits for that lock before it is replaced. Meanwhile one
+     * job is queued, and another one is submitted. Returns the pool's counts and the jobs that started.
      */
     private static String executeThrows(int max) throws Exception {
         CountDownLatch added = new CountDownLatch(1);

@@ -3,7 +3,10 @@ import java.util.Deque;
 import java.util.concurrent.ThreadPoolExecutor;
 import java.util.concurrent.TimeUnit;
 
-/** A gate at which the idle threads of a pool wait until the driver decides what they get. Submitters can wait at an offer. */
+/**
+ * A gate at which the idle threads of a pool wait until the driver decides what they take. Submitters can pause before an offer
+ * and after a failed one.
+ */
 class Gate implements Moments {
     private static final class Waiting {
         final boolean timed;
@@ -45,7 +48,7 @@ class Gate implements Moments {
         Actor.pause("found the queue full");
     }
 
-    // ---- the driver's side
+    // ---- called by the driver
 
     synchronized int idle() {
         return idle.size();
@@ -60,7 +63,7 @@ class Gate implements Moments {
         return false;
     }
 
-    /** Opens the gate: all threads take jobs as Java's own queue does. */
+    /** Opens the gate: afterwards all threads take jobs as they do from Java's own queue. */
     synchronized void open() {
         open = true;
         notifyAll();
@@ -73,7 +76,7 @@ class Gate implements Moments {
         }
     }
 
-    /** Gives the head of the queue to one idle thread. */
+    /** Lets one idle thread take the head of the queue. */
     synchronized void giveHead() {
         give(idle.peek(), Taking.HEAD);
     }
@@ -108,12 +111,15 @@ class Gate implements Moments {
         return timed != null;
     }
 
-    /** Returns the number of threads that look again if the keep-alive becomes shorter. */
+    /** Returns the number of idle threads that poll again if the keep-alive becomes shorter. */
     int lookedAgain() {
         return idle.size();
     }
 
-    /** Sets a shorter keep-alive, which wakes threads that wait without a timeout, since at most core were live when they came. */
+    /**
+     * Sets a shorter keep-alive, which wakes the idle threads. Each then polls again, with a timeout if the pool may now end it.
+     * Returns the number of arrivals afterwards.
+     */
     private long lookAgain(ThreadPoolExecutor pool) throws InterruptedException {
         long wanted;
         synchronized (this) {

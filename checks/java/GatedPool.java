@@ -6,7 +6,7 @@ import java.util.concurrent.TimeUnit;
 
 /** An executor for a pool of a plan, whose queue has a gate that the driver controls. */
 final class GatedPool {
-    /** The keep-alive of core threads that may time out, in microseconds, once no driver ends it. */
+    /** The keep-alive in microseconds of core threads that may time out, once the gate is open. */
     private static final int SHORT = 20;
     final Plan.Pool pool;
     final Gate gate;
@@ -34,7 +34,7 @@ final class GatedPool {
         }
     }
 
-    /** Lets all threads take jobs. If core threads may time out, the keep-alive is short. */
+    /** Lets all threads take jobs. If core threads may time out, first makes the keep-alive short. */
     void open() {
         if (pool.coreTimeout()) {
             executor.setKeepAliveTime(SHORT, TimeUnit.MICROSECONDS);
@@ -42,7 +42,7 @@ final class GatedPool {
         gate.open();
     }
 
-    /** Returns whether the job is in the queue, or an idle thread was handed it and has not taken it yet. */
+    /** Returns whether the job is in the queue, or whether an idle thread was handed it and has not taken it yet. */
     boolean isQueued(Job job) {
         return queue.contains(job.future) || gate.holds(job.future);
     }
@@ -51,17 +51,17 @@ final class GatedPool {
         return queue.size() + gate.held();
     }
 
-    /** Waits until each thread that the pool let end has ended: it may look at the pool until then. */
+    /** Waits until each thread that the pool let end has ended. Until then it may read the pool's state. */
     void awaitEnded() throws InterruptedException {
         Rest.await(() -> own.stream().filter(Thread::isAlive).count() == executor.getPoolSize());
     }
 
-    /** Waits until each thread that runs none of this number of jobs is idle. */
+    /** Waits until all threads of the pool are idle, except this number of threads that run jobs. */
     void awaitIdle(long running) throws InterruptedException {
         Rest.await(() -> gate.idle() + running == executor.getPoolSize());
     }
 
-    /** Returns the executor's own counts, and how many of its threads wait at the gate. */
+    /** Returns the executor's own counts, and the number of its threads that wait at the gate. */
     String counts() {
         return pool.name() + ": threads " + executor.getPoolSize() + ", idle " + gate.idle() + ", queued " + queued();
     }

@@ -7,18 +7,19 @@ import java.util.Set;
 import java.util.concurrent.ThreadPoolExecutor;
 
 /**
- * A gate of a {@code SynchronousQueue}. An idle thread waits in Java's queue until an offer hands a job to it. Then it holds the job
- * at the gate until the driver lets it take the job. All threads of a pool are alike, so the jobs are taken in the order of the offers.
+ * A gate of a {@code SynchronousQueue}. An idle thread waits in Java's queue until an offer hands a job to it. Then it holds the
+ * job at the gate until the driver lets it take the job. All threads of a pool are alike, so they take the jobs in the order of
+ * the offers.
  */
 final class HandOverGate extends Gate {
-    /** The idle threads that hold no job, and whether each waits with a timeout. */
+    /** The idle threads that hold no job, each with whether it waits with a timeout. */
     private final Map<Thread, Boolean> atQueue = new LinkedHashMap<>();
     private final Deque<Runnable> handed = new ArrayDeque<>();
     private final Set<Runnable> taken = new HashSet<>();
     private int holders;
     private Thread timedOut;
 
-    // ---- the side of the pool's threads and of submitters
+    // ---- called by the pool's threads and by submitters
 
     synchronized void arrives(boolean timed) {
         atQueue.put(Thread.currentThread(), timed);
@@ -61,7 +62,7 @@ final class HandOverGate extends Gate {
         return timedOut == Thread.currentThread();
     }
 
-    // ---- the driver's side
+    // ---- called by the driver
 
     @Override
     synchronized int idle() {
@@ -79,8 +80,9 @@ final class HandOverGate extends Gate {
     }
 
     /**
-     * Waits until this number of threads is idle, each job that was handed over is held by its thread, and each other idle thread
-     * waits in Java's queue. A thread that was handed a job may still look as if it waited.
+     * Waits until this number of threads is idle, until each job that was handed over is held by its thread, and until every
+     * other idle thread waits in Java's queue. The states of the threads are not enough, because a thread that was just handed a
+     * job may still have the state of a waiting one.
      */
     @Override
     synchronized void awaitIdle(int threads) throws InterruptedException {
@@ -106,7 +108,10 @@ final class HandOverGate extends Gate {
         return atQueue.size();
     }
 
-    /** Interrupts a thread in the queue, which then returns as if its keep-alive time were over. */
+    /**
+     * Interrupts a thread in the queue, which then returns as if its keep-alive time were over. Returns whether a thread waits
+     * there with a timeout.
+     */
     @Override
     boolean timesOut() {
         timedOut = atQueue.keySet().stream().filter(atQueue::get).findFirst().orElse(null);

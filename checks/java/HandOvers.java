@@ -17,16 +17,16 @@ import java.util.concurrent.TimeUnit;
 import java.util.concurrent.atomic.LongAdder;
 import java.util.concurrent.locks.LockSupport;
 
-/** What `ThreadPoolExecutor` does over a `SynchronousQueue`, which a queue of 0 of a plan stands for. */
+/** Experiments with a `ThreadPoolExecutor` over a `SynchronousQueue`, which is the queue of a plan's pool with `queue = 0`. */
 final class HandOvers {
     private static final int ROUNDS = 100_000;
     private static final int ROUNDS_WITH_WAITS = 2000;
     private static final int SUBMITTERS = 3;
     private static final int SUBMITS = 1500;
-    /** The longest time in nanoseconds between two submits, which is above the keep-alive time. */
+    /** The longest pause in nanoseconds between two submits. It is above the keep-alive time. */
     private static final int LONGEST_PAUSE = 2_200_000;
 
-    /** A pool over a `SynchronousQueue`, with the threads that it ever started. */
+    /** A pool over a `SynchronousQueue`, with all threads that it has started. */
     private static final class Pool extends ThreadPoolExecutor {
         final List<Thread> started = Collections.synchronizedList(new ArrayList<>());
 
@@ -60,7 +60,7 @@ final class HandOvers {
 
     private HandOvers() {}
 
-    /** Prints one line for each name of a fact. */
+    /** Prints one line for each named fact. */
     public static void main(String[] names) throws Exception {
         for (String name : names) {
             System.out.println(fact(name).call());
@@ -87,7 +87,10 @@ final class HandOvers {
         };
     }
 
-    /** A job starts the only thread, and another one is submitted while it runs or when the thread is idle. */
+    /**
+     * Starts the only thread with a job, and submits another job while the first one runs or, if {@code isIdle}, when the thread
+     * is idle. Returns the outcome of both submits.
+     */
     private static String oneThread(boolean isIdle) throws Exception {
         Pool pool = new Pool(1, 1, new AbortPolicy());
         CountDownLatch held = new CountDownLatch(isIdle ? 0 : 1);
@@ -102,7 +105,7 @@ final class HandOvers {
         return report;
     }
 
-    /** One thread is idle, and two jobs are submitted. */
+    /** Submits two jobs while one thread is idle, and returns the outcome of each. */
     private static String oneIdleThread(int core) throws Exception {
         Pool pool = new Pool(core, 2, new AbortPolicy());
         pool.submit(() -> 7).get();
@@ -113,7 +116,7 @@ final class HandOvers {
         return report;
     }
 
-    /** Two threads are idle, and three jobs are submitted one right after the other. */
+    /** Submits three jobs in sequence while two threads are idle, and returns the outcome of each. */
     private static String twoIdleThreads(int max) throws Exception {
         Pool pool = new Pool(2, max, new AbortPolicy());
         pool.prestartAllCoreThreads();
@@ -124,7 +127,10 @@ final class HandOvers {
         return report;
     }
 
-    /** A client gets each job before it submits the next one, so no job is unfinished when it submits. */
+    /**
+     * Submits jobs and gets each one before it submits the next, so no job is unfinished at a submit. Returns whether some are
+     * rejected.
+     */
     private static String submitsAtOnce() throws Exception {
         Pool pool = new Pool(1, 1, new AbortPolicy());
         int accepted = 0;
@@ -154,7 +160,10 @@ final class HandOvers {
         }
     }
 
-    /** Threads submit jobs and pause for about the keep-alive time. Returns whether each accepted job ran. */
+    /**
+     * Submits jobs from several threads, with random pauses around the keep-alive time. Returns the number of accepted jobs that
+     * never ran.
+     */
     private static String keepAlive(int core) throws Exception {
         Pool pool = new Pool(core, 4, new AbortPolicy());
         pool.setKeepAliveTime(1, TimeUnit.MILLISECONDS);
@@ -183,7 +192,7 @@ final class HandOvers {
                 + ", threads ended " + (pool.started.size() > core);
     }
 
-    /** The only thread is at work, and another job is submitted. */
+    /** Submits a job while the only thread is at work. Returns the effect of the handler. */
     private static String rejectedBy(RejectedExecutionHandler handler) throws Exception {
         Pool pool = new Pool(1, 1, handler);
         CountDownLatch held = new CountDownLatch(1);

@@ -6,11 +6,11 @@ import java.util.concurrent.ThreadPoolExecutor;
 import java.util.concurrent.TimeUnit;
 
 /**
- * A pool with core 1, max 2 and queue 1, and one-shot clients W, V, X and perhaps Y. X's offer fails, and X pauses before it
- * asks for a thread. When X continues, the state of the pool has changed.
+ * An experiment with core 1, max 2 and queue 1, and with one-shot clients W, V, X and, if asked for, Y. The offer of X fails, and
+ * X pauses before it asks for a thread. When X continues, the state of the pool has changed.
  */
 final class Interleavings {
-    /** Pauses X after its failed offer. With the slip it pauses no thread. */
+    /** Hooks that pause the thread {@code who} after its failed offer. If {@code who} is null, they pause no thread. */
     private static final class WaitingOffer implements Moments {
         final CountDownLatch failed = new CountDownLatch(1);
         final CountDownLatch goOn = new CountDownLatch(1);
@@ -34,8 +34,8 @@ final class Interleavings {
     }
 
     /**
-     * Takes the arguments `KIND THIRD WAITS`: whether Y exists, and whether X waits. Prints the outcome of X's submit and the
-     * state of the pool after it.
+     * Runs the experiment with the arguments `KIND Y WAITS`: the kind of the queue, whether Y exists, and whether X pauses.
+     * Prints the outcome of X's submit and the state of the pool after it.
      */
     public static void main(String[] words) throws Exception {
         System.out.println(new Interleavings(words[0]).report(Boolean.parseBoolean(words[1]), Boolean.parseBoolean(words[2])));

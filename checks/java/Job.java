@@ -3,7 +3,7 @@ import java.util.concurrent.CountDownLatch;
 import java.util.concurrent.ExecutionException;
 import java.util.concurrent.Future;
 
-/** A job of a class. It answers itself, so that who gets it sees which one it was. */
+/** A job of a class. Its value is the job itself, so the thread that gets it sees which job it was. */
 final class Job extends Actor implements Callable<Job> {
     final int of;
     final CountDownLatch begun = new CountDownLatch(1);
@@ -17,7 +17,7 @@ final class Job extends Actor implements Callable<Job> {
 
     @Override
     public Job call() throws InterruptedException, ExecutionException {
-        // Asked before the driver sees that the job has begun: it sends an order to all that have, and only those wait for one.
+        // read before `begun` opens: the driver sends an order to each job that has begun, and each of those must wait for one.
         boolean freely = replay.runsFree();
         begun.countDown();
         go(freely);

@@ -14,7 +14,7 @@ import java.util.concurrent.atomic.AtomicInteger;
 import java.util.concurrent.atomic.LongAdder;
 import java.util.concurrent.locks.LockSupport;
 
-/** Clients that repeat their bodies, each on a thread of its own, as in a service. */
+/** Clients that repeat their bodies, each on its own thread, as in a service. */
 final class Loops {
     /** A delay of less than {@code microseconds} before a worker takes a job. */
     private record SlowTaking(int microseconds) implements Moments {
@@ -53,8 +53,9 @@ final class Loops {
     }
 
     /**
-     * Takes the arguments `KIND ROUNDS LEAVES MICROSECONDS SLOW_POOL UNTIL_REFUSED`, where the pool `all` names every pool.
-     * Reads a plan from standard input, up to a line `events`.
+     * Runs the clients with the arguments `KIND ROUNDS LEAVES MICROSECONDS SLOW_POOL UNTIL_REFUSED`, where `SLOW_POOL` is the
+     * pool whose threads take jobs slowly, or `all`. Reads a plan from standard input, up to a line `events`. Prints the counts
+     * of the run.
      */
     public static void main(String[] words) throws Exception {
         Iterator<String> lines = new BufferedReader(new InputStreamReader(System.in)).lines().iterator();
@@ -100,7 +101,7 @@ final class Loops {
         } while (kind.repeat());
     }
 
-    /** Runs a body, with an `if` around each submit and its get. */
+    /** Runs a body, and skips each submit and its get with the probability {@code leaves}. */
     private void go(List<Plan.Action> body) throws InterruptedException, ExecutionException {
         Future<?>[] slots = new Future<?>[body.size()];
         for (int at = 0; at < body.size(); at++) {

@@ -7,8 +7,8 @@ import java.util.concurrent.atomic.AtomicInteger;
 import java.util.concurrent.atomic.LongAdder;
 
 /**
- * Threads that repeatedly submit with permits, and then do not wait for the job or cancel it. Workers take jobs slowly, so
- * threads are idle while jobs are queued.
+ * Threads that repeatedly submit with permits. After half of the submits they let the job go: they cancel it, or a `get` of it
+ * times out. Workers take jobs slowly, so threads are idle while jobs are queued.
  */
 final class PermitLoops {
     private static final int SUBMITTERS = 4;
@@ -30,7 +30,10 @@ final class PermitLoops {
         this.untilRefused = untilRefused;
     }
 
-    /** Takes the arguments `WAY KIND PLACES ROUNDS UNTIL_REFUSED`: PLACES is the capacity of the queue. */
+    /**
+     * Runs the threads with the arguments `WAY KIND PLACES ROUNDS UNTIL_REFUSED`, where `PLACES` is the capacity of the queue.
+     * Prints the counts.
+     */
     public static void main(String[] words) throws InterruptedException {
         System.out.println(new PermitLoops(Permits.Way.valueOf(words[0]), words[1], Integer.parseInt(words[2]),
                 Integer.parseInt(words[3]), Boolean.parseBoolean(words[4])).done());
@@ -76,7 +79,7 @@ final class PermitLoops {
         }
     }
 
-    /** Throws in one of eight jobs. */
+    /** Throws an exception in one of eight jobs. */
     private static void work() {
         if (ThreadLocalRandom.current().nextInt(8) == 0) {
             throw new IllegalStateException("a job that fails");

@@ -10,7 +10,7 @@ import java.util.concurrent.ThreadPoolExecutor;
 import java.util.concurrent.TimeUnit;
 import java.util.concurrent.TimeoutException;
 
-/** A pool, permits, and a way by which the permit of a job comes back. */
+/** A pool, its permits, and a way in which a job returns its permit. */
 final class Permits {
     /** The code that returns a job's permit. */
     enum Way {
@@ -20,17 +20,17 @@ final class Permits {
         HOOK,
         /** The thread that takes the job from an `ExecutorCompletionService`. */
         COMPLETION_SERVICE,
-        /** A stage after the job; a copy of that stage is handed out, and cancelled. */
+        /** A stage after the job. The submitter gets a copy of that stage, and cancels the copy. */
         COPIED_STAGE,
         /** The body of the job. */
         BODY,
         /** The body of a `CompletableFuture`. */
         SUPPLIER,
-        /** A stage after the job, which is handed out, and cancelled. */
+        /** A stage after the job. The submitter gets that stage, and cancels it. */
         LAST_STAGE,
         /** The hook of the future. */
         DONE,
-        /** A stage after the job; the job's own future is handed out, and cancelled. */
+        /** A stage after the job. The submitter gets the job's own future, and cancels it. */
         STAGE,
         /** The submitter, after a `get` that timed out. */
         TIMED_GET
@@ -60,7 +60,7 @@ final class Permits {
         completed = new ExecutorCompletionService<>(pool);
     }
 
-    /** Takes a permit if there is one. */
+    /** Takes a permit and returns true, or returns false if there is none. */
     boolean tryAcquire() {
         while (completed.poll() != null) {
             permits.release();
@@ -74,7 +74,7 @@ final class Permits {
         }
     }
 
-    /** Submits with a permit that the caller has. */
+    /** Submits a job with a permit that the caller holds. */
     LetsGo submit(Runnable body) {
         return switch (way) {
             case JOB -> {

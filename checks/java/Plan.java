@@ -2,22 +2,24 @@ import java.util.ArrayList;
 import java.util.Iterator;
 import java.util.List;
 
-/** A plan as the Python side writes it: a line for each pool, class and client, with numbers in place of names. */
+/** A plan in the form of java_text.py: a line for each pool, class and client, with numbers in place of names. */
 record Plan(List<Pool> pools, List<Kind> classes, List<Kind> clients) {
     record Pool(String name, int core, int max, int queue, boolean prestart, boolean mayReject, boolean coreTimeout) {
-        /** Returns whether the queue is unbounded: its capacity is that of a {@code LinkedBlockingQueue} that is made without one. */
+        /**
+         * Returns whether the queue is unbounded: its capacity is that of a {@code LinkedBlockingQueue} that is made without one.
+         */
         boolean isUnbounded() {
             return queue == Integer.MAX_VALUE;
         }
     }
 
-    /** An action 'w', 's' or 'g'; the operand is the units, the class, or the position of the submit. */
+    /** An action 'w', 's' or 'g'. The operand is the number of units, the class, or the position of the submit. */
     record Action(char what, int operand) {}
 
     /** A class with its pool, or a kind of clients with its count. */
     record Kind(int number, boolean repeat, List<Action> body) {}
 
-    /** Reads up to a line `events`. */
+    /** Reads the lines of a plan, up to a line `events`. */
     static Plan read(Iterator<String> lines) {
         Plan plan = new Plan(new ArrayList<>(), new ArrayList<>(), new ArrayList<>());
         for (String line = lines.next(); !line.equals("events"); line = lines.next()) {

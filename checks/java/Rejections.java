@@ -22,13 +22,15 @@ import java.util.concurrent.atomic.LongAdder;
 import java.util.concurrent.locks.LockSupport;
 import java.util.concurrent.locks.ReentrantLock;
 
-/** What executors do whose full pool rejects jobs by design: the cases of docs/COVERAGE.md and docs/PATTERNS.md. */
+/**
+ * Experiments with executors that reject jobs by design when they are full: the cases of docs/COVERAGE.md and docs/PATTERNS.md.
+ */
 final class Rejections {
     private static final int ROUNDS = 2000;
     /** The longest time in microseconds that a thread waits before it takes a job. */
     private static final int SLOW = 300;
 
-    /** A delay before a thread takes a job, so that the pool's threads are often idle while its queue is full. */
+    /** A delay before a thread takes a job, so that threads of the pool are often idle while its queue is full. */
     private static final class SlowTaking implements Moments {
         @Override
         public Taking beforeTaking(boolean timed) {
@@ -37,7 +39,7 @@ final class Rejections {
         }
     }
 
-    /** Counts the jobs that it passes on to another handler. */
+    /** A handler that counts the jobs that it passes on to another handler. */
     private record Counting(RejectedExecutionHandler handler, LongAdder count) implements RejectedExecutionHandler {
         Counting(RejectedExecutionHandler handler) {
             this(handler, new LongAdder());
@@ -52,7 +54,7 @@ final class Rejections {
 
     private Rejections() {}
 
-    /** Prints one line for each name of a fact. */
+    /** Prints one line for each named fact. */
     public static void main(String[] names) throws Exception {
         for (String name : names) {
             System.out.println(fact(name).call());
@@ -92,7 +94,10 @@ final class Rejections {
         return new ThreadPoolExecutor(core, core, 1, TimeUnit.HOURS, queue, handler);
     }
 
-    /** Returns a pool of one thread and one place in its queue, with a job that runs until the latch opens, and a queued job. */
+    /**
+     * Returns a pool with one thread and one place in its queue, both in use: one job runs until the latch opens, and one is
+     * queued.
+     */
     private static ThreadPoolExecutor fullPool(CountDownLatch held, RejectedExecutionHandler handler) {
         ThreadPoolExecutor pool = pool(1, 1, handler);
         pool.execute(() -> Rest.hold(held));
@@ -100,7 +105,7 @@ final class Rejections {
         return pool;
     }
 
-    /** Returns whether the pool's threads ran this number of jobs, and are idle. */
+    /** Returns whether the pool's threads have run this number of jobs and are idle. */
     private static boolean ran(ThreadPoolExecutor pool, long jobs) {
         return pool.getCompletedTaskCount() == jobs && pool.getActiveCount() == 0;
     }
@@ -112,8 +117,9 @@ final class Rejections {
     // ---- jobs that their caller runs
 
     /**
-     * A job `a` of p submits `b` to q, and `b` submits `d` to p and gets it. A client gets each `a` before it submits the next one. The
-     * first `b` is held, the second one is queued, and the third one is rejected. Then the first one continues.
+     * Runs jobs `a` of p, each of which submits a job `b` to q; `b` submits a job to p and gets it. A client gets each `a` before
+     * it submits the next one. The first `b` is held, the second one is queued, and the third one is rejected. Then the first one
+     * continues. Returns whether the third `a` is done.
      */
     private static String jobWithAGet(int core, RejectedExecutionHandler handler) throws Exception {
         Counting rejecting = new Counting(handler);
@@ -143,13 +149,14 @@ final class Rejections {
         try {
             pool.submit(job);
         } catch (RejectedExecutionException full) {
-            // The pool has no room, and nothing gets the job.
+            // the pool has no room, and no thread gets the job
         }
     }
 
     /**
-     * A job `a` of q submits `b` to p and gets it, and the first `b` is held. Two clients submit `a` without a get: the first is
-     * started, the second is queued, and two are rejected. Each pool has one thread and one place.
+     * Runs jobs `a` of q, each of which submits a held job to p and gets it. Two clients submit `a` without a get: the first `a`
+     * is started, the second one is queued, and two more are rejected. Each pool has one thread and one place. Returns the
+     * numbers of jobs that q rejects and that p refuses.
      */
     private static String jobThatSubmits(RejectedExecutionHandler handler) throws Exception {
         Counting refusing = new Counting(new AbortPolicy());
@@ -174,7 +181,7 @@ final class Rejections {
         return report;
     }
 
-    /** Runs the pools and jobs of `jobWithAGet` with core 2 and threads that take jobs slowly, until p refuses a job. */
+    /** Runs the jobs of `jobWithAGet` for many rounds, with core 2 and threads that take jobs slowly, until p refuses a job. */
     private static String rounds(int queue) throws Exception {
         Counting refusing = new Counting(new AbortPolicy());
         Counting rejecting = new Counting(new CallerRunsPolicy());
@@ -204,7 +211,10 @@ final class Rejections {
 
     // ---- gets of rejected jobs
 
-    /** A full pool gets one more job. Afterwards nothing holds its thread, which becomes idle. */
+    /**
+     * Submits a job to a full pool whose thread becomes idle afterwards. Returns whether the queued job and the last one are
+     * done.
+     */
     private static String rejectedAndGot(RejectedExecutionHandler handler) throws InterruptedException {
         CountDownLatch held = new CountDownLatch(1);
         ThreadPoolExecutor pool = pool(1, 1, handler);
@@ -216,7 +226,10 @@ final class Rejections {
         return "queued done " + queued.isDone() + ", last done " + last.isDone();
     }
 
-    /** Two jobs for a pool with one place: the second one is rejected. */
+    /**
+     * Calls `invokeAll` with two jobs for a pool that has one free place, so that the second job is rejected. Returns the
+     * outcome.
+     */
     private static String invokeAll(RejectedExecutionHandler handler) throws InterruptedException {
         CountDownLatch held = new CountDownLatch(1);
         ThreadPoolExecutor pool = pool(1, 1, handler);
@@ -256,7 +269,7 @@ final class Rejections {
         }
     }
 
-    /** The second stage of three finds its pool full. */
+    /** Builds three stages, of which the second one is submitted to a full pool. Returns the outcome of the join. */
     private static String thenApplyAsync() {
         CountDownLatch held = new CountDownLatch(1);
         ThreadPoolExecutor io = pool(1, 1, new AbortPolicy());
@@ -300,7 +313,9 @@ final class Rejections {
         return under(lock::lock, lock::unlock, lock::hasQueuedThreads);
     }
 
-    /** A caller holds a lock while it submits a job that takes the lock too, to a full pool. */
+    /**
+     * Submits a job to a full pool from a caller that holds a lock, which the job takes too. Returns whether the caller waits.
+     */
     private static String under(Runnable locks, Runnable unlocks, Rest.Condition isAwaited) throws InterruptedException {
         CountDownLatch held = new CountDownLatch(1);
         ThreadPoolExecutor pool = fullPool(held, new CallerRunsPolicy());

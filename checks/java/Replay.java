@@ -8,7 +8,7 @@ import java.util.concurrent.ExecutionException;
 import java.util.concurrent.RejectedExecutionException;
 import java.util.concurrent.TimeUnit;
 
-/** A replay of a list of events on executors: the driver lets one thread make one step at a time, and reports its outcome. */
+/** A replay of a list of events on executors: the driver lets one thread at a time make one step, and reports the outcome. */
 final class Replay {
     static final String NOT_POSSIBLE = "not possible";
     final Plan plan;
@@ -113,7 +113,7 @@ final class Replay {
         };
     }
 
-    /** Adds a job that the pool rejected, which is done. */
+    /** Adds a job that the pool rejected. It counts as done. */
     private String rejected(Job job) {
         rejections++;
         job.number = jobs.size();
@@ -127,7 +127,7 @@ final class Replay {
         jobs.add(job);
         GatedPool pool = poolOf(job.of);
         if (pool.isQueued(job)) {
-            // the pool had no thread if core threads may time out, and the submit has started one
+            // if core threads may time out, the pool may have had no thread; then the submit has started one
             if (pool.pool.coreTimeout() && pool.executor.getPoolSize() == 1) {
                 pool.awaitIdle(running(pool));
             }
@@ -184,9 +184,9 @@ final class Replay {
         return "retired";
     }
 
-    // ---- what is seen of the executors
+    // ---- the observed state of the executors
 
-    /** Returns whether each of these jobs waits only for others of them, as the pools and the futures show. */
+    /** Returns whether each of these jobs waits only for others among them. Reads the states of the pools and the futures. */
     private String stuck(String[] words) {
         Set<Integer> members = new TreeSet<>();
         for (int at = 1; at < words.length; at++) {
@@ -230,7 +230,10 @@ final class Replay {
         jobs.add(job);
     }
 
-    /** Lets jobs and threads run until the pools are idle or no thread makes progress. Core threads that may time out soon do. */
+    /**
+     * Lets jobs and threads run until all jobs are done or no thread makes progress. Core threads that may time out then do so
+     * soon.
+     */
     String runFree(double part) throws InterruptedException {
         leaves = part;
         free = true;

@@ -2,7 +2,10 @@ import java.io.BufferedReader;
 import java.io.InputStreamReader;
 import java.util.Iterator;
 
-/** Reads cases, and prints what the executors did in each. A case is `case KIND STEPS`, a plan, `events`, events, and `end`. */
+/**
+ * A program that reads cases and prints what the executors did in each. A case is `case KIND STEPS`, a plan, `events`, events,
+ * and `end`.
+ */
 final class Replays {
     private Replays() {}
 

@@ -14,7 +14,7 @@ final class Rest {
 
     static void within(long turns) {
         if (turns > MILLISECONDS) {
-            throw new IllegalStateException("no rest");
+            throw new IllegalStateException("the threads are not at rest after 10 seconds");
         }
     }
 
@@ -26,7 +26,7 @@ final class Rest {
         }
     }
 
-    /** Waits for the latch, however long it takes. */
+    /** Waits until the latch opens, without a time limit. */
     static void hold(CountDownLatch latch) {
         try {
             latch.await();

@@ -2,7 +2,10 @@ import java.util.concurrent.BlockingQueue;
 import java.util.concurrent.ThreadLocalRandom;
 import java.util.concurrent.atomic.AtomicInteger;
 
-/** Where it is slow, an offer that failed is answered a little later, and so is a worker that comes for a job. */
+/**
+ * Hooks that count the threads that are asked for while the queue has room. If the queue is slow, they also delay each take and
+ * each failed offer for a random time below 50 microseconds.
+ */
 final class SlowQueue implements Moments {
     private static final int NANOSECONDS = 50_000;
     final AtomicInteger askedWithRoom = new AtomicInteger();

@@ -14,17 +14,20 @@ import java.util.concurrent.TimeUnit;
 import java.util.concurrent.atomic.LongAdder;
 
 /**
- * Clients that repeat their bodies, each on a thread of its own, on executors of the JDK whose threads have a short keep-alive. An actor
- * sometimes waits before a submit until an idle thread of the pool has waited for the whole keep-alive, and submits while this thread ends.
+ * Clients that repeat their bodies, each on its own thread, on executors of the JDK whose threads have a short keep-alive. Before
+ * a submit, an actor sometimes waits until an idle thread of the pool has waited for the whole keep-alive, and then submits while
+ * that thread ends.
  */
 final class Timeouts {
-    /** In the mean one of this number of submits waits for the end of a keep-alive, if one thread is idle, and if several are. */
+    /** The mean number of submits of which one waits for the end of a keep-alive: if one thread is idle, and if several are. */
     private static final int AIMED_AT_ONE = 2;
     private static final int AIMED_AT_SEVERAL = 40;
-    /** The maximum delay of an aimed submit, in nanoseconds, and how often it may be halved. */
+    /**
+     * The maximum delay of such a submit in nanoseconds, and the number of delays to choose from, each half of the one before.
+     */
     private static final int DELAY = 8000;
     private static final int HALVED = 6;
-    /** Threads that make no progress for this number of milliseconds have stopped, if all of them wait. */
+    /** The number of milliseconds without progress after which a service whose threads all wait has stopped. */
     private static final int STUCK = 500;
 
     private final Plan plan;
@@ -35,7 +38,7 @@ final class Timeouts {
     private final LongAdder jobs = new LongAdder();
     private final LongAdder refused = new LongAdder();
     private final LongAdder aimed = new LongAdder();
-    /** Whether a service has stopped. All of them end then. */
+    /** Whether a service has stopped. Then all services end. */
     private static volatile boolean found;
     private volatile boolean over;
 
@@ -59,8 +62,9 @@ final class Timeouts {
     }
 
     /**
-     * Takes the arguments `MICROSECONDS MILLISECONDS SERVICES`: the keep-alive, the time of the run, and how many services with executors of
-     * their own run at the same time. Reads a plan, up to a line `events`. Prints the counts of a service that stopped, or of the first one.
+     * Runs services with the arguments `MICROSECONDS MILLISECONDS SERVICES`: the keep-alive, the time of the run, and the number
+     * of services with their own executors that run at the same time. Reads a plan, up to a line `events`. Prints the counts of a
+     * service that stopped, or of the first one.
      */
     public static void main(String[] words) throws Exception {
         Plan plan = Plan.read(new BufferedReader(new InputStreamReader(System.in)).lines().iterator());
@@ -116,7 +120,7 @@ final class Timeouts {
         return pools.stream().mapToLong(ThreadPoolExecutor::getCompletedTaskCount).sum();
     }
 
-    /** Returns whether a job is queued, and each thread of a pool waits without a timeout. */
+    /** Returns whether a job is queued, and every thread of the pools waits without a timeout or has ended. */
     private boolean allWait() {
         return pools.stream().anyMatch(pool -> !pool.getQueue().isEmpty())
                 && threads.stream().flatMap(List::stream).map(Thread::getState)
@@ -163,7 +167,10 @@ final class Timeouts {
         }
     }
 
-    /** Sometimes waits until an idle thread no longer waits, and then for a random time in which this thread may end. */
+    /**
+     * Waits, in a random part of the calls, until an idle thread no longer waits, and then for a random time in which that thread
+     * may end.
+     */
     private void aim(List<Thread> own) {
         List<Thread> idle = own.stream().filter(Timeouts::isIdle).toList();
         if (idle.isEmpty() || ThreadLocalRandom.current().nextInt(idle.size() == 1 ? AIMED_AT_ONE : AIMED_AT_SEVERAL) > 0) {

@@ -18,7 +18,10 @@ import java.util.concurrent.atomic.AtomicInteger;
 import java.util.concurrent.atomic.LongAdder;
 import java.util.concurrent.locks.LockSupport;
 
-/** What `ThreadPoolExecutor` does over a `LinkedBlockingQueue` without a capacity, which an unbounded queue of a plan stands for. */
+/**
+ * Experiments with a `ThreadPoolExecutor` over a `LinkedBlockingQueue` without a capacity, which is the unbounded queue of a
+ * plan.
+ */
 final class UnboundedQueues {
     private static final int HELD = 10_000;
     private static final int SUBMITTERS = 4;
@@ -29,7 +32,7 @@ final class UnboundedQueues {
 
     private UnboundedQueues() {}
 
-    /** Prints one line for each name of a fact. */
+    /** Prints one line for each named fact. */
     public static void main(String[] names) throws Exception {
         for (String name : names) {
             System.out.println(fact(name).call());
@@ -58,7 +61,7 @@ final class UnboundedQueues {
         };
     }
 
-    /** Returns the pool of `Executors.newFixedThreadPool`. */
+    /** Returns the pool that `Executors.newFixedThreadPool` makes. */
     private static ThreadPoolExecutor fixed(int threads) {
         return withDaemons((ThreadPoolExecutor) Executors.newFixedThreadPool(threads));
     }
@@ -78,7 +81,10 @@ final class UnboundedQueues {
 
     // ---- jobs that get jobs of their own pool
 
-    /** When all outer jobs run, each submits a job to the pool and gets it. Returns what happened within a time that is long enough. */
+    /**
+     * Runs outer jobs. When all of them run, each submits a job to its own pool and gets it. Returns the number of outer jobs
+     * that end within two seconds, and the pool's counts.
+     */
     private static String outerJobs(ThreadPoolExecutor pool, int number) throws Exception {
         CountDownLatch running = new CountDownLatch(number);
         List<Future<Integer>> outer = new ArrayList<>();
@@ -103,7 +109,7 @@ final class UnboundedQueues {
         return "outer done " + done + ", threads " + pool.getPoolSize() + ", at work " + pool.getActiveCount() + ", queued " + pool.getQueue().size();
     }
 
-    /** Clients submit outer jobs and get them, round after round. */
+    /** Runs clients that repeatedly submit an outer job and get it. Returns whether all of these jobs were served. */
     private static String rounds(ThreadPoolExecutor pool, int clients) throws Exception {
         AtomicInteger left = new AtomicInteger(ROUNDS);
         LongAdder served = new LongAdder();
@@ -137,7 +143,7 @@ final class UnboundedQueues {
 
     // ---- jobs without gets
 
-    /** Jobs are submitted that run until the end. */
+    /** Submits many jobs that run until the end, and returns the pool's counts. */
     private static String held(int core, int max, BlockingQueue<Runnable> queue) throws InterruptedException {
         ThreadPoolExecutor pool = pool(core, max, queue);
         CountDownLatch end = new CountDownLatch(1);
@@ -164,7 +170,9 @@ final class UnboundedQueues {
         }
     }
 
-    /** Threads submit jobs as fast as they can. */
+    /**
+     * Submits jobs from several threads without pauses. Returns whether some were rejected, and whether each accepted job ran.
+     */
     private static String submitters(BlockingQueue<Runnable> queue) throws InterruptedException {
         ThreadPoolExecutor pool = pool(2, 8, queue);
         LongAdder accepted = new LongAdder();
@@ -189,7 +197,7 @@ final class UnboundedQueues {
                 + ", largest " + pool.getLargestPoolSize();
     }
 
-    /** The threads are at work while jobs are submitted. */
+    /** Submits jobs while all threads are at work. Returns the number of jobs that their caller ran. */
     private static String callerRuns(BlockingQueue<Runnable> queue) {
         ThreadPoolExecutor pool = pool(2, 2, queue);
         pool.setRejectedExecutionHandler(new CallerRunsPolicy());

@@ -4,7 +4,7 @@ from small_plans import NO_MAXIMUM
 
 # The capacity of a LinkedBlockingQueue that is made without one.
 UNBOUNDED = 2_147_483_647
-# By how much the maximum of an executor is above core if its queue is unbounded. It has no effect unless core threads may time out.
+# The excess of the maximum over core if the queue is unbounded. It has no effect unless core threads may time out.
 MORE_THREADS = 3
 # The maximum of an executor that has none, as that of Spring Boot.
 NO_MOST = 2_147_483_647

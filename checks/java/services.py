@@ -35,7 +35,7 @@ RUNS = 4
 FIRST_PARTS = 10
 # The maximum number of lines of a recording from which lines are removed one at a time.
 MOST_LINES = 200
-# How the names of deliberate errors in bodies begin.
+# The prefix of the names of deliberate errors in bodies.
 IN_BODY = "body"
 # The expected finding for each deliberate error in a service.
 SLIPS = {

@@ -20,7 +20,7 @@ KEEP_ALIVE = 2000
 UNTIL_STOPPED, RUN = 40_000, 4_000
 # The number of services with the same plan that run until one stops.
 SERVICES = 4
-# How often the last job is submitted in a round.
+# The number of submits of the last job in a round.
 TIMES = 40
 CORE = 8
 

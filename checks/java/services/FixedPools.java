@@ -6,8 +6,8 @@ import java.util.concurrent.ExecutorService;
 import java.util.concurrent.Future;
 
 /**
- * Two pools of `Executors.newFixedThreadPool`, whose queues are unbounded. A page gets its part from the pool of pages. Then it writes
- * a line to the log, for which no thread waits.
+ * A service with two pools of `Executors.newFixedThreadPool`, whose queues are unbounded. A page gets its part from the pool of
+ * pages. Then it writes a line to the log, for which no thread waits.
  */
 final class FixedPools implements Services.Service {
     private ExecutorService pages;

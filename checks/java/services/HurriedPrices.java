@@ -8,7 +8,10 @@ import java.util.concurrent.Future;
 import java.util.concurrent.TimeUnit;
 import java.util.concurrent.TimeoutException;
 
-/** Prices for patient clients, and for four in a hurry: one of the four waits, one asks again, one continues, and one cancels. */
+/**
+ * A service of prices for patient clients and for four in a hurry: one of the four waits, one asks again, one continues, and one
+ * cancels.
+ */
 final class HurriedPrices implements Services.Service {
     private static final int ASKS_AGAIN = 1;
     private static final int GOES_ON = 2;
@@ -33,7 +36,7 @@ final class HurriedPrices implements Services.Service {
         }
         try {
             price.get(1, TimeUnit.MILLISECONDS);
-            throw new AssertionError("there is a price before its time");
+            throw new AssertionError("the job ended before its latch opened");
         } catch (TimeoutException over) {
             afterwards(client, price, go);
         } finally {

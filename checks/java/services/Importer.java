@@ -6,7 +6,7 @@ import java.util.ArrayDeque;
 import java.util.concurrent.ExecutorService;
 import java.util.concurrent.Future;
 
-/** An importer that reads up to eight rows a round, and has three of them in its window at most. */
+/** An importer that reads one to eight rows in a round, and has at most three of them in its window. */
 final class Importer implements Services.Service {
     private static final int WINDOW = 3;
     private static final int MOST = 8;

@@ -6,8 +6,8 @@ import java.util.concurrent.Callable;
 import java.util.concurrent.ExecutorService;
 
 /**
- * Three pools. An order reserves goods from the stock, or has them ordered if there are none. After the reservation the job
- * sends a mail, for which no thread waits. Each buyer orders once.
+ * A service with three pools. An order reserves goods from the stock, or has them ordered if there are none. After the
+ * reservation the job sends a letter, for which no thread waits. Each buyer orders once.
  */
 final class Orders implements Services.Service {
     private ExecutorService stock;
@@ -25,7 +25,7 @@ final class Orders implements Services.Service {
 
     private int order(boolean isThere) throws Exception {
         int first = stock(isThere);
-        // the slip: both branches, the later one first
+        // the slip: an order that takes both branches, in the other order
         return takesAnotherPath && !isThere ? stock(true) : first;
     }
 

@@ -8,7 +8,7 @@ import java.util.concurrent.Callable;
 import java.util.concurrent.ExecutorService;
 import java.util.concurrent.Future;
 
-/** Reports that fan out into their own pool, with one to eight sections each. */
+/** A service of reports that fan out into their own pool, with one to eight sections each. */
 final class Reports implements Services.Service {
     private static final int MOST = 8;
     private ExecutorService reports;
@@ -21,7 +21,9 @@ final class Reports implements Services.Service {
         run.clients("user", 3, 9, (client, round) -> reports.submit(label("report", () -> report(1 + (client + round) % most))).get());
     }
 
-    /** Makes a report: half of them with a loop of submits and a loop of gets, the others with one call for all sections. */
+    /**
+     * Makes a report: with `invokeAll` if the number of sections is even, and otherwise with a loop of submits and one of gets.
+     */
     private int report(int sections) throws Exception {
         List<Callable<Integer>> tasks = new ArrayList<>();
         for (int section = 0; section < sections; section++) {

@@ -21,8 +21,8 @@ import java.util.function.BooleanSupplier;
 import sizing.Recorder;
 
 /**
- * One run of a service with a recorder: its pools, the threads of its clients, a slip where one is planted, and sizes and rounds
- * where they are given.
+ * A recorded run of a service: its pools and the threads of its clients. A run may have a slip, or settings that replace the
+ * sizes and rounds of the service.
  */
 final class Run {
     /** The body of a round. The clients of a kind are numbered from 0, and so are the rounds of each. */
@@ -41,7 +41,7 @@ final class Run {
     private final Queue<Throwable> failed = new ConcurrentLinkedQueue<>();
     private final LongAdder rounds = new LongAdder();
     private final LongAdder refused = new LongAdder();
-    /** The rounds that are left, if their number is given: so often clients may still begin again. */
+    /** The number of rounds that clients may still begin, if the settings are given. */
     private final AtomicInteger roundsLeft = new AtomicInteger();
     private boolean isFirstKind = true;
 
@@ -66,13 +66,16 @@ final class Run {
         return slip.equals("path");
     }
 
-    /** Creates a pool with an `ArrayBlockingQueue`. A slip of sizes affects the first pool. */
+    /**
+     * Creates a pool with an `ArrayBlockingQueue`, or with the sizes of the settings. The slip `size` adds a thread to the first
+     * pool.
+     */
     ExecutorService pool(String name, int core, int max, int queue) {
         Settings.Sizes sizes = settings.of(name, new Settings.Sizes(core, max + moreThreads(), queue));
         return pool(name, new ThreadPoolExecutor(sizes.core(), sizes.max(), 1, TimeUnit.SECONDS, settings.queueOf(sizes)));
     }
 
-    /** Creates the pool of `Executors.newFixedThreadPool`, whose queue is unbounded. */
+    /** Creates the pool of `Executors.newFixedThreadPool`, whose queue is unbounded, or a pool with the sizes of the settings. */
     ExecutorService fixedPool(String name, int threads) {
         if (!settings.areGiven()) {
             return pool(name, (ThreadPoolExecutor) Executors.newFixedThreadPool(threads + moreThreads()));
@@ -100,7 +103,7 @@ final class Run {
         return recorder.pool(name, executor);
     }
 
-    /** Counts a refusal, even if the service catches the exception, and ends the run soon. */
+    /** Counts a refusal and makes the clients begin no further round, even if the service catches the exception. */
     private void refuse(Runnable task, ThreadPoolExecutor executor) {
         refused.increment();
         roundsLeft.set(0);
@@ -108,8 +111,9 @@ final class Run {
     }
 
     /**
-     * Adds the threads of a kind, which are all within their first rounds at once. A slip of counts adds a thread to the first
-     * kind. If a number of rounds is given, the threads that repeat share it.
+     * Adds the threads of a kind of clients. In its first round, each waits until all of them have begun it. The slip `count`
+     * adds a thread to the first kind. If the settings are given, the clients with more than one round share the rounds that are
+     * left.
      */
     void clients(String kind, int count, int rounds, Round body) {
         int all = count + (slip.equals("count") && isFirstKind ? 1 : 0);
@@ -148,18 +152,21 @@ final class Run {
 
     static void await(CountDownLatch latch) throws InterruptedException {
         if (!latch.await(SECONDS, TimeUnit.SECONDS)) {
-            throw new AssertionError("waited too long");
+            throw new AssertionError("a latch did not open within 60 seconds");
         }
     }
 
-    /** Runs all clients to their ends, and then the pools. */
+    /**
+     * Runs all clients to their ends, shuts down the pools, and closes the recorder. With a slip, waits for the clients only
+     * until the time limit, closes the recorder, and then interrupts all threads.
+     */
     void toItsEnd() throws Exception {
         clients.forEach(Thread::start);
         if (slip.equals("change")) {
             ThreadPoolExecutor first = executors.values().iterator().next();
             first.setMaximumPoolSize(first.getMaximumPoolSize() + 1);
             if (first.getQueue() instanceof LinkedBlockingQueue) {
-                // over an unbounded queue the maximum has no effect
+                // the maximum has no effect over an unbounded queue
                 first.setCorePoolSize(first.getMaximumPoolSize());
             }
         }
@@ -178,7 +185,10 @@ final class Run {
         }
     }
 
-    /** Runs the clients until they and the pools end, or nothing is done for this many seconds. Returns what they met. */
+    /**
+     * Runs the clients until they and the pools end, or until no round begins and no job ends for this number of seconds. Returns
+     * the counts of the run.
+     */
     String met(long seconds) throws InterruptedException, IOException {
         roundsLeft.set(settings.rounds() - clients.size());
         clients.forEach(Thread::start);
@@ -195,7 +205,7 @@ final class Run {
         return met;
     }
 
-    /** Returns whether nothing is done for this many seconds before {@code through} holds. */
+    /** Returns whether no round begins and no job ends for this number of seconds before {@code through} holds. */
     private boolean stops(long seconds, BooleanSupplier through) throws InterruptedException {
         long before = -1;
         long since = System.nanoTime();
@@ -221,7 +231,7 @@ final class Run {
         for (ThreadPoolExecutor executor : executors.values()) {
             executor.shutdown();
             if (clients.stream().anyMatch(Thread::isAlive) || !executor.awaitTermination(SECONDS, TimeUnit.SECONDS)) {
-                throw new AssertionError("the service does not come to its end");
+                throw new AssertionError("the service did not end within 60 seconds");
             }
         }
     }

@@ -2,7 +2,7 @@ package services;
 
 import java.nio.file.Path;
 
-/** Runs services in order. */
+/** A program that runs services in order. */
 final class Services {
     interface Service {
         void begin(Run run);
@@ -10,7 +10,7 @@ final class Services {
 
     private Services() {}
 
-    /** Takes three arguments for each run: the service, the slip that is planted, and the file of the recording. */
+    /** Runs services. Takes three arguments for each run: the service, the slip, and the file of the recording. */
     public static void main(String[] words) throws Exception {
         for (int at = 0; at < words.length; at += 3) {
             Run run = new Run(Path.of(words[at + 2]), words[at + 1]);

@@ -17,7 +17,7 @@ record Settings(Map<String, Sizes> pools, int rounds, int microseconds) {
         }
     }
 
-    /** The service has its own sizes and rounds. */
+    /** The settings of a service that has its own sizes and rounds. */
     static final Settings NONE = new Settings(Map.of(), 0, 0);
 
     boolean areGiven() {

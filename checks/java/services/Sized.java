@@ -7,16 +7,16 @@ import java.util.HashMap;
 import java.util.List;
 import java.util.Map;
 
-/** Runs services with given sizes and rounds, and prints what each run met. */
+/** A program that runs services with given sizes and rounds, and prints the counts of each run. */
 final class Sized {
     private static final int FIRST_POOL = 5;
 
     private Sized() {}
 
     /**
-     * Reads a line for each run: the service, the number of rounds in all, the number of seconds without progress after which
-     * the run has stopped, the maximum number of microseconds that a thread waits before it takes, the file of the recording,
-     * and the name, core, max and queue of each pool.
+     * Runs a service for each line of the standard input. A line has the service, the number of rounds in all, the number of
+     * seconds without progress after which the run has stopped, the maximum number of microseconds that a thread waits before it
+     * takes a job, the file of the recording, and the name, core, max and queue of each pool.
      */
     public static void main(String[] none) throws Exception {
         List<String> lines = new BufferedReader(new InputStreamReader(System.in)).lines().toList();

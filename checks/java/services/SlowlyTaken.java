@@ -5,7 +5,7 @@ import java.util.concurrent.ThreadLocalRandom;
 import java.util.concurrent.TimeUnit;
 import java.util.concurrent.locks.LockSupport;
 
-/** Java's queue, from which threads take slowly, as on a loaded machine. */
+/** Java's queue, from which threads take jobs slowly, as on a loaded machine. */
 final class SlowlyTaken extends ArrayBlockingQueue<Runnable> {
     private static final long serialVersionUID = 1;
     private final int microseconds;

@@ -3,7 +3,7 @@ package services;
 import java.util.concurrent.LinkedBlockingQueue;
 import java.util.concurrent.TimeUnit;
 
-/** Java's queue without a capacity, from which threads take slowly. */
+/** Java's queue without a capacity, from which threads take jobs slowly. */
 final class SlowlyTakenUnbounded extends LinkedBlockingQueue<Runnable> {
     private static final long serialVersionUID = 1;
     private final int microseconds;

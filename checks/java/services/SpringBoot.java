@@ -6,8 +6,8 @@ import java.util.concurrent.ExecutorService;
 import java.util.concurrent.Future;
 
 /**
- * Two pools whose core threads may time out, over unbounded queues, as those of Spring Boot. A page gets its part from a pool of its own.
- * Then it submits an entry of a log to the pool of pages, for which no thread waits.
+ * A service with two pools whose core threads may time out, over unbounded queues, as those of Spring Boot. A page gets its part
+ * from a pool of its own. Then it submits an entry of a log to the pool of pages, for which no thread waits.
  */
 final class SpringBoot implements Services.Service {
     private static final int MAX = 16;

@@ -5,7 +5,7 @@ import static sizing.Recorder.label;
 import java.util.concurrent.ExecutorService;
 import java.util.concurrent.Future;
 
-/** A web pool whose requests ask a database pool if the cache lacks the result. */
+/** A service with a web pool, whose requests ask a database pool if the cache lacks the result. */
 final class WebAndDatabase implements Services.Service {
     private final int visitors;
     private final int rounds;

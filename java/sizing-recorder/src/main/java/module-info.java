@@ -1,4 +1,4 @@
-/** A recorder of what a service does with its thread pools, and a check of live executors against a plan. */
+/** A recorder of the use of thread pools by a service, and a check of live executors against a plan. */
 module sizing {
     exports sizing;
 }

@@ -5,32 +5,35 @@ import java.util.List;
 import java.util.Set;
 
 /**
- * Something that submits and gets: a job while it runs, a round of a thread, or a permit.
+ * A source of submits and gets: a job while it runs, a round of a thread, or a permit.
  *
  * <p>Most actors are used by one thread only. An actor is shared once other threads may write lines for it: a permit from its
  * start, a job or a round once it has a job whose get the recorder cannot see. The lock of a shared actor guards its unclaimed
  * jobs and its end.
  */
 final class Actor {
-    /** The label, class or thread that gives its class or kind the name ({@link Names#of}). The writing thread makes the name. */
+    /**
+     * The label, class or thread name from which {@link Names#of} makes the name of its class or kind. The writing thread makes
+     * the name.
+     */
     final Object source;
     /** The semaphore of a permit, or null. */
     final RecordedSemaphore semaphore;
-    /** Set and read by the writing thread, at the actor's first line. */
+    /** The number in the recording, or -1 before the actor's first line. Used by the writing thread. */
     int number = -1;
-    /** The thread that it runs on, or that took the permit; null once it has ended. */
+    /** The thread that the actor runs on or that took the permit; null once the actor has ended. */
     Thread thread;
     /** Whether its last line is recorded. */
     volatile boolean ended;
     /** Whether it is a round for the submit of an actor that has ended. */
     boolean isAfterEnd;
-    /** The number of lines that submits and gets of a shared actor have. Guarded by this. */
+    /** The number of lines of the submits and gets of a shared actor. Guarded by this. */
     int sharedLines;
     private final boolean isJob;
     private final boolean hasLabel;
     /** The number of futures that a round without a label holds. Used by its own thread. */
     private int held;
-    /** The jobs that count as got as soon as they are done, and of a permit all its jobs; null unless shared. */
+    /** The jobs that count as got as soon as they are done, or, for a permit, all its jobs. Null unless the actor is shared. */
     private Set<Job> unclaimed;
 
     private Actor(Object source, boolean isJob, boolean hasLabel, RecordedSemaphore semaphore) {
@@ -75,7 +78,7 @@ final class Actor {
         return unclaimed != null;
     }
 
-    /** Makes it shared. Called by its own thread, before another thread may know it. */
+    /** Makes the actor shared. Its own thread calls this before another thread can use the actor. */
     void share() {
         if (unclaimed == null) {
             unclaimed = new LinkedHashSet<>();

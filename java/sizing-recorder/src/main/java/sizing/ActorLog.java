@@ -2,7 +2,7 @@ package sizing;
 
 import java.util.List;
 
-/** The lines of what actors do: their rounds, jobs, submits, gets and permits. */
+/** A log of the actions of actors: their rounds, jobs, submits, gets and permits. */
 final class ActorLog {
     private static final String AFTER_END = "_after_end";
     private final Lines lines;
@@ -32,7 +32,7 @@ final class ActorLog {
     void endRound(Actor round) {
         ThreadState state = threads.get();
         if (state.actor != round) {
-            throw new IllegalStateException("a round is closed by the thread that began it");
+            throw new IllegalStateException("only the thread that began a round may close it");
         }
         end(round);
         state.actor = null;
@@ -48,7 +48,7 @@ final class ActorLog {
         return stages;
     }
 
-    /** Returns what acts on this thread: its job or its round, else a round without a label that begins here. */
+    /** Returns the actor of this thread: its job or its round, or otherwise a round without a label that begins here. */
     Actor actor() {
         ThreadState state = threads.get();
         Actor actor = state.actor;
@@ -58,7 +58,10 @@ final class ActorLog {
         return actor == null || actor.ended ? begin(state, Actor.roundWithoutLabel(Thread.currentThread())) : actor;
     }
 
-    /** Returns the actor of the thread's next submit: a permit that it holds and that has no open job, else what acts here. */
+    /**
+     * Returns the actor of the thread's next submit: the permit that it holds and that has no open job, or otherwise
+     * {@link #actor}.
+     */
     Actor submitter() {
         Actor permit = threads.get().freePermit();
         return permit == null ? actor() : permit;
@@ -120,7 +123,7 @@ final class ActorLog {
         ThreadState state = threads.get();
         Actor now = state.actor;
         if (now != null && now != job.actor && !now.hasLabel() && !now.ended) {
-            // a round without a label that began after the job's last line
+            // this round without a label began after the job's last line
             end(now);
         }
         state.actor = job.outerActor;
@@ -153,8 +156,8 @@ final class ActorLog {
     // ---- submits
 
     /**
-     * Records a submit and returns its actor. Sources are jobs that a stage comes after: they are got before it. If the submitter
-     * has ended, the submit is that of a new round.
+     * Records a submit and returns its actor. The sources are the jobs after which a stage comes: their gets are recorded first.
+     * If the submitter has ended, a new round makes the submit.
      */
     Actor submit(Actor submitter, List<Job> sources, Job job) {
         if (job.isGotWhenDone) {
@@ -174,7 +177,7 @@ final class ActorLog {
         return actor;
     }
 
-    /** Returns false if the actor has ended. */
+    /** Records a submit of a shared actor and returns true, or returns false if the actor has ended. */
     private boolean submitFromShared(Actor actor, List<Job> sources, Job job) {
         synchronized (actor) {
             if (actor.ended) {
@@ -190,7 +193,7 @@ final class ActorLog {
         }
     }
 
-    /** Records the get of a job that is done, unless its submitter got it before. */
+    /** Records the get of a job that is done, unless its submitter has got it before. */
     private void claim(Actor submitter, Job job) {
         synchronized (submitter) {
             if (!submitter.ended && job.actor.ended && submitter.removeUnclaimed(job)) {
@@ -215,11 +218,11 @@ final class ActorLog {
         }
     }
 
-    /** Ends what {@link #submit} began, once the executor has answered. */
+    /** Completes the submit once the executor has accepted or refused the job. */
     void endSubmit(Actor submitter, Job job) {
         job.offering = null;
         if (!submitter.isShared()) {
-            // the job keeps no reference to its submitter, so a job that submits the next one does not keep all before it
+            // otherwise a job that submits the next one would keep all jobs before it reachable
             job.submitter = null;
         }
         if (submitter.isAfterEnd) {
@@ -229,14 +232,14 @@ final class ActorLog {
         }
     }
 
-    /** Records a refusal. Called by the executor's handler; only the thread that offers the job records it. */
+    /** Records a refusal if this thread offers the job. The executor's handler calls this. */
     void recordRefusal(Job job) {
         if (job.offering == Thread.currentThread()) {
             job.refused = true;
             Actor actor = job.submitter;
             synchronized (actor) {
                 actor.removeUnclaimed(job);
-                // a `refused` line follows its submit at once, and another thread may have added a line of a shared actor
+                // a `refused` line must directly follow its submit, but another thread may have added a line of a shared actor
                 boolean follows = !actor.isShared() || actor.sharedLines == job.submitLine;
                 lines.action(actor, follows ? "refused" : "cancel", job);
             }
@@ -252,7 +255,7 @@ final class ActorLog {
 
     // ---- futures
 
-    /** Records how a get of a job by this thread ended: `got`, `timeout` or `interrupted`. */
+    /** Records the outcome of a get by this thread: `got`, `timeout` or `interrupted`. */
     void recordGet(String word, Job job, boolean hasTimeout) {
         if (!job.offered) {
             return;
@@ -272,7 +275,7 @@ final class ActorLog {
         endIfOver(actor);
     }
 
-    /** Notes that a running job begins to wait for a job of a permit, which no plan has. */
+    /** Notes that a running job begins to wait for a job of a permit. No plan has such a get. */
     void beginGet(Job job) {
         Actor permit = job.submitter;
         if (permit == null || !permit.isPermit()) {
@@ -287,8 +290,8 @@ final class ActorLog {
     }
 
     /**
-     * Records that the permit gets its job: in the plan a round that waits for the job meanwhile does nothing. If a running job waits
-     * for it, records the get as that of the running job, which no plan has.
+     * Records a get as the permit's: in the plan, a round that waits for the job does nothing in the meantime. If a running job
+     * waits for the job, records the get as that of the running job. No plan has such a get.
      */
     private void recordGetFromPermit(Actor permit, String word, Job job, boolean hasTimeout) {
         ThreadState state = threads.get();
@@ -314,7 +317,7 @@ final class ActorLog {
 
     // ---- permits
 
-    /** Returns the task, which continues with the permit in use here ({@link Recorder#withPermit}). */
+    /** Returns a task that continues with the permit in use here ({@link Recorder#withPermit}). */
     Runnable withPermit(Runnable task) {
         Actor permit = threads.get().permitInUse();
         return permit == null ? task : () -> {

@@ -24,7 +24,7 @@ final class JdkFields {
 
     private JdkFields() {}
 
-    /** Returns the module for the option that opens the package. */
+    /** Returns the name of the module for the option {@code --add-opens}. */
     static String moduleName() {
         Module module = JdkFields.class.getModule();
         return module.isNamed() ? module.getName() : "ALL-UNNAMED";

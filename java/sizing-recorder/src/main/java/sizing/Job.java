@@ -7,25 +7,28 @@ final class Job {
     final Pool pool;
     /** Whether it is a stage of a {@code CompletableFuture} whose fields are readable. */
     boolean isStage;
-    /** Whether it counts as got once it is done: nothing shows that its submitter waits for it. */
+    /** Whether it counts as got once it is done, because the recorder cannot see whether its submitter waits for it. */
     boolean isGotWhenDone;
-    /** The actor that submitted it, while it is offered; afterwards only if that actor is shared. */
+    /** The actor that submitted it, while it is offered. Afterwards null, unless that actor is shared. */
     Actor submitter;
     /** The number of its submit among the lines of a shared actor. */
     int submitLine;
     /** The running job that waits for this job of a permit, or null. Guarded by the permit. */
     Actor waiting;
-    /** The round without a label that holds its future. A round finds itself here, or any other value. */
+    /**
+     * The round without a label that holds its future, or null. A round that does not hold it may see an older value, but never
+     * itself.
+     */
     Actor holder;
-    /** Whether it was submitted. No other thread sees a future that never was. */
+    /** Whether it was submitted. Until then, no other thread can see its future. */
     boolean offered;
-    /** The thread that offers it, or null. Other threads may see an older value, and never themselves in it. */
+    /** The thread that offers it, or null. Another thread may see an older value, but never itself. */
     Thread offering;
-    /** Whether a line says that it was refused. Used by the thread that offers it. */
+    /** Whether its refusal is recorded. Used by the thread that offers it. */
     boolean refused;
     /** Whether it began to run. Used by the thread that runs it. */
     boolean started;
-    /** The actor and the job of its thread before it, while it runs. */
+    /** The actor and the job that its thread ran before it, while it runs. */
     Actor outerActor;
     Job outerJob;
 

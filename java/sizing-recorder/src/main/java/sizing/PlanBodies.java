@@ -9,7 +9,7 @@ import java.util.Optional;
 /** The bodies of a plan. They decide which handlers a pool with {@code may_reject} may have. */
 final class PlanBodies {
     /** The body of a class or of clients. Clients have no pool. */
-    private record Body(String owner, String pool, List<String[]> actions) {}
+    private record Body(String kind, String name, String pool, List<String[]> actions) {}
 
     private final Map<String, String> poolOfClass = new HashMap<>();
     private final List<Body> bodies = new ArrayList<>();
@@ -19,18 +19,18 @@ final class PlanBodies {
             String name = text(table, "class", "name");
             String pool = text(table, "class", "pool");
             poolOfClass.put(name, pool);
-            bodies.add(new Body("class " + name, pool, actions(table, "class")));
+            bodies.add(new Body("class", name, pool, actions(table, "class")));
         }
         for (Object table : PlanPool.tables(plan, "client")) {
-            bodies.add(new Body("client " + text(table, "client", "name"), null, actions(table, "client")));
+            bodies.add(new Body("client", text(table, "client", "name"), null, actions(table, "client")));
         }
     }
 
-    /** Returns the classes of the pool whose jobs submit or get, each as {@code class NAME}, in the plan's order. */
+    /** Returns the names of the classes of the pool whose jobs submit or get, in the plan's order. */
     List<String> classesThatSubmitOrGet(String pool) {
         return bodies.stream().filter(body -> pool.equals(body.pool))
                 .filter(body -> body.actions.stream().anyMatch(action -> action[0].equals("submit") || action[0].equals("get")))
-                .map(Body::owner).toList();
+                .map(Body::name).toList();
     }
 
     /** Returns the first get of a job of the pool, as {@code client web gets a job of class query}. */
@@ -43,7 +43,7 @@ final class PlanBodies {
                 }
                 String got = action[0].equals("get") && action.length == 2 ? slots.get(action[1]) : null;
                 if (got != null && pool.equals(poolOfClass.get(got))) {
-                    return Optional.of(body.owner + " gets a job of class " + got);
+                    return Optional.of(body.kind + " " + body.name + " gets a job of class " + got);
                 }
             }
         }

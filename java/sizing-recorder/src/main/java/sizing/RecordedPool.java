@@ -17,7 +17,7 @@ import java.util.concurrent.TimeUnit;
 import java.util.concurrent.TimeoutException;
 import java.util.function.UnaryOperator;
 
-/** A recorded executor. Its futures record how a get ends. */
+/** A recorded executor, whose futures record the outcomes of their gets. */
 final class RecordedPool extends AbstractExecutorService {
     private final ActorLog log;
     private final Lines lines;
@@ -25,7 +25,7 @@ final class RecordedPool extends AbstractExecutorService {
     /** The class of all jobs that are submitted here, or null. */
     private final String label;
     private final UnaryOperator<Runnable> decorator;
-    /** The same pool for {@code invokeAny}, whose futures have no lines. */
+    /** Whether this is the view for {@code invokeAny}, whose futures have no lines. */
     private final boolean isForInvokeAny;
 
     RecordedPool(ActorLog log, Lines lines, Pool pool, String label, UnaryOperator<Runnable> decorator) {
@@ -88,7 +88,7 @@ final class RecordedPool extends AbstractExecutorService {
         return new RecordedTask<>(log, lines, job, Executors.callable(task, value));
     }
 
-    /** Returns the job of the future that this task runs, if {@code newTaskFor} made it on this thread, else null. */
+    /** Returns the job of the future that this task runs, if {@code newTaskFor} made it on this thread, or null otherwise. */
     private Job takeAnnounced(Runnable task) {
         ThreadState state = log.state();
         Job announced = state.announced;
@@ -153,7 +153,7 @@ final class RecordedPool extends AbstractExecutorService {
         if (permit == null && sources.isEmpty()) {
             List<Job> finished = submitter.finishedUnclaimed();
             if (finished.size() == 1 && (stage.isDependent() || Stages.isInFunctionOfStage())) {
-                // the source is a stage in no pool, and comes after the only job that is done
+                // the source is a stage in no pool, which comes after the only finished job
                 sources.addAll(finished);
             }
         }
@@ -165,7 +165,7 @@ final class RecordedPool extends AbstractExecutorService {
         return decorated instanceof Recorded ? decorated : new WrappedTask(job, decorated);
     }
 
-    /** Offers a job to the executor. The line of the submit comes before that, and the line of a refusal before this returns. */
+    /** Offers a job to the executor. Adds the line of the submit before that, and the line of a refusal before this returns. */
     private void offer(Job job, Runnable task, Actor submitter, List<Job> sources, boolean isHeld) {
         pool.recordChanges();
         Actor actor = log.submit(submitter, sources, job);

@@ -7,8 +7,8 @@ import java.util.concurrent.Semaphore;
 import java.util.concurrent.TimeUnit;
 
 /**
- * A semaphore whose permits are rounds ({@link Recorder#permits}). A round begins after its permit was acquired and ends before the
- * permit is available again.
+ * A semaphore whose permits are rounds ({@link Recorder#permits}). A round begins after its permit was acquired and ends before
+ * the permit is available again.
  */
 final class RecordedSemaphore extends Semaphore {
     private static final long serialVersionUID = 1;
@@ -24,19 +24,19 @@ final class RecordedSemaphore extends Semaphore {
     }
 
     /**
-     * Removes and returns the permit that a thread gives back, if no job on the thread has one: the latest that the thread acquired and
-     * that has no unfinished job, else any whose jobs are done, else one that the thread acquired, else any without jobs, else any; null
-     * if none is taken.
+     * Removes and returns the permit that a thread gives back if no job on the thread has one, or returns null if no permit is
+     * taken. Chooses the latest permit that the thread acquired and that has no unfinished job; otherwise any whose jobs are
+     * done; otherwise one that the thread acquired; otherwise any without jobs; otherwise any.
      *
-     * <p>The latest comes before an earlier one whose job is done, because the thread that ran that job may be about to give it back.
-     * That thread would then end another round. One thread at a time chooses: a thread whose permit was given back by another one
-     * finds that one's permit.
+     * <p>The latest one comes before an earlier one whose job is done, because the thread that ran that job may be about to give
+     * that permit back. That thread would then end another round. Only one thread at a time chooses. If another thread gave back
+     * the permit of this thread, this thread finds the permit of the other one.
      */
     Actor giveBack(Collection<Actor> acquired) {
         synchronized (taken) {
             Actor permit = choose(acquired);
             while (permit != null && !taken.remove(permit)) {
-                // the thread that runs its job gave it back meanwhile
+                // the thread that runs the permit's job has given it back in the meantime
                 permit = choose(acquired);
             }
             return permit;

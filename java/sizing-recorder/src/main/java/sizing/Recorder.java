@@ -15,7 +15,7 @@ import java.util.concurrent.ThreadPoolExecutor;
 import java.util.function.UnaryOperator;
 
 /**
- * Records what a service does with its pools, as the lines of docs/RECORDING.md.
+ * A recorder of the use of thread pools by a service. It writes the lines of docs/RECORDING.md.
  *
  * <pre>{@code
  * try (Recorder recorder = Recorder.toFile(Path.of("service.recording"))) {
@@ -28,21 +28,21 @@ import java.util.function.UnaryOperator;
  * }
  * }</pre>
  *
- * <p>Submit through what {@link #pool(String, ThreadPoolExecutor) pool} returns. The executor itself records nothing.
+ * <p>Submit through the view that {@link #pool(String, ThreadPoolExecutor) pool} returns. The executor itself records nothing.
  *
- * <p><b>Stages of CompletableFutures.</b> The recorder sees that {@code supplyAsync(.., pool)}, {@code thenApplyAsync(.., pool)} and
- * the other stages on a recorded pool belong to one chain, and when they are got, if the JVM runs with
- * {@code --add-opens java.base/java.util.concurrent=ALL-UNNAMED} ({@code =sizing} on the module path). Without that option it logs
- * one warning, and each stage is a submit without a get. The option gives it access to private fields of the JDK. It was tried
- * on OpenJDK 17 only; if another JDK has other fields, the recorder logs the same warning.
+ * <p><b>Stages of CompletableFutures.</b> The recorder sees that {@code supplyAsync(.., pool)}, {@code thenApplyAsync(.., pool)}
+ * and the other stages on a recorded pool belong to one chain, and when they are got, if the JVM runs with
+ * {@code --add-opens java.base/java.util.concurrent=ALL-UNNAMED} ({@code =sizing} on the module path). Without that option it
+ * logs one warning, and each stage is a submit without a get. The option gives it access to private fields of the JDK. It was
+ * tried on OpenJDK 17 only; if another JDK has other fields, the recorder logs the same warning.
  *
- * <p>A stage is submitted by the round, job or permit that built the chain, after the get of the stage before it. If the submitter
- * waits for a stage ({@code join}, {@code get}, {@code allOf(..).join()}, {@code anyOf(..).join()}) when the stage ends, the get is
- * recorded then, or with {@code allOf} when the stages before it are done. Otherwise it is recorded before the next
- * stage of the chain, or at the end of the submitter if the stage is done by then: a get of it would not wait. So a
- * recording does not show that a future is never joined, if its job happens to be done by the end of the round. A stage
- * that is submitted after the end of its round is recorded as a round of kind {@code KIND_after_end}, which a written
- * plan should not have.
+ * <p>A stage is submitted by the round, job or permit that built the chain, after the get of the stage before it. If the
+ * submitter waits for a stage ({@code join}, {@code get}, {@code allOf(..).join()}, {@code anyOf(..).join()}) when the stage
+ * ends, the get is recorded then, or with {@code allOf} when the stages before it are done. Otherwise it is recorded before the
+ * next stage of the chain, or at the end of the submitter if the stage is done by then: a get of it would not wait. So a
+ * recording does not show that a future is never joined, if its job happens to be done by the end of the round. A stage that is
+ * submitted after the end of its round is recorded as a round of kind {@code KIND_after_end}, which a written plan should not
+ * have.
  *
  * <p><b>Cost.</b> Each line is one entry in a lock-free queue: usually two small allocations and one or two
  * compare-and-sets on the thread that acts. A daemon thread of the recorder formats and writes the lines. A job that is
@@ -85,40 +85,40 @@ public final class Recorder implements AutoCloseable {
         log = new ActorLog(lines);
     }
 
-    /** Records to this writer, which is closed with the recorder. */
+    /** Creates a recorder that writes to this writer, and closes it when the recorder is closed. */
     public static Recorder to(Writer writer) {
         return new Recorder(Objects.requireNonNull(writer));
     }
 
-    /** Records to a file, which is created or overwritten. */
+    /** Creates a recorder that writes to a file, which is created or overwritten. */
     public static Recorder toFile(Path file) throws IOException {
         return new Recorder(Files.newBufferedWriter(file, StandardCharsets.US_ASCII));
     }
 
     /**
-     * Returns a view of the executor that records what is done with it. Threads that the executor has already are recorded as
-     * prestarted, so call this after {@code prestartAllCoreThreads} and before the first submit.
+     * Returns a view of the executor that records its use. Threads that the executor has already are recorded as prestarted, so
+     * call this after {@code prestartAllCoreThreads} and before the first submit.
      *
-     * @throws IllegalArgumentException if the executor is recorded already, or if the recorder has a pool of the same name
+     * @throws IllegalArgumentException if the executor is already recorded, or if the recorder has a pool of the same name
      */
     public ExecutorService pool(String name, ThreadPoolExecutor executor) {
         return pool(name, executor, UnaryOperator.identity());
     }
 
     /**
-     * Returns a view of the executor that records what is done with it. The decorator is applied to each task on the thread that
-     * submits it, before the submit is recorded, as Spring's {@code TaskDecorator} is. So it may acquire a permit.
+     * Returns a view of the executor that records its use. The decorator is applied to each task on the thread that submits it,
+     * before the submit is recorded, as Spring's {@code TaskDecorator} is. So it may acquire a permit.
      *
-     * @throws IllegalArgumentException if the executor is recorded already, or if the recorder has a pool of the same name
+     * @throws IllegalArgumentException if the executor is already recorded, or if the recorder has a pool of the same name
      */
     public ExecutorService pool(String name, ThreadPoolExecutor executor, UnaryOperator<Runnable> decorator) {
         String poolName = Names.of(name);
         synchronized (pools) {
             if (pools.containsKey(poolName)) {
-                throw new IllegalArgumentException("pool " + poolName + " is recorded already");
+                throw new IllegalArgumentException("pool " + poolName + " is already recorded");
             }
             if (executor.getRejectedExecutionHandler() instanceof NotedHandler) {
-                throw new IllegalArgumentException("the executor of pool " + poolName + " is recorded already");
+                throw new IllegalArgumentException("the executor of pool " + poolName + " is already recorded");
             }
             Pool pool = new Pool(poolName, executor, log, lines);
             pools.put(poolName, pool);
@@ -127,11 +127,11 @@ public final class Recorder implements AutoCloseable {
     }
 
     /**
-     * Begins a round of a client of this kind on the calling thread. Put it around a request, or around one run of a scheduled task.
-     * Within a job or another round it has no effect.
+     * Begins a round of a client of this kind on the calling thread. Put it around a request, or around one run of a scheduled
+     * task. Within a job or another round it has no effect.
      *
-     * <p>A thread that submits or gets outside a round has rounds without a label. Each begins with the first action and ends when
-     * all futures that it holds were got. Its kind is the name of the thread without digits.
+     * <p>A thread that submits or gets outside a round has rounds without a label. Each begins with the first action and ends
+     * when all futures that it holds were got. Its kind is the name of the thread without digits.
      */
     public Round round(String kind) {
         return new Round(log, log.beginRound(Objects.requireNonNull(kind)));
@@ -139,30 +139,31 @@ public final class Recorder implements AutoCloseable {
 
     /**
      * Returns a semaphore whose permits are clients of the plan: {@code acquire} begins a round of this kind, and {@code release}
-     * ends it. The next submit of the thread that holds a permit belongs to the permit, unless another job of the permit is open. The
-     * get of that job is recorded at {@code release}, as the permit's. A get of it by a round is not recorded.
+     * ends it. The next submit of the thread that holds a permit belongs to the permit, unless another job of the permit is open.
+     * The get of that job is recorded at {@code release}, as the permit's. A get of it by a round is not recorded.
      *
-     * <p>{@code release} may run on any thread. It gives back the permit of the job that runs on the thread, and records the end of
-     * that job; otherwise that of the job that ran there last, as in {@code afterExecute}; otherwise the latest that the thread acquired
-     * and that has no unfinished job; otherwise any whose jobs are done. So if a thread has an unused permit and gives back that of a
-     * job that it took from a completion service, the wrong round ends: let it submit first.
+     * <p>{@code release} may run on any thread. It gives back the permit of the job that runs on the thread, and records the end
+     * of that job; otherwise that of the job that ran there last, as in {@code afterExecute}; otherwise the latest that the
+     * thread acquired and that has no unfinished job; otherwise any whose jobs are done. So if a thread has an unused permit and
+     * gives back that of a job that it took from a completion service, the wrong round ends: let it submit first.
      *
-     * <p>If a thread has two jobs open within one permit, the second submit is recorded as the thread's own. Begin a {@link #round}
-     * where it acquires such a permit, and use a plain semaphore.
+     * <p>If a thread has two jobs open within one permit, the second submit is recorded as the thread's own. Begin a
+     * {@link #round} where it acquires such a permit, and use a plain semaphore.
      */
     public Semaphore permits(String kind, int permits) {
         return permits(kind, permits, false);
     }
 
-    /** Returns the same as {@link #permits(String, int)}, with the fairness that {@link Semaphore} defines. */
+    /** Returns a semaphore as {@link #permits(String, int)} does, with the fairness that {@link Semaphore} defines. */
     public Semaphore permits(String kind, int permits, boolean fair) {
         return new RecordedSemaphore(log, Objects.requireNonNull(kind), permits, fair);
     }
 
     /**
-     * Returns a task for another thread, such as a scheduler's, that continues with the permit in use here: that of the job that runs
-     * or has just ended on this thread, or otherwise the latest that the thread acquired. When the task runs, the permit's round ends
-     * and its next one begins, and the next submit of that thread belongs to it. If no permit is in use here, returns the task itself.
+     * Returns a task for another thread, such as a scheduler's, that continues with the permit in use here: that of the job that
+     * runs or has just ended on this thread, or otherwise the latest that the thread acquired. When the task runs, the permit's
+     * round ends and its next one begins, and the next submit of that thread belongs to it. If no permit is in use here, returns
+     * the task itself.
      *
      * <pre>{@code
      * CompletableFuture.supplyAsync(send, mails).whenComplete((receipt, failed) -> {
@@ -186,25 +187,27 @@ public final class Recorder implements AutoCloseable {
     }
 
     /**
-     * Returns the task with the label as the class of its jobs. A lambda that may be a {@code Runnable} or a {@code Callable} is
-     * this, so for {@code execute} write the lambda's body in braces.
+     * Returns the task with the label as the class of its jobs. A lambda that could be a {@code Runnable} or a {@code Callable}
+     * selects this overload. For {@code execute}, write the body of the lambda in braces.
      */
     public static <V> Callable<V> label(String label, Task<V> task) {
         return new Labelled.Call<>(Objects.requireNonNull(label), Objects.requireNonNull(task));
     }
 
     /**
-     * Returns a view of the pool whose jobs all have the label as their class: for {@code CompletableFuture.supplyAsync(.., pool)}
-     * and others that wrap the tasks that they are given. Returns a pool that is not recorded unchanged.
+     * Returns a view of the pool whose jobs all have the label as their class. Use it for
+     * {@code CompletableFuture.supplyAsync(.., pool)} and other methods that wrap the tasks that they submit. Returns the pool
+     * itself if it is not recorded.
      */
     public static ExecutorService label(String label, ExecutorService pool) {
         return pool instanceof RecordedPool recorded ? recorded.labelled(label) : pool;
     }
 
     /**
-     * Ends the recording and waits until it is written. Only the calling thread waits. The pools keep working, unrecorded.
+     * Ends the recording and waits until it is written. Only the calling thread waits. The pools continue to work and are no
+     * longer recorded.
      *
-     * @throws IOException if the writer failed: the recording is cut off there
+     * @throws IOException if the writer failed, so that the recording is cut off
      */
     @Override
     public void close() throws IOException {
@@ -214,7 +217,7 @@ public final class Recorder implements AutoCloseable {
         lines.close();
     }
 
-    /** One round of a client, until {@link #close}. */
+    /** A round of a client, until {@link #close}. */
     public static final class Round implements AutoCloseable {
         private final ActorLog log;
         private Actor round;
@@ -224,7 +227,11 @@ public final class Recorder implements AutoCloseable {
             this.round = round;
         }
 
-        /** @throws IllegalStateException on another thread than the one that began the round */
+        /**
+         * Ends the round.
+         *
+         * @throws IllegalStateException on another thread than the one that began the round
+         */
         @Override
         public void close() {
             if (round != null) {

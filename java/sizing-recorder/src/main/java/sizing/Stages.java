@@ -20,12 +20,12 @@ import java.util.function.Supplier;
 /**
  * The stages of CompletableFutures on recorded pools.
  *
- * <p>A pool gets a stage by {@code execute}, as an object of a private class of the JDK. Its fields say which future it completes,
- * which futures it comes after, and which function it calls. They are readable if {@code java.util.concurrent} is open to this
- * package; otherwise a stage is recorded as a command like any other.
+ * <p>A pool gets a stage by {@code execute}, as an object of a private class of the JDK. The object's fields hold the future that
+ * the stage completes, the futures after which it comes, and the function that it calls. They are readable if
+ * {@code java.util.concurrent} is open to this package. Otherwise a stage is recorded as any other command.
  *
- * <p>A stage's future is done before its {@code run} returns, and a thread that waits for it may continue at once. So the function
- * of the stage is replaced by one that also records the end of the job.
+ * <p>A stage's future is done before its {@code run} returns, and a thread that waits for it may continue at once. So this class
+ * replaces the function of the stage by one that also records the end of the job.
  */
 final class Stages {
     private static final Logger LOGGER = System.getLogger("sizing");
@@ -41,10 +41,10 @@ final class Stages {
      * A stage that is being submitted.
      *
      * @param completion the object that the pool was given
-     * @param function what the stage calls
-     * @param future the future that it completes
-     * @param sources the jobs that the stage comes after
-     * @param isDependent whether it comes after another future at all
+     * @param function the function that the stage calls
+     * @param future the future that the stage completes
+     * @param sources the jobs after which the stage comes
+     * @param isDependent whether the stage comes after another future
      */
     record Stage(Object completion, Object function, CompletableFuture<?> future, List<Job> sources, boolean isDependent) {}
 
@@ -52,7 +52,7 @@ final class Stages {
         this.log = log;
     }
 
-    /** Returns the stage that this task is, or null if it is none or its fields are not readable. */
+    /** Returns the stage that the task runs, or null if the task is no stage or its fields are not readable. */
     Stage of(Runnable task) {
         if (!(task instanceof CompletableFuture.AsynchronousCompletionTask)) {
             return null;
@@ -90,7 +90,9 @@ final class Stages {
         JdkFields.set(stage.completion, "fn", around(stage.function, () -> log.endStage(job, stage)));
     }
 
-    /** Returns whether this thread runs a function of a stage whose source was done when the stage was built, as in thenCompose. */
+    /**
+     * Returns whether this thread runs a function of a stage whose source was done when the stage was built, as in thenCompose.
+     */
     static boolean isInFunctionOfStage() {
         return StackWalker.getInstance().walk(frames -> frames.limit(MAX_FRAMES).map(StackWalker.StackFrame::getClassName)
                 .dropWhile(name -> !name.equals(FUTURE)).dropWhile(FUTURE::equals).anyMatch(FUTURE::equals));
@@ -102,8 +104,9 @@ final class Stages {
     private record Dependent(CompletableFuture<?> future, boolean hasOtherSources) {}
 
     /**
-     * Notes which futures the stage completes besides its own, through stages that run in no pool. Returns how the thread waits for
-     * one of them or a future that depends on them: for all of several sources, as with {@code allOf}, or for this stage.
+     * Assigns the job to the futures that the stage also completes, through stages that run in no pool. Returns the way in which
+     * the thread waits for the stage's future or for one that depends on it: {@code FOR_ALL} if it waits for several sources, as
+     * with {@code allOf}, {@code FOR_STAGE} if it waits for this stage alone, and otherwise {@code NONE}.
      */
     Wait recordDependents(Stage stage, Job job, Thread thread) {
         Wait wait = Wait.NONE;
@@ -130,7 +133,7 @@ final class Stages {
         return wait;
     }
 
-    /** Returns a function of the same kind that also runs this after it. */
+    /** Returns a function of the same kind that then runs {@code after}, even if the function throws an exception. */
     @SuppressWarnings({"unchecked", "rawtypes"})
     private static Object around(Object function, Runnable after) {
         if (function instanceof Supplier given) {

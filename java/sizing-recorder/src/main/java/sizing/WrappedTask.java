@@ -1,6 +1,6 @@
 package sizing;
 
-/** A task that runs a recorded one inside, such as one of ExecutorCompletionService or a decorated one. */
+/** A task around a recorded one, such as a task of ExecutorCompletionService or a decorated task. */
 record WrappedTask(Job job, Runnable task) implements Recorded, Runnable {
     @Override
     public void run() {

@@ -17,9 +17,11 @@ import java.util.concurrent.ThreadPoolExecutor;
 import java.util.concurrent.TimeUnit;
 import org.junit.jupiter.api.Test;
 
-/** A JVM in which {@code java.util.concurrent} is not open to the recorder. */
+/** A test in a JVM in which {@code java.util.concurrent} is not open to the recorder. */
 class ClosedPackageTest {
-    /** Records two chains and prints the lines of the actors. */
+    /**
+     * Records two chains and prints the lines of the rounds. Then prints the differences between a wrapped executor and a plan.
+     */
     public static void main(String[] none) throws Exception {
         StringWriter text = new StringWriter();
         Recorder recorder = Recorder.to(text);

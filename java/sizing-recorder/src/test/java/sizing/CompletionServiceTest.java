@@ -13,7 +13,7 @@ import java.util.concurrent.Future;
 import java.util.concurrent.TimeUnit;
 import org.junit.jupiter.api.Test;
 
-/** Jobs of an {@code ExecutorCompletionService} over a recorded pool. */
+/** Tests of jobs of an {@code ExecutorCompletionService} over a recorded pool. */
 class CompletionServiceTest {
     private final Recording recording = new Recording();
     private final ExecutorService pool = recording.pool("p", Recording.executor(1, 1, 9));
@@ -38,7 +38,7 @@ class CompletionServiceTest {
         }
     }
 
-    /** Lets a row end, and takes it. */
+    /** Lets a row end, and takes it from the service. */
     private Future<Integer> takeHeld(ExecutorCompletionService<Integer> rows, int row) throws Exception {
         latches.get(row).countDown();
         Future<Integer> taken = rows.take();

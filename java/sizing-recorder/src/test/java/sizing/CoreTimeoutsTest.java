@@ -14,7 +14,7 @@ import java.util.concurrent.LinkedBlockingQueue;
 import java.util.concurrent.ThreadPoolExecutor;
 import org.junit.jupiter.api.Test;
 
-/** Differences between executors and a plan whose core threads may time out, and their lines in a recording. */
+/** Tests of the differences between executors and a plan whose core threads may time out, and of their lines in a recording. */
 class CoreTimeoutsTest {
     private static final String BOOT = "pool = [{name = 'tasks', core = 8, max = 'unbounded', queue = 'unbounded', core_timeout = true}]";
     private static final String SIXTEEN = BOOT.replace("max = 'unbounded'", "max = 16");
@@ -114,7 +114,8 @@ class CoreTimeoutsTest {
         Map<String, ThreadPoolExecutor> executors = unbounded(Integer.MAX_VALUE, true);
         executors.get("tasks").setRejectedExecutionHandler(new ThreadPoolExecutor.DiscardOldestPolicy());
         PlanCheck.check(file(BOOT), executors);
-        assertEquals(List.of("pool tasks: handler DiscardOldestPolicy, which a safe plan never calls"), PlanCheck.differences(file(BOOT), executors));
+        assertEquals(List.of("pool tasks: handler DiscardOldestPolicy, which is never called if the plan is safe"),
+                PlanCheck.differences(file(BOOT), executors));
     }
 
     @Test

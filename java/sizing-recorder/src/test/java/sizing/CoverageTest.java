@@ -13,18 +13,20 @@ import java.util.concurrent.ThreadPoolExecutor;
 import java.util.concurrent.TimeUnit;
 import org.junit.jupiter.api.Test;
 
-/** What a recording shows of uses that docs/COVERAGE.md lists. {@code checks/java} shows what the executors do in them. */
+/**
+ * Tests of the recordings of uses that docs/COVERAGE.md lists. {@code checks/java} shows the behaviour of the executors there.
+ */
 class CoverageTest {
     private final Recording recording = new Recording();
 
-    /** Runs the pool to its end, and returns the lines that contain the word. */
+    /** Shuts down the pool, waits until it has terminated, and returns the lines that contain the word. */
     private List<String> linesWith(String word, ThreadPoolExecutor executor) throws Exception {
         executor.shutdown();
         assertTrue(executor.awaitTermination(60, TimeUnit.SECONDS));
         return recording.lines().stream().filter(line -> line.contains(word)).toList();
     }
 
-    /** Returns an executor whose threads end without a message if a task throws. */
+    /** Returns an executor whose threads end without a message if a task throws an exception. */
     private static ThreadPoolExecutor silent(BlockingQueue<Runnable> queue) {
         ThreadPoolExecutor executor = Recording.executor(1, 1, queue);
         executor.setThreadFactory(task -> {

@@ -10,7 +10,7 @@ import java.util.concurrent.ThreadPoolExecutor;
 import java.util.function.UnaryOperator;
 import org.junit.jupiter.api.Test;
 
-/** Pools with a decorator of tasks. */
+/** Tests of pools with a decorator of tasks. */
 class DecoratorTest {
     private final Recording recording = new Recording();
 

@@ -16,7 +16,7 @@ import java.util.concurrent.ThreadPoolExecutor;
 import java.util.concurrent.TimeUnit;
 import org.junit.jupiter.api.Test;
 
-/** Gets, cancels, `invokeAll` and `invokeAny`. */
+/** Tests of gets, cancels, `invokeAll` and `invokeAny`. */
 class FutureTest {
     @Test
     void aJobThatThrowsIsRecordedAsEndedAndGot() throws Exception {

@@ -4,7 +4,7 @@ import static org.junit.jupiter.api.Assertions.assertEquals;
 
 import org.junit.jupiter.api.Test;
 
-/** The names of docs/RECORDING.md. */
+/** Tests of the names of docs/RECORDING.md. */
 class NamesTest {
     private static final class PriceQuery {}
 

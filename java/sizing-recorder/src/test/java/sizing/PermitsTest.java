@@ -23,7 +23,7 @@ import java.util.concurrent.TimeUnit;
 import java.util.concurrent.atomic.AtomicReference;
 import org.junit.jupiter.api.Test;
 
-/** Permits as rounds. */
+/** Tests of permits, which are rounds. */
 class PermitsTest {
     private static final String[] ONE_MAIL = {"round 0 begin permit", "round 0 submit 0 send mail", "job 0 start", "job 0 end",
         "round 0 got 0", "round 0 end"};
@@ -38,7 +38,7 @@ class PermitsTest {
         assertTrue(permits.tryAcquire(count, 60, TimeUnit.SECONDS));
     }
 
-    /** Returns the lines without those of the two permits that {@link #awaitPermits} took at the end. */
+    /** Returns the lines without the last two, with which {@link #awaitPermits} takes both permits. */
     private List<String> actsOfJobs() throws Exception {
         List<String> acts = recording.acts();
         return acts.subList(0, acts.size() - 2);
@@ -340,7 +340,7 @@ class PermitsTest {
         return acts.stream().filter(line -> line.startsWith("round " + round + " ")).toList();
     }
 
-    /** Each round from the first to the last submits the job of its number, gets it, and ends. */
+    /** Asserts that each round submits the job with the round's number, gets it, and ends. */
     private static void assertSubmitAndGet(List<String> acts, String kind, String where, int rounds) {
         for (int number = 0; number < rounds; number++) {
             String round = "round " + number + " ";
@@ -349,7 +349,7 @@ class PermitsTest {
         }
     }
 
-    /** A row of a flatMap that ends only after its stage is attached, so that a thread of the pool runs the stage. */
+    /** Submits a row of a flatMap. The row ends only after its stage is attached, so that a thread of the pool runs the stage. */
     private static void row(ExecutorService load, CountDownLatch mayEnd, Runnable stage) {
         CountDownLatch attached = new CountDownLatch(1);
         CompletableFuture.runAsync(() -> {
@@ -360,8 +360,9 @@ class PermitsTest {
     }
 
     /**
-     * Thread 1 submits row 2 and later gives back a permit that it did not use. Meanwhile row 2 is done, and thread 2, which submitted
-     * row 3, is about to give back its permit. If thread 1 ended the round of row 2, thread 2 would end that of row 3, which is open.
+     * Checks that a release of an unused permit does not end the round of another thread. Thread 1 submits row 2 and later gives
+     * back a permit that it did not use. Meanwhile row 2 is done, and thread 2, which submitted row 3, is about to give back its
+     * permit. If thread 1 ended the round of row 2, thread 2 would end the round of row 3, which is open.
      */
     @Test
     void aReleaseOfAnUnusedPermitDoesNotEndOneThatAnotherThreadGivesBack() throws Exception {

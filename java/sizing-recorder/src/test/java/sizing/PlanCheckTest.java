@@ -24,7 +24,7 @@ import java.util.concurrent.TimeUnit;
 import java.util.concurrent.atomic.AtomicBoolean;
 import org.junit.jupiter.api.Test;
 
-/** Differences between executors and a plan. */
+/** Tests of the differences between executors and a plan. */
 class PlanCheckTest {
     private static final String PLAN = """
             # two pools
@@ -85,7 +85,7 @@ class PlanCheckTest {
             body = ["submit ping", "submit query as p", "get p"]
             """;
 
-    /** A handler that is none of the JDK. */
+    /** A handler that the JDK does not have. */
     private static class Retry implements RejectedExecutionHandler {
         @Override
         public void rejectedExecution(Runnable task, ThreadPoolExecutor executor) {
@@ -199,7 +199,8 @@ class PlanCheckTest {
         for (String key : new String[] {"", ", may_reject = true"}) {
             Path plan = file(UNBOUNDED.replace("}]", key + "}]"));
             PlanCheck.check(plan, Map.of("tasks", executor));
-            assertEquals(List.of("pool tasks: handler DiscardOldestPolicy, which a safe plan never calls"), PlanCheck.differences(plan, Map.of("tasks", executor)));
+            assertEquals(List.of("pool tasks: handler DiscardOldestPolicy, which is never called if the plan is safe"),
+                    PlanCheck.differences(plan, Map.of("tasks", executor)));
         }
     }
 
@@ -272,7 +273,8 @@ class PlanCheckTest {
     void aHandlerIsListedButDoesNotFailTheCheck() throws Exception {
         Map<String, ThreadPoolExecutor> executors = executors();
         executors.get("web").setRejectedExecutionHandler(new ThreadPoolExecutor.CallerRunsPolicy());
-        assertEquals(List.of("pool web: handler CallerRunsPolicy, which a safe plan never calls"), PlanCheck.differences(file(PLAN), executors));
+        assertEquals(List.of("pool web: handler CallerRunsPolicy, which is never called if the plan is safe"),
+                PlanCheck.differences(file(PLAN), executors));
         PlanCheck.check(file(PLAN), executors);
     }
 
@@ -287,10 +289,9 @@ class PlanCheckTest {
         Map<String, ThreadPoolExecutor> executors = shedding(new ThreadPoolExecutor.CallerRunsPolicy());
         Path plan = file(SHEDDING + GETS);
         PlanCheck.check(plan, executors);
-        assertEquals(List.of(
-                "pool bulkhead: handler CallerRunsPolicy, so the plan needs the body of class call in place before each submit of it",
-                "pool bulkhead: handler CallerRunsPolicy, so the plan needs the body of class late in place before each submit of it"),
-                PlanCheck.differences(plan, executors));
+        String copy = "pool bulkhead: handler CallerRunsPolicy, so copy the actions of class ";
+        assertEquals(List.of(copy + "call in front of each `submit call` if they are not there",
+                copy + "late in front of each `submit late` if they are not there"), PlanCheck.differences(plan, executors));
         handled(new ThreadPoolExecutor.CallerRunsPolicy(), NO_GETS);
     }
 
@@ -326,11 +327,13 @@ class PlanCheckTest {
         executors.get("db").setRejectedExecutionHandler(new Retry());
         Path plan = file(SHEDDING + GETS);
         PlanCheck.check(plan, executors);
-        assertEquals(List.of("pool db: handler Retry, which a safe plan never calls"), PlanCheck.differences(plan, executors));
+        assertEquals(List.of("pool db: handler Retry, which is never called if the plan is safe"),
+                PlanCheck.differences(plan, executors));
         Path without = file(SHEDDING.replace("may_reject = true", "may_reject = false") + GETS);
         executors.get("bulkhead").setRejectedExecutionHandler(new ThreadPoolExecutor.DiscardPolicy());
         PlanCheck.check(without, executors);
-        assertEquals("pool bulkhead: handler DiscardPolicy, which a safe plan never calls", PlanCheck.differences(without, executors).get(0));
+        assertEquals("pool bulkhead: handler DiscardPolicy, which is never called if the plan is safe",
+                PlanCheck.differences(without, executors).get(0));
     }
 
     @Test
@@ -428,7 +431,7 @@ class PlanCheckTest {
         return executors;
     }
 
-    /** Compares a pool that may reject and has this handler. */
+    /** Checks the lines for a pool with {@code may_reject} and this handler. */
     private static void handled(RejectedExecutionHandler handler, String bodies, String... lines) throws Exception {
         compared(file(SHEDDING + bodies), shedding(handler), lines);
     }

@@ -13,7 +13,7 @@ import java.util.Map;
 import java.util.stream.Stream;
 import org.junit.jupiter.api.Test;
 
-/** The part of TOML that plans use. */
+/** Tests of the part of TOML that plans use. */
 class PlanTomlTest {
     @Test
     void tablesListsAndValuesAreRead() throws Exception {

@@ -28,14 +28,14 @@ import java.util.concurrent.atomic.AtomicBoolean;
 import org.junit.jupiter.api.Test;
 import org.junit.jupiter.api.function.Executable;
 
-/** Pools, jobs, rounds and labels. */
+/** Tests of pools, jobs, rounds and labels. */
 class RecorderTest {
     private static final class PriceQuery implements Runnable {
         @Override
         public void run() {}
     }
 
-    /** A queue of another class, which may have another order. */
+    /** A queue of a subclass, which may have another order. */
     private static final class OwnQueue extends LinkedBlockingQueue<Runnable> {
         private static final long serialVersionUID = 1;
     }
@@ -89,8 +89,9 @@ class RecorderTest {
         Recording recording = new Recording();
         ThreadPoolExecutor executor = Recording.executor(1, 1, 1);
         recording.pool("Web Pool", executor);
-        assertEquals("IllegalArgumentException: pool web_pool is recorded already", thrownBy(() -> recording.pool("web_pool")));
-        assertEquals("IllegalArgumentException: the executor of pool db is recorded already", thrownBy(() -> recording.pool("db", executor)));
+        assertEquals("IllegalArgumentException: pool web_pool is already recorded", thrownBy(() -> recording.pool("web_pool")));
+        assertEquals("IllegalArgumentException: the executor of pool db is already recorded",
+                thrownBy(() -> recording.pool("db", executor)));
         assertEquals(3, recording.lines().size());
     }
 
@@ -299,7 +300,8 @@ class RecorderTest {
     void aRoundIsClosedOnceByItsOwnThread() throws Exception {
         Recording recording = new Recording();
         Recorder.Round round = recording.recorder.round("a");
-        Recording.on("other", () -> assertEquals("IllegalStateException: a round is closed by the thread that began it", thrownBy(round::close)));
+        Recording.on("other", () -> assertEquals("IllegalStateException: only the thread that began a round may close it",
+                thrownBy(round::close)));
         round.close();
         round.close();
         assertLines(recording.acts(), "round 0 begin a", "round 0 end");

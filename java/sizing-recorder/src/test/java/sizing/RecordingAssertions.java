@@ -10,12 +10,12 @@ import org.junit.jupiter.api.function.Executable;
 final class RecordingAssertions {
     private RecordingAssertions() {}
 
-    /** Compares lines as one text, so that a failure shows all of them. */
+    /** Asserts that the lines are equal. Compares them as one text, so that a failure shows all of them. */
     static void assertLines(List<String> found, String... wanted) {
         assertEquals(String.join("\n", wanted), String.join("\n", found));
     }
 
-    /** Returns the simple name of the exception that the body throws, and its message. */
+    /** Returns the simple name and the message of the exception that the body throws. */
     static String thrownBy(Executable body) {
         Exception thrown = assertThrows(Exception.class, body);
         return thrown.getClass().getSimpleName() + ": " + thrown.getMessage();

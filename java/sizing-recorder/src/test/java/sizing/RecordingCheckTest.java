@@ -6,7 +6,7 @@ import java.util.ArrayList;
 import java.util.List;
 import org.junit.jupiter.api.Test;
 
-/** Recordings that break each rule. */
+/** Tests of {@link RecordingCheck} with recordings that break each rule. */
 class RecordingCheckTest {
     private static final String POOL = "pool p core 1 max 2 queue array 3 timeout no prestarted 0 handler abort";
     private static final List<String> WHOLE = List.of("recording 1", POOL, "round 0 begin c", "round 0 submit 0 a p", "job 0 start",
@@ -79,7 +79,10 @@ class RecordingCheckTest {
         }
     }
 
-    /** Asserts that the last of these lines, put before the line of this number, breaks the rule, and that those before it do not. */
+    /**
+     * Asserts that the last of these lines breaks the rule if the lines are put before the line of this number, and that the
+     * others break none.
+     */
     private static void finds(String rule, int before, String... lines) {
         List<String> all = new ArrayList<>(WHOLE.subList(0, before - 1));
         for (int at = 0; at < lines.length - 1; at++) {
@@ -89,7 +92,7 @@ class RecordingCheckTest {
         all.add(lines[lines.length - 1]);
         List<String> found = RecordingCheck.faults(all);
         if (!found.contains("line " + all.size() + ": " + rule)) {
-            throw new AssertionError("of " + lines[lines.length - 1] + " " + found + " is found, wanted " + rule);
+            throw new AssertionError(lines[lines.length - 1] + ": expected " + rule + ", but was " + found);
         }
     }
 }

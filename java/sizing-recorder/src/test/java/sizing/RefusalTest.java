@@ -15,7 +15,7 @@ import java.util.concurrent.ThreadPoolExecutor;
 import java.util.concurrent.atomic.AtomicInteger;
 import org.junit.jupiter.api.Test;
 
-/** Refusals by each handler, and shutdowns. */
+/** Tests of refusals by each handler, and of shutdowns. */
 class RefusalTest {
     @Test
     void abortPolicyRecordsARefusal() throws Exception {
@@ -95,7 +95,7 @@ class RefusalTest {
         assertLines(recording.acts(), "round 0 begin c", "round 0 submit 0 a p", "round 0 refused 0", "round 0 end");
     }
 
-    /** Returns the lines since the third submit, which comes while one job runs and one is queued. */
+    /** Returns the lines since the third submit, which is made while one job runs and one is queued. */
     private static List<String> third(RejectedExecutionHandler handler, boolean throwing) throws Exception {
         Recording recording = new Recording();
         ThreadPoolExecutor executor = Recording.executor(1, 1, 1);
@@ -119,7 +119,7 @@ class RefusalTest {
         return acts.subList(acts.indexOf("round 0 submit 2 third p"), acts.size());
     }
 
-    /** Submits a job that runs and one that is queued. */
+    /** Submits two jobs, and waits until the first one runs. The second one is queued. */
     private static void hold(ExecutorService pool, CountDownLatch started, CountDownLatch go) throws InterruptedException {
         pool.submit(Recorder.label("first", () -> {
             started.countDown();

@@ -17,7 +17,7 @@ import java.util.concurrent.TimeUnit;
 import java.util.function.UnaryOperator;
 import org.junit.jupiter.api.Test;
 
-/** Chains of CompletableFutures. */
+/** Tests of chains of CompletableFutures. */
 class StagesTest {
     private final Recording recording = new Recording();
     private final ExecutorService io = recording.pool("io", Recording.executor(2, 2, 9));
@@ -29,7 +29,7 @@ class StagesTest {
         return recording.acts().stream().filter(line -> line.startsWith("round " + number + " ")).toList();
     }
 
-    /** Returns a task that ends once the thread waits, so that what it does next comes after the end of the task. */
+    /** Waits until the thread waits, and returns the value. So the thread acts only after the task that calls this has ended. */
     private static <T> T whenWaiting(Thread thread, T value) {
         for (int turn = 0; turn < 60_000 && thread.getState() != Thread.State.WAITING; turn++) {
             pause();
@@ -223,7 +223,7 @@ class StagesTest {
                 "round 0 end");
     }
 
-    /** Waits without a join, which a recorder would see. */
+    /** Waits until the future is done, without a join, which a recorder would see. */
     private static void awaitDone(CompletableFuture<?> future) {
         for (int turn = 0; turn < 60_000 && !future.isDone(); turn++) {
             pause();

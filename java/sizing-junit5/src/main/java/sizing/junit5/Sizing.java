@@ -51,14 +51,14 @@ public final class Sizing {
         return recording;
     }
 
-    /** Returns the recorder, for what this class does not offer. */
+    /** Returns the recorder, for methods that this class lacks. */
     public Recorder recorder() {
         return recorder;
     }
 
     /**
-     * Returns a recorded executor with the sizes of the plan's pool. The first call for a pool creates it, and it is shut down after
-     * the tests of the class.
+     * Returns a recorded executor with the sizes of the plan's pool. The first call for a pool creates it, and it is shut down
+     * after the tests of the class.
      *
      * @throws IllegalArgumentException if the plan has no such pool
      */
@@ -76,13 +76,14 @@ public final class Sizing {
     /**
      * Returns a recorded view of the service's own executor.
      *
-     * @throws AssertionFailedError if its sizes are not those of the plan's pool
+     * @throws AssertionFailedError if the executor differs from the plan's pool
      */
     public synchronized ExecutorService pool(String name, ThreadPoolExecutor executor) throws IOException {
         List<String> differences = PlanCheck.differences(plan, Map.of(name, executor)).stream()
                 .filter(line -> line.startsWith("pool " + name + ": ") && !line.startsWith("pool " + name + ": handler ")).toList();
         if (!differences.isEmpty()) {
-            throw new AssertionFailedError("the executor is not that of " + plan + ":\n  " + String.join("\n  ", differences));
+            throw new AssertionFailedError("the executor differs from the pool of " + plan + ":\n  "
+                    + String.join("\n  ", differences));
         }
         ExecutorService pool = recorder.pool(name, executor);
         pools.put(name, pool);
@@ -100,8 +101,7 @@ public final class Sizing {
     }
 
     /**
-     * Runs the body on this number of threads at once, each of which runs it as this number of rounds of the kind, one after the
-     * other.
+     * Runs the body on this number of threads at once. Each thread runs it as this number of rounds of the kind, in sequence.
      *
      * @throws AssertionFailedError with the first exception of a body as its cause, or if no round ends for 60 seconds
      */
@@ -146,7 +146,7 @@ public final class Sizing {
                 long alive = clients.stream().filter(Thread::isAlive).count();
                 clients.forEach(Thread::interrupt);
                 throw new AssertionFailedError("no round of kind " + kind + " ended for " + MAX_IDLE_SECONDS + " seconds, and " + alive
-                        + " of " + clients.size() + " threads are in one");
+                        + " of " + clients.size() + " threads are still in a round");
             }
             for (Thread client : clients) {
                 client.join(Math.max(1, 100 / clients.size()));

@@ -71,7 +71,7 @@ final class SizingExtension implements BeforeAllCallback, AfterAllCallback, Para
         return relative(Path.of(resource.toURI()));
     }
 
-    /** Returns the path from the working directory, if the file is inside it, for shorter messages. */
+    /** Returns the path relative to the working directory if the file is inside it, for shorter messages. */
     private static Path relative(Path file) {
         Path here = Path.of("").toAbsolutePath();
         return file.startsWith(here) ? here.relativize(file) : file;
@@ -86,7 +86,7 @@ final class SizingExtension implements BeforeAllCallback, AfterAllCallback, Para
     public Object resolveParameter(ParameterContext parameter, ExtensionContext context) {
         Sizing sizing = context.getStore(NAMESPACE).get(Sizing.class, Sizing.class);
         if (sizing == null) {
-            throw new ParameterResolutionException("a parameter of type Sizing needs @SizingPlan on the class of the test");
+            throw new ParameterResolutionException("a parameter of type Sizing needs @SizingPlan on the test class");
         }
         return sizing;
     }

@@ -9,8 +9,9 @@ import java.lang.annotation.Target;
 import org.junit.jupiter.api.extension.ExtendWith;
 
 /**
- * Marks a class whose tests run the service of a plan. Before the tests the plan must be safe ({@code sizing ask --strict}). After
- * them, if a test took a pool from {@link Sizing}, the recording must conform to the plan ({@code sizing conform}).
+ * An annotation for a class whose tests run the service of a plan. Before the tests the plan must be safe
+ * ({@code sizing ask --strict}). After them, if a test took a pool from {@link Sizing}, the recording must conform to the plan
+ * ({@code sizing conform}).
  *
  * <pre>{@code
  * @SizingPlan("shop.toml")
@@ -24,7 +25,7 @@ import org.junit.jupiter.api.extension.ExtendWith;
  * }</pre>
  *
  * <p>The recording is kept as {@code target/sizing/CLASS.recording}, or in the directory that the property
- * {@code sizing.recordings} names. {@link SizingAssertions} says how the program is found.
+ * {@code sizing.recordings} names. {@link SizingAssertions} describes the search for the program.
  */
 @Documented
 @Inherited
@@ -35,7 +36,7 @@ public @interface SizingPlan {
     /** Returns the plan: a file, or if there is none of that name, a resource of the test's class path. */
     String value();
 
-    /** Returns the plan's certificate, found as the plan is. With one {@code ask} searches for none. */
+    /** Returns the plan's certificate, found as the plan is. With a certificate, {@code ask} makes no search. */
     String certificate() default "";
 
     /** Returns whether the plan must be safe before the tests run. */

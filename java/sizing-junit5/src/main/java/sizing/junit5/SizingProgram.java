@@ -13,7 +13,10 @@ import java.util.stream.Stream;
 import org.opentest4j.AssertionFailedError;
 import org.opentest4j.TestAbortedException;
 
-/** The program {@code sizing}: that of the property {@code sizing.program}, of the variable {@code SIZING}, or on the path. */
+/**
+ * The program {@code sizing}: the file that the property {@code sizing.program} or the variable {@code SIZING} names, or the one
+ * on the path.
+ */
 final class SizingProgram {
     private static final long MAX_SECONDS = 300;
     private static final String HOW = " Install the program sizing from its release, and put it on the PATH or name it by "
@@ -28,7 +31,7 @@ final class SizingProgram {
 
     private SizingProgram() {}
 
-    /** Returns the program, if there is one. */
+    /** Returns the path of the program, or empty if none is named or on the path. */
     static Optional<Path> find() {
         return Stream.of(System.getProperty("sizing.program"), System.getenv("SIZING"))
                 .filter(name -> name != null && !name.isBlank()).map(Path::of).findFirst().or(SizingProgram::onPath);
@@ -76,7 +79,7 @@ final class SizingProgram {
             process.getOutputStream().close();
             if (!process.waitFor(MAX_SECONDS, TimeUnit.SECONDS)) {
                 process.destroyForcibly();
-                throw new IOException("it did not end within " + MAX_SECONDS + " seconds");
+                throw new IOException("the program did not end within " + MAX_SECONDS + " seconds");
             }
             return new Answer(process.exitValue(), read(output), read(errors));
         } finally {

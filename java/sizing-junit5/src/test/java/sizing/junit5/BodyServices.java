@@ -19,7 +19,10 @@ import java.util.concurrent.TimeUnit;
 import java.util.concurrent.TimeoutException;
 import java.util.function.IntSupplier;
 
-/** Services for the entries of docs/PATTERNS.md on bodies: right uses, and uses that the page does not cover and a recording shows. */
+/**
+ * Services for the entries of docs/PATTERNS.md on bodies: correct uses, and uses that the page does not cover and that `conform`
+ * reports.
+ */
 final class BodyServices {
     private BodyServices() {}
 
@@ -68,7 +71,7 @@ final class BodyServices {
         run.rounds("request", 1, 1, () -> prices.submit(task("price", 1)));
     }
 
-    /** An {@code if} around the get alone. */
+    /** Skips the get of a job, but not its submit. */
     static void getThatIsSkipped(ServiceRun run) throws Exception {
         ExecutorService prices = run.pool("prices");
         run.rounds("request", 1, 1, () -> {
@@ -77,7 +80,7 @@ final class BodyServices {
         });
     }
 
-    /** Both futures are got after the second submit. */
+    /** Gets both futures after the second submit. */
     static void getThatComesLater(ServiceRun run) throws Exception {
         ExecutorService prices = run.pool("prices");
         run.rounds("request", 1, 1, () -> {
@@ -110,7 +113,7 @@ final class BodyServices {
         })).get());
     }
 
-    /** The report gets the section that is done first, which is the second one that it submitted. */
+    /** Runs a report that gets the section that is done first, which is the second one that it submitted. */
     static void reportThatGetsTheFirstDone(ServiceRun run) throws Exception {
         ExecutorService reports = run.pool("reports");
         CountDownLatch taken = new CountDownLatch(1);

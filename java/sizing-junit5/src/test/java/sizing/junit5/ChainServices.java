@@ -14,7 +14,10 @@ import java.util.concurrent.Semaphore;
 import java.util.concurrent.TimeUnit;
 import java.util.concurrent.TimeoutException;
 
-/** Services for the entries of docs/PATTERNS.md on chains: right uses, and uses that the page does not cover and a recording shows. */
+/**
+ * Services for the entries of docs/PATTERNS.md on chains: correct uses, and uses that the page does not cover and that `conform`
+ * reports.
+ */
 final class ChainServices {
     private ChainServices() {}
 
@@ -90,7 +93,7 @@ final class ChainServices {
         });
     }
 
-    /** The caller stops waiting while the job of the first stage runs. */
+    /** Runs a caller that stops waiting while the job of the first stage runs. */
     private static void chainLeftBy(ServiceRun run, ChainEnd end) throws Exception {
         Chain chain = Chain.of(run);
         CountDownLatch started = new CountDownLatch(1);
@@ -105,7 +108,7 @@ final class ChainServices {
         });
     }
 
-    /** How the caller stops waiting. */
+    /** A way in which the caller stops waiting. */
     private interface ChainEnd {
         void of(CompletableFuture<Void> future) throws Exception;
     }
@@ -129,7 +132,7 @@ final class ChainServices {
         chainLeftBy(run, future -> future.get(1, TimeUnit.MILLISECONDS));
     }
 
-    /** Each of the two chains is a client of its own, for which it has a permit. */
+    /** Runs two chains at once. Each is a client with its own permit. */
     static void chainsSideBySide(ServiceRun run) throws Exception {
         Chain chain = Chain.of(run);
         Semaphore chains = run.permits("chain", 40);
@@ -183,7 +186,7 @@ final class ChainServices {
         })).get());
     }
 
-    /** A stage in no pool submits, in a thread that has completed its job. */
+    /** Submits a job from a stage in no pool. The stage runs on a thread of a pool, after the end of the thread's own job. */
     static void chainWithASubmitInNoPool(ServiceRun run) throws Exception {
         Chain chain = Chain.of(run);
         CountDownLatch joined = new CountDownLatch(1);
@@ -195,7 +198,7 @@ final class ChainServices {
         });
     }
 
-    /** The first stage is tried again while the second is open. */
+    /** Submits the first stage again while the second one is open. */
     static void retryBesideAnOpenStage(ServiceRun run) throws Exception {
         ExecutorService tasks = run.pool("tasks");
         ExecutorService profile = label("profile", tasks);

@@ -28,7 +28,10 @@ import java.util.concurrent.TimeoutException;
 import java.util.stream.IntStream;
 import java.util.stream.Stream;
 
-/** Services for the entries of docs/PATTERNS.md on clients: right uses, and uses that the page does not cover and a recording shows. */
+/**
+ * Services for the entries of docs/PATTERNS.md on clients: correct uses, and uses that the page does not cover and that `conform`
+ * reports.
+ */
 final class ClientServices {
     private ClientServices() {}
 
@@ -141,7 +144,7 @@ final class ClientServices {
         });
     }
 
-    /** A window that gets the oldest job first. */
+    /** Imports rows with a window that gets the oldest job first. */
     static void importWindowOfFutures(ServiceRun run) throws Exception {
         ExecutorService load = run.pool("load");
         run.threads("importer", 1, 1, () -> importRows(run, load, Collections.nCopies(500, task("row", 1))));
@@ -164,7 +167,7 @@ final class ClientServices {
         }
     }
 
-    /** The import ends with a job open, and the next one assumes that all places are free. */
+    /** Runs an import that ends with a job open, and then another one, which assumes that all places are free. */
     private static void importTwice(ServiceRun run, Iterable<Callable<Integer>> rows, Class<? extends Exception> planned) throws Exception {
         ExecutorService load = run.pool("load");
         run.threads("importer", 1, 1, () -> {
@@ -249,7 +252,7 @@ final class ClientServices {
         });
     }
 
-    /** Waits for a job, as the page's {@code await} does. */
+    /** Waits for a job, as {@code await} in docs/PATTERNS.md does. */
     private static <T> T await(Future<T> future) {
         try {
             return future.get();
@@ -269,7 +272,7 @@ final class ClientServices {
                 .forEach(order -> run.round(kindOfThread(), () -> await(prices.submit(task("price", 1))))));
     }
 
-    /** The common pool starts further threads while its workers wait in {@code join}. */
+    /** Submits from a parallel stream. The common pool starts further threads while its workers wait in {@code join}. */
     static void parallelStreamWithJoin(ServiceRun run) throws Exception {
         ExecutorService prices = label("price", run.pool("prices"));
         CountDownLatch started = new CountDownLatch(12);
@@ -284,7 +287,7 @@ final class ClientServices {
         run.rounds("consumer", 6, 20, () -> stock.submit(task("reserve", 1)).get());
     }
 
-    /** With asynchronous acknowledgement the listener returns while the job is open. */
+    /** Submits a job from a listener with asynchronous acknowledgement, which returns while the job is open. */
     static void kafkaListenerThatReturns(ServiceRun run) throws Exception {
         ExecutorService stock = label("reserve", run.pool("stock"));
         run.rounds("consumer", 1, 1, () -> CompletableFuture.runAsync(run::awaitEnd, stock));

@@ -22,8 +22,8 @@ import java.util.concurrent.TimeUnit;
 import java.util.function.Supplier;
 
 /**
- * Services for the entries of docs/PATTERNS.md on gets in another order than the submits, or sooner: right uses, and uses that the
- * page does not cover and a recording shows.
+ * Services for the entries of docs/PATTERNS.md on gets that come in another order than the submits, or sooner: correct uses, and
+ * uses that the page does not cover and that `conform` reports.
  */
 final class OrderServices {
     private static final int SHOPS = 4;
@@ -59,7 +59,7 @@ final class OrderServices {
             return label(label, next()::get);
         }
 
-        /** Lets one of the jobs end, and returns its number. */
+        /** Lets a random job end, and returns its number. */
         int release() {
             int number = held.remove(ThreadLocalRandom.current().nextInt(held.size()));
             latches.get(number).countDown();
@@ -95,7 +95,7 @@ final class OrderServices {
         run.rounds("request", 1, 1, () -> getQuotes(pool, SHOPS + 1));
     }
 
-    /** Takes each quote when it is done, and reads all of them afterwards. */
+    /** Submits quotes, takes each one when it is done, and reads all of them afterwards. Returns the sum. */
     private static int getQuotes(ExecutorService pool, int shops) throws InterruptedException, ExecutionException {
         ExecutorCompletionService<Integer> quotes = new ExecutorCompletionService<>(pool);
         for (int shop = 0; shop < shops; shop++) {
@@ -108,7 +108,7 @@ final class OrderServices {
         return sum(made);
     }
 
-    /** The request returns after the first quote. */
+    /** Returns from the request after the first quote. */
     static void completionServiceThatIsLeft(ServiceRun run) throws Exception {
         ExecutorService pool = run.pool("quotes");
         run.rounds("request", 1, 1, () -> {
@@ -119,7 +119,7 @@ final class OrderServices {
         });
     }
 
-    /** A get that throws leaves the loop while the second quote is open. */
+    /** Leaves the loop by a get that throws an exception, while the second quote is open. */
     static void completionServiceWithAGetThatThrows(ServiceRun run) throws Exception {
         ExecutorService pool = run.pool("quotes");
         run.rounds("request", 1, 1, () -> {
@@ -156,7 +156,7 @@ final class OrderServices {
         run.rounds("user", 20, 5, () -> reports.submit(label("report", () -> report(sections, upTo(TOPICS), WINDOW))).get());
     }
 
-    /** How a report makes its sections. */
+    /** The way in which a report makes its sections. */
     private interface Report {
         int make(ExecutorService sections) throws Exception;
     }
@@ -175,7 +175,7 @@ final class OrderServices {
         oneReport(run, sections -> report(sections, TOPICS + 1, WINDOW));
     }
 
-    /** A job of another class between two sections is a submit of its own. */
+    /** Submits a job of another class between two sections. */
     static void reportWithASummary(ServiceRun run) throws Exception {
         oneReport(run, sections -> {
             ExecutorCompletionService<Integer> made = new ExecutorCompletionService<>(sections);
@@ -228,7 +228,10 @@ final class OrderServices {
         return topics;
     }
 
-    /** The recorder writes a get when it is called, so the window looks greater than it is. */
+    /**
+     * Reads the sections at the end of the report. The recorder writes a get when it is called, so the window looks greater than
+     * it is.
+     */
     static void windowThatIsReadAtItsEnd(ServiceRun run) throws Exception {
         oneReport(run, sections -> {
             ExecutorCompletionService<Integer> made = new ExecutorCompletionService<>(sections);
@@ -312,7 +315,7 @@ final class OrderServices {
                 CompletableFuture.supplyAsync(run::valueAtEnd, quotes)).join());
     }
 
-    /** A stage that the loop adds to a future is one more submit. */
+    /** Adds a stage to a future, which is one more submit. */
     static void futuresWithAFurtherStage(ServiceRun run) throws Exception {
         ExecutorService quotes = run.pool("quotes");
         run.rounds("request", 1, 1, () -> CompletableFuture.supplyAsync(() -> work(1), label("quote", quotes))
@@ -391,7 +394,7 @@ final class OrderServices {
         }
     }
 
-    /** Gets each part once it is done, and counts it. */
+    /** Polls the parts, gets each one once it is done, and then counts the latch down. Returns the sum. */
     private static int poll(List<Future<Integer>> open, CountDownLatch done) throws InterruptedException, ExecutionException {
         int sum = 0;
         while (!open.isEmpty()) {
@@ -408,7 +411,7 @@ final class OrderServices {
         return sum;
     }
 
-    /** The loop submits a fifth part when the first one is done. */
+    /** Submits a fifth part in the loop, when the first one is done. */
     static void pollLoopThatSubmits(ServiceRun run) throws Exception {
         ExecutorService pages = run.pool("pages");
         run.rounds("user", 1, 1, () -> pages.submit(label("page", () -> {

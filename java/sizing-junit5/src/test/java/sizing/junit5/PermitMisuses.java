@@ -18,7 +18,7 @@ import java.util.concurrent.TimeoutException;
 import java.util.concurrent.atomic.AtomicInteger;
 import sizing.junit5.PermitServices.Mails;
 
-/** Services with permits that docs/PERMITS.md does not cover and that a recording shows. */
+/** Services with permits that docs/PERMITS.md does not cover and that `conform` reports. */
 final class PermitMisuses {
     private PermitMisuses() {}
 
@@ -90,7 +90,7 @@ final class PermitMisuses {
         sendUntilEnd(run, mails, 21);
     }
 
-    /** The job gives the permit back, and then the submitter does so once more. */
+    /** Releases the permit in the job, and then a second time in the submitter. */
     static void releaseInTheJobAndInTheSubmitter(ServiceRun run) throws Exception {
         Mails mails = Mails.of(run);
         run.threads("client", 1, 1, () -> {
@@ -110,7 +110,7 @@ final class PermitMisuses {
         sendUntilEnd(run, mails, 21);
     }
 
-    /** Submits this number of mails, each with a permit, which are in flight until the run ends. */
+    /** Submits this number of mails, each with a permit. They are in flight until the run ends. */
     private static void sendUntilEnd(ServiceRun run, Mails mails, int count) throws InterruptedException {
         run.threads("client", count, 1, () -> {
             mails.permits().acquire();
@@ -148,7 +148,7 @@ final class PermitMisuses {
         });
     }
 
-    /** An interrupt ends the get of a job, which leaves its own job open. */
+    /** Interrupts the get of a job by a cancel, so that the job leaves its own job open. */
     static void cancelOfAJobThatGets(ServiceRun run) throws Exception {
         ExecutorService pages = run.pool("pages");
         run.rounds("request", 1, 1, () -> {
@@ -167,12 +167,12 @@ final class PermitMisuses {
             }));
             run.await(submitted);
             page.cancel(true);
-            // A get that is interrupted only after its job is done returns.
+            // wait for the interrupt: a get whose job ends first would return
             run.await(interrupted);
         });
     }
 
-    /** The future that is returned has a stage that gives the permit back: a cancel does so while the job runs. */
+    /** Cancels a future that has a stage which releases the permit. The cancel runs that stage while the job runs. */
     static void stageOfACancelledFuture(ServiceRun run) throws Exception {
         Mails mails = Mails.of(run);
         CountDownLatch started = new CountDownLatch(1);
@@ -203,7 +203,10 @@ final class PermitMisuses {
         });
     }
 
-    /** With a `get` without a timeout the submit belongs into the body of the job. */
+    /**
+     * Submits a job with a permit from a job that waits for it. The get has no timeout, so the plan would need the submit in the
+     * body of the waiting job.
+     */
     static void getInAJobOfAJobWithAPermit(ServiceRun run) throws Exception {
         ExecutorService web = run.pool("web");
         ExecutorService audit = run.pool("audit");
@@ -236,7 +239,7 @@ final class PermitMisuses {
         });
     }
 
-    /** The permit comes back before the last try. */
+    /** Releases the permit before the last attempt. */
     static void retryWithoutItsPermit(ServiceRun run) throws Exception {
         Mails mails = Mails.of(run);
         ExecutorService send = label("send", mails.pool());
@@ -251,7 +254,7 @@ final class PermitMisuses {
         scheduler.shutdown();
     }
 
-    /** A second try begins while the first is in flight. */
+    /** Begins a second attempt while the first one is in flight. */
     static void hedgedTry(ServiceRun run) throws Exception {
         Mails mails = Mails.of(run);
         ExecutorService send = label("send", mails.pool());
@@ -265,7 +268,7 @@ final class PermitMisuses {
         });
     }
 
-    /** A place is free again after a cancel, while its row is still running. */
+    /** Cancels a row and releases its place while the row still runs. */
     static void cancelledPlace(ServiceRun run) throws Exception {
         ExecutorService load = run.pool("load");
         Semaphore places = run.permits("place", 32);
@@ -278,7 +281,7 @@ final class PermitMisuses {
         });
     }
 
-    /** A job for each batch of rows, as {@code publishOn} submits it: the source gets none of them. */
+    /** Submits a job for each batch of rows, as {@code publishOn} does. The source gets none of the jobs. */
     static void jobForEachBatch(ServiceRun run) throws Exception {
         ExecutorService load = run.pool("load");
         AtomicInteger waiting = new AtomicInteger();

@@ -23,7 +23,7 @@ import java.util.concurrent.TimeoutException;
 import java.util.concurrent.atomic.AtomicInteger;
 import java.util.function.UnaryOperator;
 
-/** A service for each pattern of docs/PERMITS.md. */
+/** Services for the patterns of docs/PERMITS.md. */
 final class PermitServices {
     private static final int THREADS = 40;
     private static final int TURNS = 5;
@@ -34,7 +34,7 @@ final class PermitServices {
         return ThreadLocalRandom.current().nextInt(3) == 0;
     }
 
-    /** The pool `mail` and its permits, as the page has them. */
+    /** The pool `mail` and its permits, as docs/PERMITS.md has them. */
     record Mails(ExecutorService pool, Semaphore permits) {
         static Mails of(ServiceRun run) throws Exception {
             return new Mails(run.pool("mail"), run.permits("permit", 20));
@@ -227,7 +227,7 @@ final class PermitServices {
 
     static void oneBurst(ServiceRun run) throws Exception {
         ExecutorService mail = run.pool("mail");
-        // Orders that come at different times look like one order that comes again: learn then writes `repeat`.
+        // all orders begin at once: otherwise they would look like one client that repeats, and `learn` would write `repeat`
         CyclicBarrier burst = new CyclicBarrier(3);
         run.rounds("order", 3, 1, () -> {
             burst.await();
@@ -237,7 +237,7 @@ final class PermitServices {
         });
     }
 
-    /** An event loop does not wait: without a permit it submits nothing. */
+    /** Submits mails from event loops, which do not wait: without a permit a loop submits nothing. */
     static void eventLoop(ServiceRun run) throws Exception {
         Mails mails = Mails.of(run);
         run.threads("loop", 4, 100, () -> {
@@ -255,7 +255,7 @@ final class PermitServices {
         });
     }
 
-    /** Each place of a `flatMap` submits its next row when the one before is done. */
+    /** Submits rows as a `flatMap` does: each place submits its next row when the previous one is done. */
     static void flatMap(ServiceRun run) throws Exception {
         FlatMap flatMap = new FlatMap(label("row", run.pool("load")), run.permits("place", 32), new AtomicInteger(300));
         for (int place = 0; place < 32; place++) {
@@ -267,7 +267,7 @@ final class PermitServices {
     }
 
     private record FlatMap(ExecutorService load, Semaphore places, AtomicInteger rows) {
-        /** Submits a row with the permit that this thread acquired, or gives it back after the last row. */
+        /** Submits a row with the permit that this thread acquired, or releases the permit after the last row. */
         void next() {
             if (rows.getAndDecrement() <= 0) {
                 places.release();
@@ -295,7 +295,7 @@ final class PermitServices {
     }
 
     private record Retries(ServiceRun run, ExecutorService mails, Semaphore permits, ScheduledExecutorService scheduler) {
-        /** The `attempt` of the page. */
+        /** Submits a mail, and schedules the next attempt if it fails. This is the `attempt` of docs/PERMITS.md. */
         void attempt(int number) {
             CompletableFuture.supplyAsync(() -> work(!rarely()), mails).whenComplete((sent, failed) -> {
                 if (sent || number == 3) {
@@ -307,7 +307,7 @@ final class PermitServices {
         }
     }
 
-    /** The pool of the page in which each task takes a permit. */
+    /** The pool of docs/PERMITS.md in which each task takes a permit. */
     private static final class PermittedExecutor extends AbstractExecutorService {
         private final Mails mails;
 

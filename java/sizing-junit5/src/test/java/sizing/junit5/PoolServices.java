@@ -24,17 +24,20 @@ import java.util.concurrent.TimeUnit;
 import java.util.concurrent.TimeoutException;
 import java.util.function.Supplier;
 
-/** Services for the entries of docs/PATTERNS.md on pools: right uses, and uses that the page does not cover and a recording shows. */
+/**
+ * Services for the entries of docs/PATTERNS.md on pools: correct uses, and uses that the page does not cover and that `conform`
+ * reports.
+ */
 final class PoolServices {
     private PoolServices() {}
 
-    /** As Spring makes it. */
+    /** Submits tasks to an executor with the defaults of Spring's {@code ThreadPoolTaskExecutor}. */
     static void springDefaults(ServiceRun run) throws Exception {
         ExecutorService tasks = run.pool("tasks", new ThreadPoolExecutor(1, Integer.MAX_VALUE, 60, TimeUnit.SECONDS, new LinkedBlockingQueue<>()));
         run.rounds("request", 20, 5, () -> tasks.submit(task("task", 1)).get());
     }
 
-    /** The executor that `Sizing.pool` makes. */
+    /** Submits tasks to an executor with the sizes of the plan, which {@code Sizing.pool} creates too. */
     static void springDefaultsOfThePlan(ServiceRun run) throws Exception {
         ExecutorService tasks = run.pool("tasks");
         run.rounds("request", 20, 5, () -> tasks.submit(task("task", 1)).get());
@@ -107,7 +110,7 @@ final class PoolServices {
         run.rounds("request", 2, 2, () -> queries.submit(task("query", 1)));
     }
 
-    /** Nothing waits for the lines of the log. */
+    /** Writes lines of a log, for which no thread waits. */
     static void auditLog(ServiceRun run) throws Exception {
         ExecutorService web = run.pool("web");
         ExecutorService audit = label("line", run.pool("audit", (ThreadPoolExecutor) Executors.newFixedThreadPool(1)));
@@ -117,7 +120,7 @@ final class PoolServices {
         });
     }
 
-    /** The thread of the log asks for a page itself. */
+    /** Submits a line of the log, whose job submits a page and waits for it. */
     static void auditLogThatWaits(ServiceRun run) throws Exception {
         ExecutorService web = run.pool("web");
         ExecutorService audit = run.pool("audit", (ThreadPoolExecutor) Executors.newFixedThreadPool(1));
@@ -203,25 +206,25 @@ final class PoolServices {
         run.rounds("request", 1, 1, () -> CompletableFuture.runAsync(() -> work(1), label("profile", tasks)).join());
     }
 
-    /** The future of an {@code @Async void} method is dropped. */
+    /** Submits the job of an {@code @Async void} method, whose future is dropped. */
     static void asyncVoid(ServiceRun run) throws Exception {
         ExecutorService tasks = run.pool("tasks");
         run.rounds("request", 1, 1, () -> tasks.submit(task("profile", 1)));
     }
 
-    /** The job of an {@code @Async} method gets the future that the method returns. */
+    /** Submits the job of an {@code @Async} method, which gets the future that the method returns. */
     static void asyncWithAnUndoneFuture(ServiceRun run) throws Exception {
         ExecutorService tasks = run.pool("tasks");
         run.rounds("request", 1, 1, () -> tasks.submit(label("profile", () -> tasks.submit(task("orders", 1)).get())).get());
     }
 
-    /** Spring MVC runs a request's {@code Callable} in the same executor. */
+    /** Submits a request's {@code Callable}, which Spring MVC runs in the same executor. */
     static void asyncWithAnotherUser(ServiceRun run) throws Exception {
         ExecutorService tasks = run.pool("tasks");
         run.rounds("mvc", 1, 1, () -> tasks.submit(task("callable", 1)).get());
     }
 
-    /** Each task has a thread of its own, which gives its place back when it ends, as those of {@code SimpleAsyncTaskExecutor} do. */
+    /** Runs each task on its own thread, which releases its place when it ends, as {@code SimpleAsyncTaskExecutor} does. */
     static void concurrencyLimit(ServiceRun run) throws Exception {
         ExecutorService render = run.pool("render");
         Semaphore places = new Semaphore(64);
@@ -270,7 +273,7 @@ final class PoolServices {
         });
     }
 
-    /** The handler drops the job, whose get would never return. */
+    /** Submits a job after a shutdown. The handler drops the job, so a get of it would never return. */
     static void callerRunsAfterShutdown(ServiceRun run) throws Exception {
         ExecutorService pool = run.pool("p", new ThreadPoolExecutor(1, 1, 0, TimeUnit.SECONDS, new ArrayBlockingQueue<>(2),
                 new ThreadPoolExecutor.CallerRunsPolicy()));
@@ -284,7 +287,7 @@ final class PoolServices {
         });
     }
 
-    /** A call of a {@code ThreadPoolBulkhead}: one job, and a stage that completes when the job is done. */
+    /** Submits a job as a {@code ThreadPoolBulkhead} does, and returns a stage that completes when the job is done. */
     static <T> CompletionStage<T> executeSupplier(ExecutorService bulkhead, Supplier<T> supplier) {
         CompletableFuture<T> stage = new CompletableFuture<>();
         CompletableFuture.supplyAsync(supplier, bulkhead).whenComplete((value, failed) -> {
@@ -344,7 +347,7 @@ final class PoolServices {
         });
     }
 
-    /** The code that holds a connection is a job of the pool that stands for the connections. */
+    /** Submits the code that holds a connection as a job of the pool that stands for the connections. */
     static void nestedConnections(ServiceRun run) throws Exception {
         ExecutorService connections = run.pool("connections");
         Callable<Integer> audit = task("audit", 1);

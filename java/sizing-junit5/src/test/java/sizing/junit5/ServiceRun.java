@@ -18,7 +18,7 @@ import java.util.function.UnaryOperator;
 import sizing.PlanCheck;
 import sizing.Recorder;
 
-/** One recorded run of a small service. */
+/** A recorded run of a small service. */
 final class ServiceRun {
     /** A part of the service. */
     interface Body {
@@ -29,7 +29,7 @@ final class ServiceRun {
     private final Path plan;
     private final List<ThreadPoolExecutor> executors = new ArrayList<>();
     private final Queue<Throwable> failures = new ConcurrentLinkedQueue<>();
-    /** Opens at the end, for jobs that outlive the round that submitted them. */
+    /** A latch that opens at the end, for jobs that outlive the round that submitted them. */
     private final CountDownLatch gate = new CountDownLatch(1);
 
     ServiceRun(Path plan, Path recording) throws IOException {
@@ -37,7 +37,7 @@ final class ServiceRun {
         recorder = Recorder.toFile(recording);
     }
 
-    /** Returns a recorded pool with the sizes of the plan. */
+    /** Creates a pool with the sizes of the plan, and returns its recorded view. */
     ExecutorService pool(String name) throws IOException {
         return pool(name, PlanCheck.newExecutor(plan, name));
     }
@@ -56,12 +56,12 @@ final class ServiceRun {
         return recorder.permits(kind, count);
     }
 
-    /** Runs the body as rounds of this kind, on this number of threads. */
+    /** Runs the body on this number of threads, each of which runs it as this number of rounds of the kind. */
     void rounds(String kind, int threads, int rounds, Body body) throws InterruptedException {
         threads(kind, threads, rounds, () -> round(kind, body));
     }
 
-    /** Runs the body as a round of this kind on the calling thread. A refused submit does not fail the run. */
+    /** Runs the body as a round of this kind on the calling thread. The run does not fail if a submit is refused. */
     void round(String kind, Body body) {
         try (Recorder.Round round = recorder.round(kind)) {
             body.run();
@@ -72,7 +72,10 @@ final class ServiceRun {
         }
     }
 
-    /** Runs the body on this number of threads, without a round around it. A refused submit does not fail the run. */
+    /**
+     * Runs the body on this number of threads, this number of times on each and without a round. The run does not fail if a
+     * submit is refused.
+     */
     void threads(String name, int count, int turns, Body body) throws InterruptedException {
         List<Thread> threads = new ArrayList<>();
         for (int number = 0; number < count; number++) {
@@ -102,14 +105,14 @@ final class ServiceRun {
     void await(CountDownLatch latch) {
         try {
             if (!latch.await(60, TimeUnit.SECONDS)) {
-                throw new AssertionError("waited too long");
+                throw new AssertionError("a latch did not open within 60 seconds");
             }
         } catch (InterruptedException interrupted) {
             Thread.currentThread().interrupt();
         }
     }
 
-    /** Returns a task that opens the latch as soon as it runs, and ends with the run. */
+    /** Returns a task that opens the latch when it starts, and ends with the run. */
     Runnable untilEnd(CountDownLatch started) {
         return () -> {
             started.countDown();
@@ -117,13 +120,13 @@ final class ServiceRun {
         };
     }
 
-    /** Waits until the run ends and returns a value. */
+    /** Waits until the run ends, and returns 1. */
     int valueAtEnd() {
         awaitEnd();
         return 1;
     }
 
-    /** Returns a task with this label that does some work. */
+    /** Returns a task with this label that works and returns the value. */
     static <T> Callable<T> task(String label, T value) {
         return Recorder.label(label, () -> work(value));
     }
@@ -132,7 +135,7 @@ final class ServiceRun {
         return ThreadLocalRandom.current().nextBoolean();
     }
 
-    /** Does some work. */
+    /** Works for 200 microseconds and returns the value. */
     static <T> T work(T value) {
         try {
             TimeUnit.MICROSECONDS.sleep(200);
@@ -142,13 +145,13 @@ final class ServiceRun {
         return value;
     }
 
-    /** Ends the run: jobs that wait for the end continue, and all jobs are done. */
+    /** Ends the run: opens the gate, waits until all jobs are done, and closes the recorder. */
     void end() throws Exception {
         gate.countDown();
         for (ThreadPoolExecutor executor : executors) {
             executor.shutdown();
             if (!executor.awaitTermination(60, TimeUnit.SECONDS)) {
-                throw new AssertionError("jobs do not end");
+                throw new AssertionError("jobs did not end within 60 seconds");
             }
         }
         recorder.close();

@@ -23,8 +23,8 @@ import org.junit.jupiter.params.ParameterizedTest;
 import org.junit.jupiter.params.provider.MethodSource;
 
 /**
- * Services for the pages of patterns: the recording of each right use conforms to the plan of the page, and the recording of each
- * use that the page does not cover is reported.
+ * Tests of docs/PATTERNS.md and docs/PERMITS.md with small services: the recording of each correct use conforms to the plan of
+ * the page, and `conform` reports the recording of each use that the page does not cover.
  *
  * <p>Without the program, {@code checks/java/conform.py} compares a recording with its plan.
  */
@@ -35,10 +35,10 @@ class ServicesTest {
     private static final String NO_SUBMIT = "its body has no such submit ";
     private static final String ONLY = "its body has only ";
     private static final String BEFORE = " at some point before its next such submit";
-    /** The recordings of the cases by name. Two tests use the recording of a right use. */
+    /** The recordings of the cases by name. Two tests use the recording of a correct use. */
     private static final Map<String, Path> RECORDINGS = new ConcurrentHashMap<>();
 
-    /** A service. */
+    /** The code of a service. */
     interface Service {
         void run(ServiceRun run) throws Exception;
     }
@@ -348,7 +348,7 @@ class ServicesTest {
         return ROOT.resolve("examples").resolve(one.plan + ".toml");
     }
 
-    /** Compares with the program, or without one with the second implementation. */
+    /** Compares the recording with the plan: with the program, or with {@code checks/java/conform.py} if there is no program. */
     private static SizingProgram.Answer conform(Path plan, Path recording) throws IOException, InterruptedException {
         if (SizingProgram.find().isPresent()) {
             return SizingProgram.run("conform", plan, recording);
@@ -367,7 +367,10 @@ class ServicesTest {
         }
     }
 
-    /** The pages name each plan in backquotes. A plan is safe if `check` accepts its certificate. */
+    /**
+     * Checks that each safe plan that the pages name in backquotes has a service. A plan is safe if `check` accepts its
+     * certificate.
+     */
     @Test
     void everySafePlanOfThePagesHasAService() throws IOException {
         Set<String> plans = new TreeSet<>();
@@ -384,7 +387,7 @@ class ServicesTest {
         assertEquals(Set.of(), plans);
     }
 
-    /** Returns whether the exit status in the stored answer of `check` is 0. */
+    /** Returns whether the stored answer of `check` has the exit status 0. */
     private static boolean isSafe(String plan) throws IOException {
         Path answer = ROOT.resolve("examples").resolve(plan + ".check");
         return Files.exists(answer) && Files.readString(answer).endsWith("\nstatus 0\n");
@@ -395,7 +398,7 @@ class ServicesTest {
     void conforms(Case one) throws Exception {
         Path recording = recordingOf(one);
         SizingProgram.Answer answer = conform(planOf(one), recording);
-        // The program adds a line for each pool that rejected jobs, as the plan allows.
+        // the program adds a line for each pool that rejected jobs as the plan allows
         assertEquals(List.of("conforms"), answer.lines().stream().filter(line -> !line.endsWith(", as the plan allows")).toList());
         assertEquals(0, answer.status());
     }

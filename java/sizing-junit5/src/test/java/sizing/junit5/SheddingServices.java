@@ -20,16 +20,16 @@ import java.util.concurrent.ThreadPoolExecutor;
 import java.util.concurrent.TimeUnit;
 
 /**
- * Services for the entries of docs/PATTERNS.md on pools that may reject jobs: right uses, and uses that the page does not cover and a
- * recording shows.
+ * Services for the entries of docs/PATTERNS.md on pools that may reject jobs: correct uses, and uses that the page does not cover
+ * and that `conform` reports.
  *
- * <p>The pools of the right uses have room for all jobs of the run. Chance decides instead which submits are rejected. Only the pool
- * with a {@code SynchronousQueue} rejects jobs itself.
+ * <p>The pools of the correct uses have room for all jobs of the run, and a random choice decides which submits are rejected.
+ * Only the pool with a {@code SynchronousQueue} rejects jobs itself.
  */
 final class SheddingServices {
     private SheddingServices() {}
 
-    /** Submits the task, or throws the exception of a full pool. */
+    /** Submits the task, or throws the exception of a full pool. The choice is random. */
     private static <T> Future<T> offer(ExecutorService pool, Callable<T> task) {
         if (chance()) {
             throw new RejectedExecutionException("by chance");
@@ -37,7 +37,7 @@ final class SheddingServices {
         return pool.submit(task);
     }
 
-    /** Submits the task, or runs its body in the caller and returns null. */
+    /** Submits the task, or runs its body in the caller and returns null. The choice is random. */
     private static <T> Future<T> offerOrRun(ExecutorService pool, String name, Callable<T> body) throws Exception {
         if (chance()) {
             body.call();
@@ -87,7 +87,10 @@ final class SheddingServices {
         });
     }
 
-    /** A mail may submit to the pool of the pages after the visitor has its page, so its own pool is shut down first. */
+    /**
+     * Runs pages that submit mails. A mail may submit to the pool of the pages after the visitor has its page, so the pool of the
+     * mails is shut down first.
+     */
     static void callerRunsOwnPool(ServiceRun run) throws Exception {
         ExecutorService mails = run.pool("mails", callerRuns(1, 1));
         ExecutorService web = run.pool("web");
@@ -98,7 +101,10 @@ final class SheddingServices {
         run.rounds("visitor", 1, 1, () -> web.submit(page).get());
     }
 
-    /** The requests come at one time: if they came again, no certificate would accept the learned plan, which lacks the key. */
+    /**
+     * Submits reports to a pool that discards them when it is full. All requests begin at one time: if they repeated, no
+     * certificate would accept the learned plan, which lacks {@code may_reject}.
+     */
     static void discard(ServiceRun run) throws Exception {
         ExecutorService web = run.pool("web");
         ExecutorService reports = run.pool("reports", new ThreadPoolExecutor(1, 1, 0, TimeUnit.SECONDS, new ArrayBlockingQueue<>(100),
@@ -125,7 +131,7 @@ final class SheddingServices {
         });
     }
 
-    /** The pool has no queue, so most of the 100 requests are rejected while eight calls run. */
+    /** Submits calls to a pool without a queue, which rejects most of the 100 requests while eight calls run. */
     static void synchronousBulkhead(ServiceRun run) throws Exception {
         ExecutorService bulkhead = run.pool("bulkhead");
         ExecutorService database = run.pool("database");
@@ -138,14 +144,14 @@ final class SheddingServices {
         });
     }
 
-    /** The pool of the plan has a {@code SynchronousQueue}. */
+    /** Submits a call to a pool with an {@code ArrayBlockingQueue}, where the plan has a {@code SynchronousQueue}. */
     static void synchronousBulkheadWithAQueue(ServiceRun run) throws Exception {
         ExecutorService bulkhead = run.pool("bulkhead", new ThreadPoolExecutor(8, 8, 0, TimeUnit.SECONDS, new ArrayBlockingQueue<>(8)));
         run.pool("database");
         run.rounds("request", 1, 1, () -> bulkhead.submit(task("call", 1)).get());
     }
 
-    /** The order that its caller runs submits a query, which is not in the caller's path. */
+    /** Submits an order that its caller runs. The order submits a query, which is not in the caller's path. */
     static void callerRunsAnOrder(ServiceRun run) throws Exception {
         ExecutorService orders = run.pool("orders", callerRuns(4, 8));
         ExecutorService database = run.pool("database");
@@ -157,7 +163,10 @@ final class SheddingServices {
         });
     }
 
-    /** The second picture of the album is rejected, and the exception leaves the album without a get of the first one. */
+    /**
+     * Submits two pictures of an album, of which the second one is rejected. The exception leaves the album without a get of the
+     * first one.
+     */
     static void rejectedWithAnOpenFuture(ServiceRun run) throws Exception {
         ExecutorService albums = run.pool("albums");
         ExecutorService pictures = run.pool("pictures");
@@ -177,7 +186,10 @@ final class SheddingServices {
         });
     }
 
-    /** The second picture of the album is rejected, so the first one is cancelled in the queue. */
+    /**
+     * Submits two pictures of an album by {@code invokeAll}. The second one is rejected, so {@code invokeAll} cancels the first
+     * one in the queue.
+     */
     static void rejectedByInvokeAll(ServiceRun run) throws Exception {
         ExecutorService albums = run.pool("albums");
         ExecutorService pictures = run.pool("pictures");

@@ -31,7 +31,7 @@ import org.junit.platform.launcher.listeners.TestExecutionSummary;
 import org.opentest4j.AssertionFailedError;
 import org.opentest4j.TestAbortedException;
 
-/** Classes with {@link SizingPlan}, run by the launcher. */
+/** Tests that run classes with {@link SizingPlan} by the launcher. */
 class SizingPlanTest {
     private static final String SHOP = Path.of("target", "test-classes", "shop.toml").toString();
     private static final String SMALL_SHOP = Path.of("target", "test-classes", "shop-small.toml").toString();
@@ -40,7 +40,7 @@ class SizingPlanTest {
     private String program;
     private String optional;
 
-    /** The service: a page asks the database and waits. */
+    /** Runs the service: a page that asks the database and waits. */
     static String visit(ExecutorService web, ExecutorService database) throws Exception {
         return web.submit(label("request", () -> database.submit(label("query", () -> "rows")).get() + " as a page")).get();
     }
@@ -92,7 +92,7 @@ class SizingPlanTest {
         void nothing() {}
     }
 
-    /** The page is not waited for, which is another path than that of the plan. */
+    /** A class whose visitors do not wait for the page. The plan has no such path. */
     @SizingPlan("shop.toml")
     static class Hurried {
         @Test
@@ -123,7 +123,7 @@ class SizingPlanTest {
         }
     }
 
-    /** One executor is the service's own, and one has the sizes of the plan. */
+    /** A class with an executor of the service and an executor with the sizes of the plan. */
     @SizingPlan("shop-unbounded.toml")
     static class Fixed {
         @Test
@@ -217,7 +217,8 @@ class SizingPlanTest {
     @Test
     void aPlanThatIsNotSafeFailsTheClassWithWhatAskPrints() throws Exception {
         try (StubProgram stub = new StubProgram(1, "NOT SAFE: web refuses a submit", 0, "conforms")) {
-            assertEquals(SMALL_SHOP + " is not safe, or has warnings (exit status 1):\n  NOT SAFE: web refuses a submit", failureOf(Small.class));
+            assertEquals("`sizing ask --strict " + SMALL_SHOP + "` did not answer SAFE without warnings (exit status 1):\n"
+                    + "  NOT SAFE: web refuses a submit", failureOf(Small.class));
             assertEquals(1, stub.runs().size());
         }
     }
@@ -238,8 +239,8 @@ class SizingPlanTest {
         assertPasses(Visitors.class, 2);
         assertMatches(Pattern.quote(Path.of("target", "sizing", Hurried.class.getName() + ".recording") + " does not conform to " + SHOP
                 + " (exit status 1):\n  line ") + "\\d+: round 0 of kind visitor ended without a get of job \\d+ of class request in pool web; its body has a get before its end", failureOf(Hurried.class));
-        assertMatches(Pattern.quote(SMALL_SHOP + " is not safe, or has warnings (exit status 1):\n  NOT SAFE\n  refused by web, after ")
-                + "(?s).*", failureOf(Small.class));
+        assertMatches(Pattern.quote("`sizing ask --strict " + SMALL_SHOP + "` did not answer SAFE without warnings "
+                + "(exit status 1):\n  NOT SAFE\n  refused by web, after ") + "(?s).*", failureOf(Small.class));
     }
 
     @Test
@@ -253,7 +254,8 @@ class SizingPlanTest {
     @Test
     void anExecutorOfOtherSizesFailsTheTest() throws Exception {
         try (StubProgram stub = new StubProgram(0, "SAFE", 0, "conforms")) {
-            assertEquals("the executor is not that of " + SHOP + ":\n  pool web: max 4, plan 2", failureOf(OtherSizes.class));
+            assertEquals("the executor differs from the pool of " + SHOP + ":\n  pool web: max 4, plan 2",
+                    failureOf(OtherSizes.class));
             assertEquals(1, stub.runs().size());
         }
     }
@@ -267,7 +269,8 @@ class SizingPlanTest {
             List<String> pools = Files.readAllLines(recording).stream().filter(line -> line.startsWith("pool ")).toList();
             assertEquals(List.of("pool web core 2 max 2 queue linked 1000000000 timeout no prestarted 0 handler abort",
                     "pool database core 1 max 1 queue linked 1000000000 timeout no prestarted 0 handler abort"), pools);
-            assertEquals("the executor is not that of " + UNBOUNDED + ":\n  pool web: queue 6, plan unbounded", failureOf(OtherQueue.class));
+            assertEquals("the executor differs from the pool of " + UNBOUNDED + ":\n  pool web: queue 6, plan unbounded",
+                    failureOf(OtherQueue.class));
         }
     }
 
@@ -281,8 +284,9 @@ class SizingPlanTest {
     @Test
     void aHandlerThatDoesNotFitMayRejectFailsTheTest() throws Exception {
         try (StubProgram stub = new StubProgram(0, "SAFE", 0, "conforms")) {
-            assertEquals("the executor is not that of " + SHEDDING + ":\n  pool web: may_reject and handler DiscardPolicy, "
-                    + "but client visitor gets a job of class request: this get may never return", failureOf(Discarding.class));
+            assertEquals("the executor differs from the pool of " + SHEDDING + ":\n  pool web: may_reject and handler "
+                    + "DiscardPolicy, but client visitor gets a job of class request: this get may never return",
+                    failureOf(Discarding.class));
             assertEquals(2, stub.runs().size());
         }
     }
@@ -297,7 +301,7 @@ class SizingPlanTest {
 
     @Test
     void aParameterWithoutAPlanFailsTheTest() {
-        assertTrue(failureOf(NoPlan.class).contains("a parameter of type Sizing needs @SizingPlan on the class of the test"));
+        assertTrue(failureOf(NoPlan.class).contains("a parameter of type Sizing needs @SizingPlan on the test class"));
     }
 
     @Test
@@ -324,7 +328,8 @@ class SizingPlanTest {
     void executorsAreCompared() throws Exception {
         ThreadPoolExecutor web = new ThreadPoolExecutor(2, 2, 1, TimeUnit.SECONDS, new LinkedBlockingQueue<>(6));
         AssertionFailedError thrown = assertThrows(AssertionFailedError.class, () -> SizingAssertions.assertExecutors(Path.of(SHOP), Map.of("web", web)));
-        assertEquals("the executors are not those of " + SHOP + ":\n  pool database: no executor given", thrown.getMessage());
+        assertEquals("the executors differ from the pools of " + SHOP + ":\n  pool database: no executor given",
+                thrown.getMessage());
         SizingAssertions.assertExecutors(Path.of(SHOP), Map.of("web", web, "database", new ThreadPoolExecutor(1, 1, 1, TimeUnit.SECONDS, new LinkedBlockingQueue<>(2))));
     }
 }

@@ -5,7 +5,7 @@ import java.nio.file.Files;
 import java.nio.file.Path;
 import java.util.List;
 
-/** A shell script in place of the program, which prints fixed lines and keeps its arguments. */
+/** A shell script in place of the program, which prints fixed lines and records its arguments. */
 final class StubProgram implements AutoCloseable {
     private final String before = System.getProperty("sizing.program");
     private final Path folder = Files.createTempDirectory("sizing");

@@ -9,8 +9,8 @@ import org.springframework.core.Ordered;
 import org.springframework.scheduling.annotation.Async;
 
 /**
- * Labels the job of each {@code @Async} method with the name of the method. Declare it as a static bean beside a
- * {@link SizingBeans} that records. Without it all such jobs have a class that is named after Spring's own code.
+ * A post-processor that labels the job of each {@code @Async} method with the name of the method. Declare it as a static bean
+ * beside a {@link SizingBeans} that records. Without it, the class of all such jobs is named after Spring's own code.
  *
  * <pre>{@code
  * @Bean static AsyncLabels labels() {

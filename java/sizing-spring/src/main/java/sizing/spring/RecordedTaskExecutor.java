@@ -9,7 +9,7 @@ import org.springframework.util.concurrent.ListenableFuture;
 import org.springframework.util.concurrent.ListenableFutureTask;
 import sizing.Recorder;
 
-/** A recorded executor in place of a bean. Submits are recorded, and all other calls go to the bean. */
+/** A recorded executor in place of a bean. It records submits, and passes all other calls to the bean. */
 final class RecordedTaskExecutor extends ThreadPoolTaskExecutor {
     private static final long serialVersionUID = 1;
     private final transient ThreadPoolTaskExecutor bean;

@@ -22,9 +22,9 @@ import sizing.PlanMismatchException;
 import sizing.Recorder;
 
 /**
- * Compares the executor beans of a context with the pools of a plan when the context starts. If a pool is another one, the start
- * fails with a {@link PlanMismatchException}, whose message has a line for each difference. With a recorder it also records the
- * beans.
+ * A post-processor that compares the executor beans of a context with the pools of a plan when the context starts. If they
+ * differ, the start fails with a {@link PlanMismatchException}, whose message has a line for each difference. With a recorder it
+ * also records the beans.
  *
  * <pre>{@code
  * @Bean static SizingBeans sizing() {
@@ -32,15 +32,15 @@ import sizing.Recorder;
  * }
  * }</pre>
  *
- * <p>A bean is a pool of the plan if it has the pool's name, or if {@link #pool} says so. It is a {@code ThreadPoolTaskExecutor} or a
- * {@code ThreadPoolExecutor}. Other beans are left alone.
+ * <p>A bean is a pool of the plan if it has the pool's name, or if {@link #pool} says so. It is a {@code ThreadPoolTaskExecutor}
+ * or a {@code ThreadPoolExecutor}. Other beans are left alone.
  *
  * <p>A recorded {@code ThreadPoolTaskExecutor} stays one. Its {@code TaskDecorator} runs before a submit is recorded, so it may
  * acquire a permit. A recorded {@code ThreadPoolExecutor} becomes an {@code ExecutorService}, so inject it as one. Use
  * {@link AsyncLabels} for {@code @Async} methods. The recorder is closed with the context.
  *
- * <p>Declare it as a static bean, so that it is there before the executors. It was tried with Spring 4.3, and uses only what 5 and 6
- * have too.
+ * <p>Declare it as a static bean, so that Spring creates it before the executors. It was tried with Spring 4.3, and uses only
+ * methods that Spring 5 and 6 also have.
  */
 public final class SizingBeans implements BeanPostProcessor, SmartInitializingSingleton, DisposableBean {
     private final Path plan;
@@ -51,7 +51,7 @@ public final class SizingBeans implements BeanPostProcessor, SmartInitializingSi
     private final Map<String, ThreadPoolExecutor> executors = new LinkedHashMap<>();
 
     /**
-     * Compares the executors and records nothing.
+     * Creates a post-processor that compares the executors and records nothing.
      *
      * @throws IllegalArgumentException if the plan is not readable
      */
@@ -60,7 +60,7 @@ public final class SizingBeans implements BeanPostProcessor, SmartInitializingSi
     }
 
     /**
-     * Compares the executors and records what is done with them, until the context is closed.
+     * Creates a post-processor that compares the executors and records their use until the context is closed.
      *
      * @throws IllegalArgumentException if the plan is not readable
      */
@@ -74,7 +74,7 @@ public final class SizingBeans implements BeanPostProcessor, SmartInitializingSi
         }
     }
 
-    /** Names the bean of a pool whose names differ. Returns this. */
+    /** Sets the bean of a pool whose name differs from the pool's, and returns this. */
     public SizingBeans pool(String pool, String bean) {
         poolsOfBeans.put(Objects.requireNonNull(bean), Objects.requireNonNull(pool));
         return this;
@@ -85,7 +85,7 @@ public final class SizingBeans implements BeanPostProcessor, SmartInitializingSi
         return named == null && poolNames.contains(bean) && !poolsOfBeans.containsValue(bean) ? bean : named;
     }
 
-    /** Takes the decorator of a bean that will be recorded, before the bean makes its executor. */
+    /** Removes and keeps the decorator of a bean that will be recorded, before the bean creates its executor. */
     @Override
     public Object postProcessBeforeInitialization(Object bean, String name) throws BeansException {
         if (recorder != null && poolOf(name) != null && bean instanceof ThreadPoolTaskExecutor executor) {
@@ -98,7 +98,7 @@ public final class SizingBeans implements BeanPostProcessor, SmartInitializingSi
         return bean;
     }
 
-    /** Replaces a bean that is a pool of the plan by one that records, if there is a recorder. */
+    /** Replaces a bean that is a pool of the plan with a recorded view of it, if there is a recorder. */
     @Override
     public Object postProcessAfterInitialization(Object bean, String name) throws BeansException {
         String pool = poolOf(name);
@@ -123,9 +123,9 @@ public final class SizingBeans implements BeanPostProcessor, SmartInitializingSi
     }
 
     /**
-     * Compares the executors, once all singletons are made.
+     * Compares the executors once all singletons are created.
      *
-     * @throws PlanMismatchException if they are not those of the plan
+     * @throws PlanMismatchException if the executors differ from the pools of the plan
      */
     @Override
     public void afterSingletonsInstantiated() {

@@ -31,18 +31,18 @@ import sizing.PlanMismatchException;
 import sizing.Recorder;
 import sizing.junit5.SizingAssertions;
 
-/** Contexts with the plans `async-joined` and `permits`. */
+/** Tests of contexts with the plans `async-joined` and `permits`. */
 class SizingBeansTest {
     private static final Path EXAMPLES = Path.of(System.getProperty("sizing.root"), "examples");
     private static final Path ASYNC = EXAMPLES.resolve("async-joined.toml");
     private static final Path PERMITS = EXAMPLES.resolve("permits.toml");
 
-    /** Calls two methods and waits for both. */
+    /** A service whose implementation has an {@code @Async} method. */
     public interface Profiles {
         CompletableFuture<String> profile(int user);
     }
 
-    /** Another service of the same executor. */
+    /** A service whose implementation is an {@code @Async} class. */
     public interface Orders {
         CompletableFuture<String> orders(int user);
     }
@@ -73,7 +73,7 @@ class SizingBeansTest {
         return tasks;
     }
 
-    /** The service. (No `@Configuration`: Spring 4.3 cannot make its subclasses on Java 17.) */
+    /** The configuration of the service. It has no `@Configuration`, because Spring 4.3 cannot make its subclasses on Java 17. */
     static class Service {
         static int core;
         static Recorder recorder;
@@ -115,7 +115,7 @@ class SizingBeansTest {
         return new AnnotationConfigApplicationContext(Service.class);
     }
 
-    /** Compares by the second implementation, and with the program if there is one. */
+    /** Asserts that the recording conforms to the plan by the second implementation, and by the program if there is one. */
     private static void assertConforms(Path plan, Path recording) throws Exception {
         Path conform = Path.of(System.getProperty("sizing.root"), "checks", "java", "conform.py");
         Process python = new ProcessBuilder("python3", conform.toString(), plan.toString(), recording.toString()).redirectErrorStream(true).start();
@@ -171,7 +171,7 @@ class SizingBeansTest {
         assertConforms(ASYNC, recording);
     }
 
-    /** A bean that is named as the pool, with the decorator of docs/PERMITS.md. */
+    /** A configuration with a bean that has the name of the pool, and with the decorator of docs/PERMITS.md. */
     static class Mails {
         static Recorder recorder;
         static Semaphore permits;
@@ -222,7 +222,7 @@ class SizingBeansTest {
         assertConforms(PERMITS, recording);
     }
 
-    /** A bean with Spring's own sizes, or with a queue that has a capacity. */
+    /** A configuration with an executor that has Spring's own sizes, or a queue with a capacity. */
     static class Defaults {
         static Path plan;
         static Recorder recorder;
@@ -265,7 +265,7 @@ class SizingBeansTest {
         assertConforms(Defaults.plan, recording);
     }
 
-    /** The bean of Spring Boot, with the values of `spring.task.execution.pool` that it has if none is set. */
+    /** A configuration with the executor of Spring Boot if no property of `spring.task.execution.pool` is set. */
     static class Boot {
         static Path plan;
         static Recorder recorder;
@@ -337,7 +337,7 @@ class SizingBeansTest {
         Files.delete(Defaults.plan);
     }
 
-    /** A bean of the JDK's class. */
+    /** A configuration with a bean that is no {@code ThreadPoolTaskExecutor}. */
     static class Plain {
         static Recorder recorder;
         static Object bean;
@@ -366,7 +366,7 @@ class SizingBeansTest {
         executor.shutdown();
     }
 
-    /** The recorder is a bean, too, as java/README.md has it. */
+    /** A configuration in which the recorder is a bean too, as in java/README.md. */
     static class WithRecorder {
         static final Path RECORDING = Path.of("target", "sizing", "bean.recording");
 
