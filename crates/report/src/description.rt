@@ -141,15 +141,16 @@ fn has_timeouts(plan: &Plan) -> bool
     plan.pools().iter().any(|pool| pool.core_timeout)
 }
 
-/// Returns the words for a pool that starts no thread although it has fewer threads than its
+/// Returns the words that say why a pool starts no thread, although it has fewer threads than its
 /// maximum. `timeouts` says whether core threads may time out.
 ///
 /// - If core threads never time out, the words say that the pool never starts a thread above its
 ///   core size.
-/// - If core threads may time out, the pool can start a thread while it has fewer threads than its
-///   core size. It can also start a thread above its core size, in place of one that timed out. So
-///   the words say that the pool has at least as many threads as its core size, and a queue that is
-///   never full.
+/// - If core threads may time out, the words say that the pool has at least as many threads as its
+///   core size, and that its queue is never full. The reason for this difference is that such a
+///   pool can start a thread in two cases: while it has fewer threads than its core size, and in
+///   place of a thread that timed out. In the second case, the new thread can be above the core
+///   size.
 #[tactic(auto, unfolding(crate::specs::Description::at_core_words))]
 fn at_core_words(timeouts: bool) -> &'static str
     ensures { result.now ≡ spec.at_core_words timeouts }
@@ -161,9 +162,8 @@ fn at_core_words(timeouts: bool) -> &'static str
     }
 }
 
-/// Returns the words for a new thread of a pool that may end a wait. The words are
-/// `a thread above core`. If core threads may time out, the new thread can be a core thread, and
-/// the words are `another thread`.
+/// Returns the words for the thread whose start may end a wait: `a thread above core`. If core
+/// threads may time out, this thread can be a core thread, so the words are `another thread`.
 fn started_words(timeouts: bool) -> &'static str
     ensures { result.now ≡ spec.started_words timeouts }
 {

@@ -186,9 +186,9 @@ fn action_of(outcome: Outcome, position: usize) -> Option<usize>
     }
 }
 
-/// Returns the index of the pool that an event with this actor and outcome changed. For a refused
-/// or rejected submit, this is the pool that refused or rejected it. Returns `None` if the event
-/// concerns no pool. `world` is the world after the event.
+/// Returns the index of the pool that an event changed. `actor` and `outcome` belong to this event,
+/// and `world` is the world after the event. For a refused or rejected submit, the result is the
+/// pool that refused or rejected it. Returns `None` if the event concerns no pool.
 fn changed_pool(plan: &Plan, world: &World, actor: Actor, outcome: Outcome) -> Option<usize>
     ensures { result ≡ performed.changed_pool_seen plan.now world.now.view actor outcome }
 {

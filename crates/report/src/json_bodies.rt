@@ -13,8 +13,8 @@ use serde_json::Value;
 use std::alloc::{AllocError, Global};
 
 /// Converts a body to a JSON list of its actions. `index` is the index of the class or client kind
-/// that has this body. If a class has it, `places` has the places of all classes. If a client kind
-/// has it, `places` has the places of all client kinds.
+/// that has this body. For the body of a class, `places` has the places of all classes. For the
+/// body of a client kind, `places` has the places of all client kinds.
 pub(crate) fn body_value(
     alloc: Global,
     plan: &Plan,

@@ -23,7 +23,7 @@ use weights::{Bound, Vector};
 ///
 /// - there is no bound,
 /// - the vector of the bound does not fit the plan, or
-/// - the queue is unbounded, and the total does not limit the jobs in it.
+/// - the queue has an unlimited capacity, and the total does not limit the jobs in the queue.
 pub(crate) fn bound_value(
     alloc: Global,
     plan: &Plan,

@@ -7,8 +7,8 @@
 //! - their actions and outcomes are the same, and
 //! - the jobs that they submit have consecutive numbers.
 //!
-//! In similar steps, each client works, starts its body again, or submits a job that is queued,
-//! started or rejected. Any other step is a run of its own.
+//! Only three kinds of steps can be similar: a client works, a client starts its body again, or a
+//! client submits a job that is queued, started or rejected. Any other step is a run of its own.
 
 ghost use Rattle.std.specs.Prelude.{◌≡◌, ◌+◌, ◌==◌, ◌++◌, ◌∷◌, [], map, IfOk, OnOk};
 ghost use Rattle.serde_json.specs.View.{view};
@@ -28,8 +28,8 @@ use job_bodies::Plan;
 use serde_json::Value;
 use std::alloc::{AllocError, Global};
 
-/// A run of similar steps that the next step may extend: its first step, the number of its steps,
-/// and its last step.
+/// A run of similar steps that is still open, because the next step may extend the run. The fields
+/// are the first step of the run, the number of its steps, and its last step.
 #[derive(Clone, Copy)]
 struct OpenRun {
     first: EventStep,
@@ -53,7 +53,7 @@ pub(crate) fn events_value(
     Ok(Value::Array(values))
 }
 
-/// Appends the JSON object of each run of the steps.
+/// Splits the steps into runs of similar steps, and appends one JSON object for each run.
 fn push_runs(
     values: &mut Vec<Value>,
     alloc: Global,

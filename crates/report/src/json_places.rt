@@ -79,10 +79,10 @@ fn place_at(actions: &[Option<TextPlace>], action: usize) -> Option<TextPlace>
     }
 }
 
-/// Returns the place of what a reason names. `cause` is a reason why no sizes were found, and names
-/// one of these:
+/// Returns the place in the plan's text to which a reason points. `cause` is a reason why no sizes
+/// were found. Depending on the reason, the result is the place of
 ///
-/// - a class,
+/// - the name of a class,
 /// - an action,
 /// - the `core_timeout` of a pool, or
 /// - the name of a pool, if sizes are above the limit.

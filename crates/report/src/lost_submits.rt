@@ -114,8 +114,12 @@ fn push_body(
     Ok(())
 }
 
-/// Appends the text for one class. Appends nothing if the class does not belong to the pool, or if
-/// the body gets each job of the class that it submits.
+/// Appends the text for one class if both of these hold:
+///
+/// - The class belongs to the pool.
+/// - The body submits a job of the class and never gets this job.
+///
+/// Otherwise appends nothing.
 #[tactic(auto, using(std::proofs::lemmas::List::map_push))]
 fn push_lost(
     alloc: Global,

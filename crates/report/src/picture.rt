@@ -223,8 +223,9 @@ fn push_bound_of(
     }
 }
 
-/// Returns the text for a pool without a bound in the certificate: that the pool may reject jobs.
-/// The text is empty if the pool's queue is unbounded, because the pool then rejects no jobs.
+/// Returns the text for a pool for which the certificate has no bound. If the capacity of the
+/// pool's queue is limited, the text says that the pool may reject jobs. If the capacity is
+/// unlimited, the text is empty, because the pool then rejects no jobs.
 fn no_bound_words(pool: &Pool) -> &'static str
     ensures { result.now ≡ spec.no_bound_part pool.now }
 {

@@ -73,9 +73,9 @@ pub fn total_of(plan: &Plan, vector: &Vector) -> Option<u64>
     }
 }
 
-/// Returns whether the total of the bound limits the number of jobs of the pool. If the queue is
-/// bounded, returns `true`, because the conditions on the bound demand this limit. If the queue is
-/// unbounded, all of these must hold:
+/// Returns whether the total of the bound limits the number of jobs of the pool. If the pool's
+/// queue is bounded, returns `true`, because the conditions on the bound already demand that the
+/// total limits these jobs. If the queue is unbounded, all of these must hold:
 ///
 /// - The vector fits the plan.
 /// - The vector gives each job of the pool a weight of at least 1. In a standing vector, only

@@ -40,8 +40,8 @@ pub(crate) fn push_safe(
 }
 
 /// Returns the words for what the certificate guarantees: no submit is refused, and no jobs wait
-/// for each other forever. If [`may_reject_jobs`] returns `true` for a pool, the first part covers
-/// only submits to other pools.
+/// for each other forever. If [`may_reject_jobs`] returns `true` for a pool, submits to this pool
+/// are an exception. The words then say that no submit to another pool is refused.
 pub(crate) fn safe_words(plan: &Plan, cert: &Cert) -> &'static str
     ensures { result.now ≡ spec.safe_words plan.now cert.now }
 {

@@ -93,9 +93,11 @@ pub(crate) fn push_queue_size(text: &mut String, pool: &Pool) -> Result<(), Allo
     write!(text, "{queue}")
 }
 
-/// Appends the text for a queue without a bound. If the queue is unbounded, the text is the reason
-/// why there is no bound. Otherwise it says that the pool may reject jobs and, if `rejection` is
-/// known, after how many events.
+/// Appends the text for a queue if no bound of the certificate limits its jobs.
+///
+/// - If the capacity of the queue is unlimited, the text is the reason why there is no bound.
+/// - If the capacity is limited, the text says that the pool may reject jobs. It also says after
+///   how many events, if `rejection` is known.
 fn push_no_bound(
     alloc: Global,
     text: &mut String,
@@ -114,9 +116,10 @@ fn push_no_bound(
     }
 }
 
-/// Appends the reason why the pool's unbounded queue has no bound. The reason is the texts of
-/// [`lost_texts`], about bodies that submit a job to the pool and never get this job. If there are
-/// no such bodies, appends `no bound is known`.
+/// Appends the reason why no bound of the certificate limits the jobs in the pool's queue, which
+/// has an unlimited capacity. The reason consists of the texts of [`lost_texts`]. Each text says
+/// that a body submits a job to the pool and never gets this job. If there are no such texts,
+/// appends `no bound is known`.
 fn push_growth(
     alloc: Global,
     text: &mut String,
@@ -167,8 +170,9 @@ fn push_bounded(
     push_places(alloc, text, plan, bound)
 }
 
-/// Returns `never rejects: ` if the plan allows the pool to reject jobs and the pool's queue is
-/// bounded. Otherwise returns an empty text. The bound of the queue follows this text.
+/// Returns the words that are written before the bound of a queue. They are `never rejects: ` if
+/// the queue is bounded and the plan allows the pool to reject jobs. The words then say that the
+/// pool never uses this permission. Otherwise the words are empty.
 fn never_words(pool: &Pool) -> &'static str
     ensures { result.now ≡ spec.never_text pool.now }
 {
@@ -201,9 +205,9 @@ fn push_places(
     text.push_str(")")
 }
 
-/// Appends what the total of a queue's bound limits, such as `up to 3 jobs wait at once`. The total
-/// of a standing vector limits the jobs in the queue at one time. The total of a lifetime vector
-/// limits the jobs that are ever submitted to the pool.
+/// Appends the limit on the number of jobs, such as `up to 3 jobs wait at once`. `total` is the
+/// total of the bound's vector. The total of a standing vector limits the jobs in the queue at one
+/// time. The total of a lifetime vector limits the jobs that are ever submitted to the pool.
 pub(crate) fn push_most(text: &mut String, bound: &Bound, total: u64) -> Result<(), AllocError>
     ensures { Pushes result text.old text.new (spec.most_text bound.now total) }
 {

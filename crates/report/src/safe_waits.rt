@@ -98,8 +98,8 @@ pub(crate) fn waited_names(
     Ok(names)
 }
 
-/// Appends the name of `pool` if jobs of a waiting pool wait for jobs of `pool`. `number` is the
-/// number of the waiting pool, and `other` is the number of `pool`.
+/// Appends the name of `pool` if a job of the waiting pool waits for a job of `pool`. The waiting
+/// pool has the number `number`, and `pool` has the number `other`.
 #[tactic(auto, using(std::proofs::lemmas::List::map_push))]
 fn push_if_waited(
     alloc: Global,

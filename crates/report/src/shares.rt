@@ -14,7 +14,8 @@ use weights::Vector;
 pub struct Shares {
     /// For each client kind in plan order, the weight of all its clients at their start.
     pub clients: Vec<u64>,
-    /// For each pool in plan order, the weight of its threads when it has its maximum of threads.
+    /// For each pool in plan order, the weight of all its threads when the pool has as many threads
+    /// as its maximum.
     pub workers: Vec<u64>,
 }
 

@@ -66,8 +66,11 @@ fn push_number(text: &mut String, number: u64) -> Result<(), AllocError>
     write!(text, "{number}")
 }
 
-/// Returns whether the pool has no maximum: its core threads may time out, its queue is unbounded,
-/// and its maximum is [`MAX_THREADS`].
+/// Returns whether the pool has no maximum of its own. This is so if all of these hold:
+///
+/// - The core threads of the pool may time out.
+/// - The queue of the pool is unbounded.
+/// - The value of `max` is [`MAX_THREADS`].
 fn has_no_max(state: &PoolState) -> bool
     ensures { result ≡ spec.has_no_max state.now }
 {

@@ -61,8 +61,9 @@ fn push_turns(
     push_turns_from(turns, alloc, plan, turn, rest, steps.len())
 }
 
-/// Appends `turn`, and then the turns of `steps`. If the first of these steps continue `turn`, they
-/// become part of it. `all` must be at least `turn.end` plus the number of `steps`.
+/// Appends `turn`, and then the turns of `steps`. If `steps` begins with steps that continue
+/// `turn`, these steps become part of `turn`. `all` must be at least `turn.end` plus the length of
+/// `steps`.
 fn push_turns_from(
     turns: &mut Vec<Turn>,
     alloc: Global,

@@ -1,4 +1,4 @@
-//! The lines of the submits to a pool.
+//! The lines that list the submits to a pool.
 
 ghost use Rattle.std.specs.Prelude.{◌≡◌, flat_map};
 ghost use Rattle.support.specs.Pushed.{Pushes};
@@ -111,7 +111,8 @@ fn push_action(
     }
 }
 
-/// Appends the line for the submit of a job of the class at this position of the body.
+/// Appends the line for one submit of the body. `position` is the position of the submit in the
+/// body, and `class` is the index of the submitted job's class.
 fn push_line(
     text: &mut String,
     plan: &Plan,

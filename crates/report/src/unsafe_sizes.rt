@@ -103,7 +103,7 @@ pub(crate) fn push_open(text: &mut String, sizes: &SizesFound) -> Result<(), All
 }
 
 /// Returns the words that say what was not found: a counterexample, and a certificate for the
-/// declared sizes. If no certificate accepts the plan with any sizes, the words say so.
+/// declared sizes. If no other sizes can have a certificate either, the words say so.
 pub(crate) fn open_words(sizes: &SizesFound) -> &'static str
     ensures { result.now ≡ spec.open_words sizes.now }
 {

@@ -1,7 +1,7 @@
-//! Hints for standard error about likely mistakes in files. A hint says that a file lacks its
-//! second text, that it has a text of another kind, or that it has wrong line ends. Other hints say
-//! what to do about the fault of a file. Other functions of this file return why a file could not
-//! be read or written.
+//! Hints about likely mistakes in files. The hints are printed to standard error. Some hints say
+//! that a file lacks its second text, that it has a text of another kind, or that it has wrong line
+//! ends. Other hints say what to do about the fault of a file. This module also has functions that
+//! return the reason why a file could not be read or written.
 
 use plan_text::read_plan;
 use sizing_cli::{

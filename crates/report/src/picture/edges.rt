@@ -54,8 +54,9 @@ fn push_client_edges_to(
 
 // ---- from classes
 
-/// Appends the edges from each class to the classes of the jobs that its own jobs submit or get.
-/// `ranks` determines which gets are counted. If `ranks` is `None`, no get is counted.
+/// Appends the edges from each class. The body of the class submits or gets jobs, and the edges end
+/// at the classes of these jobs. `ranks` determines which gets are counted. If `ranks` is `None`,
+/// no get is counted.
 pub(crate) fn push_class_edges(
     text: &mut String,
     plan: &Plan,
@@ -138,9 +139,9 @@ fn has_get(body: &[Action], class: usize) -> bool
     body.iter().any(|action| gets_class(body, class, *action))
 }
 
-/// Returns whether the body has a counted get of a job of the class with the index `class`.
-/// `number` is the index of the class that has this body. Returns `false` if there are no ranks, or
-/// if the ranks do not fit the plan.
+/// Returns whether the body has a counted get for a job of one class. `class` is the index of this
+/// class. `number` is the index of the class that has the body. Returns `false` if there are no
+/// ranks, or if the ranks do not fit the plan.
 fn has_counted_get(
     plan: &Plan,
     ranks: Option<&Ranks>,
