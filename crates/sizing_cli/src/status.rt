@@ -24,8 +24,8 @@ pub enum Status {
     /// - The plan is not safe.
     /// - An event was refused or impossible, or jobs are stuck.
     /// - A condition of the certificate fails.
-    /// - A search found no certificate or no sizes.
-    /// - The sizes that were found differ from the declared sizes.
+    /// - `certify` found no certificate, or `fit` found no sizes.
+    /// - `fit` lists a size that differs from the declared size.
     /// - A recording differs from the plan.
     Refused,
     /// The input has a fault, which the answer reports.
