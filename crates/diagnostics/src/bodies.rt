@@ -26,7 +26,7 @@ struct Slot<'a> {
 enum Marked {
     /// The action gets the job, which no earlier action got.
     Now,
-    /// The action with this index got the job before.
+    /// An earlier action got the job. The field is the index of that action.
     Before(usize),
     /// No earlier action submitted a job under the name.
     Missing,

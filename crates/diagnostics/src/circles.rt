@@ -7,8 +7,8 @@ use std::alloc::{AllocError, Global};
 /// possibly through other classes, back to the same class.
 #[derive(Drop)]
 struct CircleSearch {
-    /// The submitter of each class that the search has found, and `None` for each other class. The
-    /// search found a class through a submit in the body of its submitter.
+    /// The submitter of each class, or `None` if the search has not found the class. The search
+    /// finds a class in the body of the class's submitter.
     submitters: Vec<Option<usize>>,
     /// The classes that were found, in the order in which they were found.
     found: Vec<usize>,
@@ -58,7 +58,7 @@ impl CircleSearch {
     }
 
     /// Returns the submitter of the class, or `None` if the search has not found the class. The
-    /// search found the class through a submit in the body of its submitter.
+    /// search finds a class in the body of the class's submitter.
     fn submitter_of(&self, class: usize) -> Option<usize> {
         self.submitters.get(class).copied().flatten()
     }

@@ -53,9 +53,9 @@ pub enum Lint {
     RunInCaller(usize),
     /// This client kind does not repeat: each client of this kind goes through its body once.
     GoesOnce(usize),
-    /// The pools to which this client kind submits jobs are small for the number of its clients.
-    /// Each of these pools must not reject jobs, has one core thread, and has a bounded queue. The
-    /// capacity of the queue is below the number of clients of the kind.
+    /// This client kind submits jobs only to pools that are small for the number of its clients.
+    /// Such a pool has one core thread, and a bounded queue with a capacity below this number. The
+    /// plan does not allow such a pool to reject jobs.
     Crowd(usize),
     /// The body of a class or client kind has a `work` with a length of at least 50 units. This
     /// length is also a size of a pool or the count of a client kind. The fields are the kind of

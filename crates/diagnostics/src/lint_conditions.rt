@@ -8,8 +8,8 @@ ghost use Rattle.diagnostics.specs.Lints as spec;
 use crate::open_futures::has_open_future;
 use job_bodies::{Action, Class, Client, Plan, Pool, has_get_of};
 
-/// The factor of [`is_far_above`], which divides the capacity of a queue by this factor. If the
-/// result exceeds a number of jobs, the capacity is far above this number.
+/// The number by which [`is_far_above`] divides the capacity of a queue. The capacity is far above
+/// a number of jobs if the quotient exceeds that number of jobs.
 const FAR_ABOVE: u64 = 10;
 
 /// The least length of a `work`, in units, that can look like a size. For a shorter length,
@@ -241,8 +241,8 @@ fn is_small_at(plan: &Plan, count: u64, pool: usize) -> bool
     }
 }
 
-/// Returns whether the pool is small for `count` clients. Such a pool must not reject jobs, has one
-/// core thread, and has a bounded queue with a capacity below `count`.
+/// Returns whether the pool is small for `count` clients. Such a pool has one core thread, and a
+/// bounded queue with a capacity below `count`. The plan does not allow such a pool to reject jobs.
 fn is_small(count: u64, pool: &Pool) -> bool
     ensures { result ≡ spec.is_small count pool.now }
 {

@@ -44,8 +44,8 @@ pub(crate) fn lints_of(
 
 /// Returns the lints of the plan. `needed` and `is_safe_at_core` are as in [`lints_of`].
 ///
-/// - `cause` is a reason why no certificate accepts the plan, whatever its sizes. `cause` is `None`
-///   if there is no such reason.
+/// - `cause` is a reason why no certificate accepts the plan, whatever sizes the plan has. `cause`
+///   is `None` if there is no such reason.
 /// - `marks` has, for each class, whether clients submit it, directly or through other jobs.
 /// - `repeated` has, for each class, whether repeating clients submit it, directly or through other
 ///   jobs.
@@ -92,8 +92,8 @@ fn push_all(
     push_plan(found, plan, needed, marks)
 }
 
-/// Appends the lint for `cause`, a reason why no certificate accepts the plan, whatever its sizes.
-/// Appends nothing if `cause` is `None`.
+/// Appends the lint for `cause`, or nothing if `cause` is `None`. `cause` is a reason why no
+/// certificate accepts the plan, whatever sizes the plan has.
 fn push_cause(found: &mut Vec<Lint>, cause: Option<Cause>) -> Result<(), AllocError>
     ensures { OnOk result (found.new.items ≡ found.old.items ++ spec.lints_of_cause cause) }
 {

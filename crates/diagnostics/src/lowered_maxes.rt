@@ -16,8 +16,8 @@ use std::alloc::{AllocError, Global};
 ///   pool has a bounded queue, a maximum above its core size, and core threads that never time out.
 /// - No such pool may reject jobs.
 ///
-/// A pool that may reject jobs can reject more with a lower maximum, and clients do not wait for
-/// rejected jobs. So the plan with lowered maximums would say nothing about the original plan.
+/// With a lower maximum, a pool that may reject jobs can reject more jobs, and clients do not wait
+/// for rejected jobs. So the plan with lowered maximums would say nothing about the original plan.
 pub fn can_be_lowered(plan: &Plan) -> bool
     ensures { result ≡ spec.can_be_lowered plan.now }
 {

@@ -118,9 +118,9 @@ fn named_after<'a>(body: &'a [Value], get: usize, name: &str) -> Option<Submit<'
     None
 }
 
-/// Returns a submit without `as` from the actions before index `get`. If such a submit has the
-/// class `name`, returns the first one of this class. Otherwise returns the last such submit, or
-/// `None` if there is none.
+/// Searches the actions before the index `get` for submits without `as`. Returns the first one of
+/// the class `name`. If none of them has this class, returns the last one. Returns `None` if there
+/// are no such submits.
 fn unnamed_before<'a>(body: &'a [Value], get: usize, name: &str) -> Option<Submit<'a>> {
     let mut last = None;
     for (action, value) in body.iter().enumerate() {

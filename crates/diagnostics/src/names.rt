@@ -1,4 +1,4 @@
-//! The checks of names: each is well-formed, and unique in its list.
+//! The checks of names: each name must be well-formed, and unique in its list.
 
 use crate::collector::FaultCollector;
 use crate::entry::{PlacedEntry, list_of};
@@ -46,7 +46,7 @@ fn duplicate_name(
     entry.report(collector, DOUBLE_NAME, entry.value_place("name"), &words)
 }
 
-/// Returns the message for a malformed name, which states the rule for names. If
+/// Returns the message for a malformed name. The message states the rule for names. If
 /// [`well_formed_name`] turns `name` into a valid name, the message ends with this valid name.
 pub(crate) fn name_rule(alloc: Global, name: &str) -> Result<String, AllocError> {
     let similar = well_formed_name(alloc, name)?;

@@ -3,7 +3,7 @@
 
 use support::number::*;
 
-/// Returns the rule that a plan with a fault of this number violates.
+/// Returns the rule for a fault number. A plan with a fault of this number violates the rule.
 pub(crate) fn rule_of(number: u8) -> &'static str {
     match number {
         NOT_TOML => "invalid TOML",

@@ -155,8 +155,8 @@ fn list_suggestion(alloc: Global, key: &str) -> Result<String, AllocError> {
     }
 }
 
-/// Returns the entries of a list that are tables. If the document has no such list, returns no
-/// entries. Reports
+/// Returns those entries of a list that are tables. If the document does not have the list, returns
+/// no entries. Reports
 ///
 /// - a list that is not an array,
 /// - entries that are not tables, and

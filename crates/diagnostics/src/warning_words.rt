@@ -173,9 +173,9 @@ fn words_of_growth(
     )
 }
 
-/// Finds a job that is submitted before this position of the body and got after it. Returns the
-/// name of the job's class. Of several such jobs, takes the one with the first get. Returns an
-/// empty name if there is no such job.
+/// Finds a job with a submit before this position of the body and a get after this position.
+/// Returns the name of the job's class. If there are several such jobs, takes the job with the
+/// first get. Returns an empty name if there is no such job.
 fn open_class<'a>(plan: &'a Plan, body: &[Action], position: usize) -> &'a str {
     for (number, action) in body.iter().enumerate() {
         if let Action::Get(submit) = *action {

@@ -40,8 +40,8 @@ use std::thread::Threads;
 /// written if its text is too long to be read back.
 ///
 /// The certificate file need not exist. A regular file is replaced only if it is empty or contains
-/// a JSON object with the keys of a certificate. In these cases, the call fails before it reads the
-/// input:
+/// a JSON object with the keys of a certificate. The call fails before it reads the input in these
+/// cases:
 ///
 /// - The certificate file is a regular file that has other content or cannot be read.
 /// - The name of the certificate file is `-`, or is the name of a directory.

@@ -22,8 +22,7 @@ use std::alloc::Global;
 use std::sync::Wait;
 use std::thread::Threads;
 
-/// The answer of `ask`, and the text of the certificate that the answer is based on, if there is
-/// one.
+/// The answer of `ask`, and optionally the text of the certificate that the answer is based on.
 #[derive(Drop)]
 pub struct AskOutput {
     pub output: Output,

@@ -40,8 +40,8 @@ pub fn bundle_of(input: &[u8]) -> Option<Bundle<'_>>
 /// Splits an input at its first line `%%`. If this line is the last line of the input, it may have
 /// no newline. Returns `None` if no line is `%%`.
 ///
-/// A plan's text has no line `%%`. So any further line `%%` is in the second part, where a fault
-/// can report its line number.
+/// A plan's text has no line `%%`. So any further line `%%` is in the second part. A message about
+/// such a line can then give the line's number.
 pub fn first_bundle_of(input: &[u8]) -> Option<Bundle<'_>>
     ensures { option_map (λ bundle. record { plan = bundle.plan.now; second = bundle.second.now })
         result

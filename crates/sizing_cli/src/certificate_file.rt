@@ -91,9 +91,9 @@ fn ensure_replaceable_text<'a>(
     }
 }
 
-/// Returns true if a certificate may replace this text. The text must be empty or itself a
-/// certificate, which is a JSON object with the keys of a certificate. The values of these keys are
-/// not checked, because they may be for an older version of the plan.
+/// Returns true if a certificate may replace this text. The text must be empty, or a JSON object
+/// with the keys of a certificate. The values of these keys are not checked, because they may be
+/// for an older version of the plan.
 fn is_replaceable(alloc: Global, text: &[u8]) -> Result<bool, AllocError>
     ensures { IfOk result (λ replaceable. replaceable ≡ spec.is_replaceable text.now) }
 {

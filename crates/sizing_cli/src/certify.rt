@@ -121,7 +121,8 @@ fn found_text<R: Threads + Wait + Sync>(
     Ok(CertificateSearch::Text(text))
 }
 
-/// Returns the bundle of the plan's text and the certificate's text, after `check` accepted it.
+/// Returns the bundle of the plan's text and the certificate's text, after `check` accepted this
+/// bundle.
 ///
 /// # Errors
 ///

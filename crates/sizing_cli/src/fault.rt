@@ -16,8 +16,10 @@ const USAGE: u8 = 2;
 /// The exit status for any error other than bad arguments.
 const NO_ANSWER: u8 = 3;
 
-/// The reason why a command line got no complete answer. If neither the sink nor the certificate's
-/// file failed, nothing was written.
+/// The error that a command line ends with. Nothing was written, except in two cases:
+///
+/// - If the sink failed, a prefix of the answer was written.
+/// - If the certificate's file could not be written, the whole answer was written.
 #[derive(Debug, Drop)]
 pub enum CliError<'a> {
     /// An error of `clap`, or a request for help. Its `Display` writes `clap`'s own text for the

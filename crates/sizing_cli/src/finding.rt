@@ -31,7 +31,8 @@ const STATES: usize = DEFAULT_STATES as usize;
 ///
 /// 1. If a certificate is given and accepts the plan, the plan is safe.
 /// 2. Otherwise, the plan is safe if a search finds a certificate.
-/// 3. Otherwise, searches for other sizes and for a witness, which shows that the plan is not safe.
+/// 3. Otherwise, further searches look for other sizes and for a witness. A witness shows that the
+///    plan is not safe.
 ///
 /// # Errors
 ///
@@ -116,9 +117,9 @@ fn without_witness(alloc: Global, plan: &Plan, sizes: SizesFound) -> Result<Plan
     }
 }
 
-/// Returns the finding that the plan is safe by this certificate. The finding also says, for each
-/// pool, after how many events the pool rejects a job. This number is missing if a search found no
-/// such events.
+/// Returns the finding that the plan is safe by this certificate. The finding also has a number for
+/// each pool: the number of events after which the pool rejects a job. This number is missing if a
+/// search found no such events.
 fn safe_finding(alloc: Global, plan: &Plan, cert: Cert) -> Result<PlanFinding, AllocError>
     requires { IsTrue (accepted plan.now cert) }
     ensures finding { IfOk result (IsFinding plan.now) }

@@ -102,8 +102,8 @@ fn plan_warnings(
     }
 }
 
-/// Returns the warnings about `plan`, if a certificate accepts its lowered plan. `lowered` has the
-/// lowered plan and this certificate.
+/// Returns the warnings about `plan` for the case that a certificate accepts the lowered plan.
+/// `lowered` has the lowered plan and this certificate.
 fn lowered_warnings(
     alloc: Global,
     text: &[u8],

@@ -76,8 +76,8 @@ fn fit_plan<R: Threads + Wait + Sync>(
     answer_of_sizes(rt, alloc, sizes_form, plan, &found)
 }
 
-/// Returns the answer for the result of a search for sizes. The answer has the sizes, as lines or
-/// as a bundle. If it has no sizes, it has the reason for that.
+/// Returns the answer for `found`, the result of a search for sizes. The answer has the sizes, as
+/// lines or as a bundle. An answer without sizes has the reason instead.
 ///
 /// # Errors
 ///

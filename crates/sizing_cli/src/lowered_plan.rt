@@ -1,5 +1,5 @@
-//! The lowered plan, in which the maximum of each pool is its core size. A pool whose core threads
-//! may time out keeps its maximum.
+//! The lowered plan, in which the maximum of each pool is its core size. Only a pool whose core
+//! threads may time out keeps its maximum.
 
 ghost use Rattle.std.specs.Prelude.{IfOk, IfErr, IfSome, IsTrue};
 ghost use Rattle.sizing_cli.specs.Ask as spec;
@@ -31,10 +31,10 @@ pub(crate) struct LoweredPlan {
 /// A pool whose core threads may time out keeps its maximum, because it can start threads above its
 /// core size even if its queue is never full.
 ///
-/// Returns `None` without a search if one of these holds:
+/// Returns `None` without a search in these cases:
 ///
-/// - The lowered plan would have the same maximums.
-/// - A pool whose maximum would be lowered may reject jobs.
+/// - The lowered plan would have the same maximums as the original plan.
+/// - A pool may reject jobs, and the maximum of this pool would be lowered.
 /// - `finding` already says whether the plan is safe. If the plan is not safe, the lowered plan is
 ///   not safe either: both plans behave alike until the lowered plan refuses a submit.
 ///

@@ -1,12 +1,12 @@
-//! The gate of the program, which never blocks. A gate is a hook. A run calls it from its threads,
-//! and a search or a check calls it before each pool.
+//! The gate of the program. This gate never blocks. A gate is a hook: a run calls the gate from the
+//! run's threads, and a search or a check calls the gate before each pool.
 
 use cert_check::PoolGate;
 use locked_runner::{Actor, Gate, GateFault};
 
-/// A gate that does nothing. A search or a check asks the gate before each pool whether it may
-/// continue, and this gate always permits it. A run calls the gate to do the declared work, which
-/// takes no time with this gate.
+/// A gate that does nothing. Before each pool, a search or a check asks the gate for permission to
+/// continue. This gate always gives the permission. A run calls the gate to do the declared work.
+/// With this gate, the work takes no time.
 pub struct NoopGate;
 
 impl PoolGate for NoopGate {

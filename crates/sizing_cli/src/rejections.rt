@@ -12,9 +12,9 @@ use std::alloc::{AllocError, Global};
 /// The maximum number of states that the search visits for each pool.
 const STATES: usize = 100_000;
 
-/// Returns, for each pool of the certificate, after how many events the pool rejects a job. The
-/// number is `None` if no such events are found. A pool is not searched if the certificate has a
-/// bound for it. Such a pool never rejects a job if the certificate accepts the plan.
+/// Returns an element for each pool of the certificate: the number of events after which the pool
+/// rejects a job, or `None` if no such events are found. The search skips each pool for which the
+/// certificate has a bound. If the certificate accepts the plan, such a pool never rejects a job.
 #[tactic(auto, using(crate::proofs::RejectionLists::one_more))]
 pub(crate) fn rejections_of(
     alloc: Global,
@@ -32,8 +32,8 @@ pub(crate) fn rejections_of(
     Ok(found)
 }
 
-/// Returns after how many events the pool rejects a job. `part` is the part of the certificate for
-/// this pool. Returns `None` if `part` has a bound, or if the search finds no such events.
+/// Returns the number of events after which the pool rejects a job. `part` is this pool's part of
+/// the certificate. Returns `None` if `part` has a bound, or if the search finds no such events.
 fn rejection_of(
     alloc: Global,
     plan: &Plan,

@@ -24,7 +24,8 @@ pub enum Status {
     /// - The plan is not safe.
     /// - An event was refused or impossible, or jobs are stuck.
     /// - A condition of the certificate fails.
-    /// - No certificate or sizes were found, or sizes would change.
+    /// - `certify` found no certificate, or `fit` found no sizes.
+    /// - `fit` lists a size that differs from the declared size.
     /// - A recording differs from the plan.
     Refused,
     /// The input has a fault, which the answer reports.
@@ -60,7 +61,7 @@ impl Status {
     }
 }
 
-/// The fault of a command that gave no complete answer. A command ends with one of these numbers:
+/// The fault of a command that gave no complete answer. The number of the fault is one of these:
 ///
 /// - 20 (`Memory`): memory ran out, or a thread could not be started.
 /// - 41 (`Strange`): a run ended with this fault (see [`RunFault`](locked_runner::RunFault)).

@@ -58,9 +58,9 @@ fn confirm(
     confirmed(alloc, plan, found.events, members, &standing)
 }
 
-/// Returns the standing vector of each pool, in plan order. A standing vector can prove that a pool
-/// never starts a thread above its core size. If the search finds no standing vector for a pool,
-/// the pool has a vector without weights. The list is empty if a class submits itself, directly or
+/// Returns a vector for each pool, in plan order. This is a standing vector of the pool or, if the
+/// search finds none, a vector without weights. A standing vector can prove that a pool never
+/// starts a thread above its core size. The list is empty if a class submits itself, directly or
 /// through other classes.
 fn standing_vectors(alloc: Global, plan: &Plan) -> Result<Vec<Vector>, AllocError> {
     let mut vectors = Vec::new(alloc);
