@@ -36,9 +36,11 @@ SOUND = ["sound", "crlf_and_tab"]
 # The mistakes that the schema finds, each with the path of its first error.
 SCHEMA = {
     "plural_table": "",
+    "class_called_job": "",
     "misspelled_key": "pool.1",
     "java_key": "pool.0",
     "spring_key": "pool.0",
+    "spring_names": "pool.0",
     "timeout_in_seconds": "pool.0.core_timeout",
     "missing_key": "pool.1",
     "count_missing": "client.0",
@@ -46,6 +48,7 @@ SCHEMA = {
     "body_is_text": "class.1.body",
     "name_with_dash": "pool.1.name",
     "size_zero": "pool.0.queue",
+    "max_value_queue": "pool.1.queue",
     "unlimited_queue": "pool.1.queue",
     "max_without_a_bound": "pool.1.max",
     "work_without_number": "class.1.body.0",
@@ -65,6 +68,7 @@ SYNTAX = [
     "yes_for_true",
     "capital_true",
     "unquoted_unbounded",
+    "repeated_key",
     "utf16",
     "a_bundle_for_a_plan",
 ]

@@ -14,12 +14,20 @@ zero_hint key =
 abbrev pub can_be_unbounded : List ℕ → Bool
 can_be_unbounded key = bytes_eq key (codes "max") || bytes_eq key (codes "queue")
 
+-- whether a word with these letters says that a size has no limit
 abbrev pub names_no_limit : List ℕ → Bool
-names_no_limit text = bytes_eq text (codes "unlimited") || (bytes_eq text (codes "infinite") || bytes_eq text (codes "none"))
+names_no_limit letters =
+    bytes_eq letters (codes "unbounded") || (bytes_eq letters (codes "unlimited") || (bytes_eq letters (codes "infinite")
+    || (bytes_eq letters (codes "none") || (bytes_eq letters (codes "maxvalue") || bytes_eq letters (codes "integermaxvalue")))))
 
--- the end of the message for a text in place of a number
-abbrev pub no_limit_hint : List ℕ → List ℕ → List ℕ
-no_limit_hint key text = if can_be_unbounded key && names_no_limit text then codes "; did you mean \"unbounded\"?" else codes ""
+-- the end of the message for a text in place of a number; the text may say that the size has no limit
+abbrev pub no_limit_hint : List ℕ → Bool → List ℕ
+no_limit_hint key has_no_limit = if can_be_unbounded key && has_no_limit then codes "; did you mean \"unbounded\"?" else codes ""
+
+-- the end of the message for a number above the largest valid one; the queue of the pool may have no limit
+abbrev pub large_hint : List ℕ → Bool → List ℕ
+large_hint key has_no_limit =
+    if bytes_eq key (codes "queue") || (bytes_eq key (codes "max") && has_no_limit) then codes "; use \"unbounded\"" else codes ""
 
 -- the end of the message for a maximum of `unbounded` in a pool with a bounded queue
 abbrev pub unbounded_max_hint : List ℕ
@@ -28,6 +36,10 @@ unbounded_max_hint = codes "; max = \"unbounded\" needs queue = \"unbounded\""
 -- the end of the message for a maximum that is less than core; empty if the queue of the pool is bounded
 abbrev pub max_hint : Bool → List ℕ
 max_hint is_unbounded = if is_unbounded then codes "; with queue = \"unbounded\" you can write max = \"unbounded\"" else codes ""
+
+-- the indefinite article before the name of a type
+abbrev pub article : List ℕ → List ℕ
+article found = if bytes_eq found (codes "integer") || bytes_eq found (codes "array") then codes "an" else codes "a"
 
 -- the hint if the first line of a text is that of a recording or of a certificate
 abbrev pub kind_hint : List ℕ → Option (List ℕ)

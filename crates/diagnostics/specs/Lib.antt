@@ -2,6 +2,8 @@ pub mod AtCore
 pub mod Circles
 pub mod Diagnostic
 pub mod Hints
+pub mod KeyHints
+pub mod Letters
 pub mod Lines
 pub mod Lints
 pub mod OpenFutures

@@ -5,8 +5,8 @@ use crate::actions::{ParsedAction, action_error, parse_action, range_of_work};
 use crate::collector::FaultCollector;
 use crate::diagnostic::NumberRange;
 use crate::entry::PlacedEntry;
+use crate::list_names::ListNames;
 use crate::missing_submits::missing_submit;
-use crate::suggestions::{comma_list, suggestion};
 use std::alloc::{AllocError, Global};
 use support::number::{BAD_ACTION, NO_SUCH_CLASS, SLOT_EMPTY, SLOT_OPEN};
 use toml::Value;
@@ -71,7 +71,7 @@ impl CheckedAction<'_> {
 pub(crate) fn body(
     collector: &mut FaultCollector,
     entry: &PlacedEntry<'_>,
-    classes: &[&str],
+    classes: &ListNames<'_>,
 ) -> Result<(), AllocError> {
     let Some(value) = entry.value("body") else {
         return Ok(());
@@ -87,7 +87,7 @@ fn check_actions<'a>(
     collector: &mut FaultCollector,
     entry: &'a PlacedEntry<'a>,
     actions: &'a [Value],
-    classes: &[&str],
+    classes: &ListNames<'_>,
     slots: &mut Vec<Slot<'a>>,
 ) -> Result<(), AllocError> {
     for (action, value) in actions.iter().enumerate() {
@@ -107,7 +107,7 @@ fn check_actions<'a>(
 fn check_action<'a>(
     collector: &mut FaultCollector,
     checked: CheckedAction<'a>,
-    classes: &[&str],
+    classes: &ListNames<'_>,
     slots: &mut Vec<Slot<'a>>,
 ) -> Result<(), AllocError> {
     match parse_action(checked.text) {
@@ -136,32 +136,13 @@ fn check_submit(
     collector: &mut FaultCollector,
     checked: CheckedAction<'_>,
     class: &str,
-    classes: &[&str],
+    classes: &ListNames<'_>,
 ) -> Result<(), AllocError> {
-    if classes.contains(&class) {
+    if classes.contains(class) {
         return Ok(());
     }
-    let words = unknown_class(collector.alloc, class, classes)?;
+    let words = classes.unknown(collector.alloc, class)?;
     checked.report(collector, NO_SUCH_CLASS, &words)
-}
-
-/// Returns the message for a submit of the class `class`, which the plan does not have. `classes`
-/// has the names of the plan's classes.
-fn unknown_class(alloc: Global, class: &str, classes: &[&str]) -> Result<String, AllocError> {
-    let otherwise = known_classes(alloc, classes)?;
-    let right = suggestion(alloc, class, classes, &otherwise)?;
-    format!(in alloc; "unknown class {class}{right}")
-}
-
-/// Returns the end of the message for an unknown class: a list of the plan's classes. If the plan
-/// has no classes, the end says what to add.
-fn known_classes(alloc: Global, classes: &[&str]) -> Result<String, AllocError> {
-    if classes.is_empty() {
-        let words = "; the plan has no classes: add a [[class]] with this name";
-        return String::from_str(alloc, words);
-    }
-    let all = comma_list(alloc, classes)?;
-    format!(in alloc; "; the classes are {all}")
 }
 
 /// Checks a submit under this name. A name is in use from a submit under the name until the get of

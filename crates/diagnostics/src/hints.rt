@@ -16,12 +16,12 @@ pub(crate) fn zero_hint(key: &str) -> &'static str
 }
 
 /// Returns the end of the message for a string in place of a number. If the key is `max` or `queue`
-/// and the string is `unlimited`, `infinite` or `none`, the end asks whether `unbounded` was meant.
-/// Otherwise the end is empty.
-pub(crate) fn no_limit_hint(key: &str, text: &str) -> &'static str
-    ensures { result.now ≡ spec.no_limit_hint key.now text.now }
+/// and `has_no_limit` is true, the end asks whether `unbounded` was meant. Otherwise the end is
+/// empty.
+pub(crate) fn no_limit_hint(key: &str, has_no_limit: bool) -> &'static str
+    ensures { result.now ≡ spec.no_limit_hint key.now has_no_limit }
 {
-    if can_be_unbounded(key) && names_no_limit(text) {
+    if can_be_unbounded(key) && has_no_limit {
         "; did you mean \"unbounded\"?"
     } else {
         ""
@@ -34,10 +34,28 @@ fn can_be_unbounded(key: &str) -> bool
     matches!(key, "max" | "queue")
 }
 
-fn names_no_limit(text: &str) -> bool
-    ensures { result ≡ spec.names_no_limit text.now }
+/// Returns whether a word says that a size has no limit. `letters` is the word in lowercase,
+/// without other characters than letters and digits.
+pub(crate) fn names_no_limit(letters: &str) -> bool
+    ensures { result ≡ spec.names_no_limit letters.now }
 {
-    matches!(text, "unlimited" | "infinite" | "none")
+    matches!(
+        letters,
+        "unbounded" | "unlimited" | "infinite" | "none" | "maxvalue" | "integermaxvalue"
+    )
+}
+
+/// Returns the end of the message for a number that is larger than every valid one. The end says to
+/// write `unbounded`, if the key is `queue`, or if it is `max` and `has_no_limit` is true, since the
+/// queue has no limit. Otherwise the end is empty.
+pub(crate) fn large_hint(key: &str, has_no_limit: bool) -> &'static str
+    ensures { result.now ≡ spec.large_hint key.now has_no_limit }
+{
+    if key == "queue" || (key == "max" && has_no_limit) {
+        "; use \"unbounded\""
+    } else {
+        ""
+    }
 }
 
 /// Returns the end of the message for a maximum of `unbounded` in a pool with a bounded queue.
@@ -56,6 +74,16 @@ pub(crate) fn max_hint(is_unbounded: bool) -> &'static str
         "; with queue = \"unbounded\" you can write max = \"unbounded\""
     } else {
         ""
+    }
+}
+
+/// Returns the indefinite article for the name of a type of TOML.
+pub(crate) fn article(found: &str) -> &'static str
+    ensures { result.now ≡ spec.article found.now }
+{
+    match found {
+        "integer" | "array" => "an",
+        _ => "a",
     }
 }
 

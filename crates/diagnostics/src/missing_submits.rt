@@ -24,6 +24,9 @@ pub(crate) fn missing_submit(
     name: &str,
     names: &[&str],
 ) -> Result<String, AllocError> {
+    if has_invalid_submit(body, get, name) {
+        return format!(in alloc; "nothing was submitted as {name}");
+    }
     if let Some(Submit { action, text, .. }) = named_after(body, get, name) {
         return format!(in alloc;
             "{name} is submitted only after this get, by action {action} \"{text}\""
@@ -31,6 +34,22 @@ pub(crate) fn missing_submit(
     }
     let right = likely_cause(alloc, body, get, name, names)?;
     format!(in alloc; "nothing was submitted as {name}{right}")
+}
+
+/// Returns whether a text before the action with the index `get` is not an action, but looks like a
+/// submit under this name, such as `execute a as x`.
+fn has_invalid_submit(body: &[Value], get: usize, name: &str) -> bool {
+    for (action, value) in body.iter().enumerate() {
+        if action < get
+            && let Some(text) = value.as_str()
+            && parse_action(text).is_none()
+            && let Some((_, slot)) = text.split_once(" as ")
+            && slot.contains(name)
+        {
+            return true;
+        }
+    }
+    false
 }
 
 /// Returns the end of the message for a get without an earlier submit under its name. The end

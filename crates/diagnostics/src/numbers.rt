@@ -3,7 +3,7 @@
 use crate::collector::FaultCollector;
 use crate::diagnostic::NumberRange;
 use crate::entry::PlacedEntry;
-use crate::hints::{max_hint, unbounded_max_hint, zero_hint};
+use crate::hints::{large_hint, max_hint, unbounded_max_hint, zero_hint};
 use job_bodies::MAX_SIZE;
 use std::alloc::AllocError;
 use support::number::BAD_NUMBER;
@@ -11,8 +11,9 @@ use support::number::BAD_NUMBER;
 /// The largest valid size and count.
 const MOST: i64 = MAX_SIZE as i64;
 
-/// Returns the least valid number for the key. The number is 0 for the queue of a pool that may
-/// reject jobs, because such a queue can be a `SynchronousQueue`. Otherwise it is 1.
+/// Returns the least valid number for the key, whatever the core size is. The number is 0 for the
+/// queue of a pool that may reject jobs, because such a queue can be a `SynchronousQueue`.
+/// Otherwise it is 1.
 fn least(entry: &PlacedEntry<'_>, key: &str) -> u64 {
     if key == "queue" && entry.is_set("may_reject") {
         0
@@ -49,8 +50,8 @@ fn report_number(
     key: &str,
     number: i64,
 ) -> Result<(), AllocError> {
-    let hint = if number == 0 { zero_hint(key) } else { "" };
-    let low = least(entry, key);
+    let hint = number_hint(entry, key, number);
+    let low = low_end(entry, key);
     let words = format!(in collector.alloc;
         "{key} is {number}, but must be from {low} to {MOST}{hint}"
     )?;
@@ -60,6 +61,36 @@ fn report_number(
     };
     let place = entry.value_place(key);
     entry.report_with_range(collector, BAD_NUMBER, place, &words, Some(range))
+}
+
+/// Returns the end of the message for a number that is out of range. It is empty if there is no
+/// hint.
+fn number_hint(entry: &PlacedEntry<'_>, key: &str, number: i64) -> &'static str {
+    if number == 0 {
+        zero_hint(key)
+    } else if number > MOST {
+        large_hint(key, has_no_limit(entry))
+    } else {
+        ""
+    }
+}
+
+/// Returns whether the pool's queue has no limit: it is unbounded, or its capacity is larger than
+/// every valid one.
+fn has_no_limit(pool: &PlacedEntry<'_>) -> bool {
+    match pool.number("queue") {
+        Some(queue) => queue > MOST,
+        None => pool.is_unbounded("queue"),
+    }
+}
+
+/// Returns the low end of the valid range for the key. For a maximum, this is the core size.
+fn low_end(entry: &PlacedEntry<'_>, key: &str) -> u64 {
+    if key == "max" {
+        least_max(entry)
+    } else {
+        least(entry, key)
+    }
 }
 
 /// Reports the sizes of a pool that are out of range. The maximum `unbounded` is out of range if

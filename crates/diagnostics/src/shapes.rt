@@ -2,8 +2,10 @@
 
 use crate::collector::FaultCollector;
 use crate::entry::{PlacedEntry, UNBOUNDED, list_of};
-use crate::hints::no_limit_hint;
-use crate::suggestions::{comma_list, suggestion};
+use crate::hints::{article, names_no_limit, no_limit_hint};
+use crate::key_hints::key_hint;
+use crate::letters::letters_of;
+use crate::suggestions::{comma_list, nearest, suggestion};
 use job_bodies::{MAX_ACTIONS, Part};
 use std::alloc::{AllocError, Global};
 use support::number::{MISSING_KEY, TOO_MANY, UNKNOWN_KEY, WRONG_TYPE};
@@ -71,7 +73,7 @@ fn key_rule(key: &'static str) -> Option<KeyRule> {
         ),
         "queue" => (
             ValueKind::Size,
-            "write queue = N, the capacity of its queue",
+            "write queue = N, the capacity of its queue, or queue = \"unbounded\"",
         ),
         "count" => (
             ValueKind::Number,
@@ -85,28 +87,6 @@ fn key_rule(key: &'static str) -> Option<KeyRule> {
         _ => return None,
     };
     Some(KeyRule { key, wanted, hint })
-}
-
-/// Translates a key of Java or of another configuration format into the key of a plan, such as
-/// `corePoolSize` into `core`. Returns `None` if no key of a plan corresponds to this key.
-fn plan_key_for(key: &str) -> Option<&'static str> {
-    match key {
-        "corePoolSize" | "corepoolsize" | "core_pool_size" | "threads" | "size" => Some("core"),
-        "maximumPoolSize" | "maxPoolSize" | "maximum" | "max_pool_size" => Some("max"),
-        "queueCapacity" | "capacity" | "workQueue" | "queue_capacity" | "queueSize" => Some(
-            "queue",
-        ),
-        "prestartAllCoreThreads" => Some("prestart"),
-        "allowCoreThreadTimeOut"
-        | "allowCoreThreadTimeout"
-        | "allow-core-thread-timeout"
-        | "allow_core_thread_timeout" => Some("core_timeout"),
-        "instances" | "number" | "n" => Some("count"),
-        "loop" | "forever" | "repeats" => Some("repeat"),
-        "actions" | "steps" | "run" => Some("body"),
-        "executor" => Some("pool"),
-        _ => None,
-    }
 }
 
 /// Reports the unknown keys of an entry.
@@ -139,12 +119,13 @@ fn unknown_key(
     entry.report(collector, UNKNOWN_KEY, entry.key_place(key), &words)
 }
 
-/// Returns the end of the message for a key that an entry of this kind cannot have. The end
-/// suggests another key, or lists all keys.
+/// Returns the end of the message for a key that an entry of this kind cannot have. The end says
+/// what to write instead.
 fn key_suggestion(alloc: Global, part: Part, key: &str) -> Result<String, AllocError> {
-    match plan_key_for(key) {
-        Some(name) if has_key(part, name) => format!(in alloc; "; use {name}"),
-        _ => similar_key(alloc, key, keys_of(part)),
+    let letters = letters_of(alloc, key)?;
+    match key_hint(part, &letters) {
+        Some(hint) => String::from_str(alloc, hint),
+        None => similar_key(alloc, key, keys_of(part)),
     }
 }
 
@@ -209,9 +190,22 @@ fn wrong_type(
     let key = rule.key;
     let rule = rule_of(rule.wanted);
     let found = value.type_str();
-    let hint = no_limit_hint(key, value.as_str().unwrap_or(""));
-    let words = format!(in collector.alloc; "{key} is a {found}, but must be {rule}{hint}")?;
+    let an = article(found);
+    let has_no_limit = means_no_limit(collector.alloc, value.as_str().unwrap_or(""))?;
+    let hint = no_limit_hint(key, has_no_limit);
+    let words = format!(in collector.alloc; "{key} is {an} {found}, but must be {rule}{hint}")?;
     entry.report(collector, WRONG_TYPE, entry.value_place(key), &words)
+}
+
+/// Returns whether the text says that a size has no limit, or is a misspelled `unbounded`.
+fn means_no_limit(alloc: Global, text: &str) -> Result<bool, AllocError> {
+    let letters = letters_of(alloc, text)?;
+    let word = letters.as_str();
+    if names_no_limit(word) {
+        return Ok(true);
+    }
+    let similar = nearest(alloc, word, &[UNBOUNDED])?;
+    Ok(similar.is_some() && word.starts_with('u'))
 }
 
 fn is_of(wanted: ValueKind, value: &Value) -> bool {
@@ -266,6 +260,7 @@ fn wrong_element(
     number: usize,
     found: &str,
 ) -> Result<(), AllocError> {
-    let words = format!(in collector.alloc; "it is a {found}, but must be a string")?;
+    let an = article(found);
+    let words = format!(in collector.alloc; "it is {an} {found}, but must be a string")?;
     entry.report_action(collector, number, WRONG_TYPE, "..", &words, None)
 }

@@ -3,6 +3,7 @@
 
 use crate::diagnostic::Diagnostic;
 use crate::hints::{ends_with_semicolon, kind_hint, word_hint};
+use crate::repeated_keys::{earlier_line, key_of};
 use crate::strings::after_column;
 use crate::unclosed_lists::unclosed_list;
 use job_bodies::PlanFault;
@@ -66,9 +67,24 @@ fn message_at(
     if let Some(start) = unclosed_list(text, place.line) {
         return format!(in alloc; "the list that begins at line {start} has no ] ({words})");
     }
+    if let Some(key) = duplicate_key(line, words)
+        && let Some(earlier) = earlier_line(text, key, place.line)
+    {
+        return format!(in alloc; "the same entry has the key {key} in line {earlier} ({words})");
+    }
     match value_hint_at(text, offset, place, line) {
         Some(hint) => with_hint(alloc, hint, words),
         None => String::from_str(alloc, words),
+    }
+}
+
+/// Returns the key that this line defines, if the parser's message `words` is that an earlier line
+/// defines it too. Otherwise returns `None`.
+fn duplicate_key<'a>(line: &'a str, words: &str) -> Option<&'a str> {
+    if words == "duplicate key" {
+        key_of(line)
+    } else {
+        None
     }
 }
 

@@ -3,8 +3,12 @@
 use crate::collector::FaultCollector;
 use crate::diagnostic::Diagnostic;
 use crate::entry::{BEGINNING, PlacedEntry, list_of};
+use crate::hints::article;
+use crate::key_hints::key_hint;
+use crate::letters::letters_of;
+use crate::list_names::ListNames;
 use crate::shapes::{has_key, keys_of};
-use crate::suggestions::{comma_list, suggestion};
+use crate::suggestions::suggestion;
 use crate::{bodies, names, numbers, shapes};
 use job_bodies::{Part, PlanFault};
 use plan_text::Places;
@@ -15,6 +19,7 @@ use toml::{Table, Value};
 /// The entries of a plan's lists. Entries that are not tables are left out.
 #[derive(Drop)]
 struct Lists<'a> {
+    document: &'a Table,
     pools: Vec<PlacedEntry<'a>>,
     classes: Vec<PlacedEntry<'a>>,
     clients: Vec<PlacedEntry<'a>>,
@@ -63,6 +68,7 @@ fn lists_of<'a>(
     let classes = entries(collector, document, Part::Class, places)?;
     let clients = entries(collector, document, Part::Client, places)?;
     Ok(Lists {
+        document,
         pools,
         classes,
         clients,
@@ -87,9 +93,9 @@ fn sizes_of_pools(
 }
 
 fn pools_of_classes(collector: &mut FaultCollector, lists: &Lists<'_>) -> Result<(), AllocError> {
-    let pool_names = names_of(collector.alloc, &lists.pools)?;
+    let pools = names_of(collector.alloc, lists.document, Part::Pool, &lists.pools)?;
     for class in &lists.classes {
-        pool_of(collector, class, &pool_names)?;
+        pool_of(collector, class, &pools)?;
     }
     Ok(())
 }
@@ -106,15 +112,15 @@ fn counts_of_clients(
 
 /// Reports the faults of the bodies of classes and client kinds.
 fn all_bodies(collector: &mut FaultCollector, lists: &Lists<'_>) -> Result<(), AllocError> {
-    let class_names = names_of(collector.alloc, &lists.classes)?;
-    bodies_of(collector, &lists.classes, &class_names)?;
-    bodies_of(collector, &lists.clients, &class_names)
+    let classes = names_of(collector.alloc, lists.document, Part::Class, &lists.classes)?;
+    bodies_of(collector, &lists.classes, &classes)?;
+    bodies_of(collector, &lists.clients, &classes)
 }
 
 fn bodies_of(
     collector: &mut FaultCollector,
     entries: &[PlacedEntry<'_>],
-    classes: &[&str],
+    classes: &ListNames<'_>,
 ) -> Result<(), AllocError> {
     for entry in entries {
         bodies::body(collector, entry, classes)?;
@@ -144,11 +150,10 @@ fn unknown_list(
 
 /// Returns the end of the message for an unknown key at the top level.
 fn list_suggestion(alloc: Global, key: &str) -> Result<String, AllocError> {
-    match key {
-        "pools" => String::from_str(alloc, "; did you mean [[pool]]?"),
-        "classes" => String::from_str(alloc, "; did you mean [[class]]?"),
-        "clients" => String::from_str(alloc, "; did you mean [[client]]?"),
-        _ => {
+    let letters = letters_of(alloc, key)?;
+    match key_hint(Part::Text, &letters) {
+        Some(hint) => String::from_str(alloc, hint),
+        None => {
             let otherwise = "; a plan has [[pool]], [[class]] and [[client]]";
             suggestion(alloc, key, keys_of(Part::Text), otherwise)
         }
@@ -258,8 +263,9 @@ fn no_table(
     places: &Places<'_>,
 ) -> Result<(), AllocError> {
     let list = list_of(part);
+    let an = article(found);
     let what = format!(in collector.alloc;
-        "{list} must be a table, not a {found}: write [[{list}]]"
+        "{list} must be a table, not {an} {found}: write [[{list}]]"
     )?;
     let place = places.top(list).unwrap_or(BEGINNING);
     collector.push(Diagnostic {
@@ -270,47 +276,51 @@ fn no_table(
     })
 }
 
-/// Returns the name of each entry that has one.
-fn names_of<'a>(alloc: Global, entries: &[PlacedEntry<'a>]) -> Result<Vec<&'a str>, AllocError> {
-    let mut names = Vec::new(alloc);
-    for entry in entries {
-        if let Some(name) = entry.text("name") {
-            names.push(name)?;
+/// Returns the names of the entries of a list. `entries` has those entries that are tables.
+fn names_of<'a>(
+    alloc: Global,
+    document: &Table,
+    part: Part,
+    entries: &[PlacedEntry<'a>],
+) -> Result<ListNames<'a>, AllocError> {
+    let is_complete = has_known_keys(document) && has_length(document, part, entries.len());
+    ListNames::of(alloc, part, entries, is_complete)
+}
+
+/// Returns whether a plan can have each key at the top level.
+fn has_known_keys(document: &Table) -> bool {
+    for key in document.keys() {
+        if !has_key(Part::Text, key.as_str()) {
+            return false;
         }
     }
-    Ok(names)
+    true
+}
+
+/// Returns whether the list is an array of this length. A list that the document does not have
+/// counts as an empty array.
+fn has_length(document: &Table, part: Part, length: usize) -> bool {
+    let Some(value) = document.get(list_of(part)) else {
+        return length == 0;
+    };
+    match value.as_array() {
+        Some(values) => values.len() == length,
+        None => false,
+    }
 }
 
 /// Reports the class's pool if the plan has no pool of this name.
 fn pool_of(
     collector: &mut FaultCollector,
     class: &PlacedEntry<'_>,
-    pools: &[&str],
+    pools: &ListNames<'_>,
 ) -> Result<(), AllocError> {
     let Some(pool) = class.text("pool") else {
         return Ok(());
     };
-    if pools.contains(&pool) {
+    if pools.contains(pool) {
         return Ok(());
     }
-    let words = unknown_pool(collector.alloc, pool, pools)?;
+    let words = pools.unknown(collector.alloc, pool)?;
     class.report(collector, NO_SUCH_POOL, class.value_place("pool"), &words)
-}
-
-/// Returns the message for a pool that the plan does not have.
-fn unknown_pool(alloc: Global, pool: &str, pools: &[&str]) -> Result<String, AllocError> {
-    let otherwise = known_pools(alloc, pools)?;
-    let right = suggestion(alloc, pool, pools, &otherwise)?;
-    format!(in alloc; "unknown pool {pool}{right}")
-}
-
-/// Returns the end of the message for an unknown pool: a list of the plan's pools. If the plan has
-/// no pools, the end says what to add.
-fn known_pools(alloc: Global, pools: &[&str]) -> Result<String, AllocError> {
-    if pools.is_empty() {
-        let words = "; the plan has no pools: add a [[pool]] with this name";
-        return String::from_str(alloc, words);
-    }
-    let all = comma_list(alloc, pools)?;
-    format!(in alloc; "; the pools are {all}")
 }

@@ -1,0 +1,87 @@
+//! The names of the entries of a list, and the message for a name that no entry has.
+
+use crate::entry::{PlacedEntry, list_of};
+use crate::suggestions::{comma_list, suggestion};
+use job_bodies::{Part, is_valid_name};
+use std::alloc::{AllocError, Global};
+
+/// The names of the entries of a list.
+#[derive(Drop)]
+pub(crate) struct ListNames<'a> {
+    /// The kind of the entries.
+    part: Part,
+    names: Vec<&'a str>,
+    /// Whether the list has no other names. If this is false, another fault may hide a name: the
+    /// fault of an entry without a valid name, or the fault of a list.
+    is_complete: bool,
+}
+
+impl<'a> ListNames<'a> {
+    /// Returns the names of these entries. If `is_complete` is false, the list may have further
+    /// entries.
+    pub(crate) fn of(
+        alloc: Global,
+        part: Part,
+        entries: &[PlacedEntry<'a>],
+        mut is_complete: bool,
+    ) -> Result<ListNames<'a>, AllocError> {
+        let mut names = Vec::new(alloc);
+        for entry in entries {
+            match entry.text("name") {
+                Some(name) => {
+                    is_complete = is_complete && is_valid_name(name);
+                    names.push(name)?;
+                }
+                None => is_complete = false,
+            }
+        }
+        Ok(ListNames {
+            part,
+            names,
+            is_complete,
+        })
+    }
+
+    pub(crate) fn contains(&self, name: &str) -> bool {
+        self.names.iter().any(|known| *known == name)
+    }
+
+    /// Returns the message for a name that no entry has. If the names are complete, the message
+    /// suggests what to write instead.
+    pub(crate) fn unknown(&self, alloc: Global, name: &str) -> Result<String, AllocError> {
+        let list = list_of(self.part);
+        let right = self.right(alloc, name)?;
+        format!(in alloc; "unknown {list} {name}{right}")
+    }
+
+    /// Returns the end of the message for a name that no entry has. It is empty if the names are
+    /// not complete.
+    fn right(&self, alloc: Global, name: &str) -> Result<String, AllocError> {
+        if !self.is_complete {
+            return String::from_str(alloc, "");
+        }
+        let otherwise = self.listed(alloc)?;
+        suggestion(alloc, name, &self.names, &otherwise)
+    }
+
+    /// Returns the end of a message that lists the names. If there are none, the end says what to
+    /// add.
+    fn listed(&self, alloc: Global) -> Result<String, AllocError> {
+        let list = list_of(self.part);
+        let plural = plural_of(self.part);
+        if self.names.is_empty() {
+            return format!(in alloc; "; the plan has no {plural}: add a [[{list}]] with this name");
+        }
+        let all = comma_list(alloc, &self.names)?;
+        format!(in alloc; "; the {plural} are {all}")
+    }
+}
+
+fn plural_of(part: Part) -> &'static str {
+    match part {
+        Part::Text => "plans",
+        Part::Pool => "pools",
+        Part::Class => "classes",
+        Part::Client => "clients",
+    }
+}
