@@ -8,7 +8,7 @@ of them:
 
 - Each event of a witness is possible, and only the last event may be a refused submit. If it is not, the named jobs are unfinished
   and wait only for each other after it.
-- If core threads may time out and `refute` says that the jobs wait forever, each pool that has one of them in its queue has at least
+- If core threads may time out and `refute` says that the jobs wait forever, each pool with one of them in its queue has at least
   core threads. With fewer, a further submit starts a thread.
 - If `refute` says that the plan is safe, and the plan has few states, no state of it is bad.
 - If `refute` does not decide, it reports at most as many searched states as requested.

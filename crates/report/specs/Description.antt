@@ -58,7 +58,7 @@ at_core_words timeouts = if timeouts then codes "at least core threads and a que
 
 -- the last line, if jobs wait permanently in the queue of a pool that starts no thread although it has fewer than its maximum
 abbrev pub at_core_line : Bool → List ℕ
-at_core_line timeouts = codes "forever: each pool that has one of them in its queue has all its threads, or " ++ (at_core_words timeouts ++ 10 ∷ [])
+at_core_line timeouts = codes "forever: each pool with one of them in its queue has all its threads, or " ++ (at_core_words timeouts ++ 10 ∷ [])
 
 -- the words for the thread whose start may end a wait. If core threads may time out, this can be a core thread
 abbrev pub started_words : Bool → List ℕ
@@ -66,12 +66,12 @@ started_words timeouts = if timeouts then codes "another thread" else codes "a t
 
 -- the last line, if the start of a thread may end the wait
 abbrev pub until_line : Bool → List ℕ
-until_line timeouts = codes "until a pool that has one of them in its queue starts " ++ (started_words timeouts ++ 10 ∷ [])
+until_line timeouts = codes "until a pool with one of them in its queue starts " ++ (started_words timeouts ++ 10 ∷ [])
 
 -- the last line: why the jobs wait permanently, or what may end their wait. Empty if the witness ends with a refused submit
 abbrev pub why_text : Plan → Ending → List ℕ
 why_text plan (Refused p) = []
-why_text plan (StuckForever members PoolsAreFull) = codes "forever: each pool that has one of them in its queue has all its threads" ++ 10 ∷ []
+why_text plan (StuckForever members PoolsAreFull) = codes "forever: each pool with one of them in its queue has all its threads" ++ 10 ∷ []
 why_text plan (StuckForever members PoolsStayAtCore) = at_core_line (has_timeouts plan)
 why_text plan (StuckNow members) = until_line (has_timeouts plan)
 

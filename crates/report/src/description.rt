@@ -94,7 +94,7 @@ fn push_why(text: &mut String, plan: &Plan, ending: &Ending) -> Result<(), Alloc
         Ending::Refused(_) => Ok(()),
         Ending::StuckForever(_, Reason::PoolsAreFull) => {
             text.push_str(
-                "forever: each pool that has one of them in its queue has all its threads\n",
+                "forever: each pool with one of them in its queue has all its threads\n",
             )
         }
         Ending::StuckForever(_, Reason::PoolsStayAtCore) => {
@@ -110,7 +110,7 @@ fn push_at_core(text: &mut String, timeouts: bool) -> Result<(), AllocError>
     let why = at_core_words(timeouts);
     push_two_parts(
         text,
-        "forever: each pool that has one of them in its queue has all its threads, or ",
+        "forever: each pool with one of them in its queue has all its threads, or ",
         why,
     )
 }
@@ -130,7 +130,7 @@ fn push_until(text: &mut String, timeouts: bool) -> Result<(), AllocError>
     let started = started_words(timeouts);
     writeln!(
         text,
-        "until a pool that has one of them in its queue starts {started}"
+        "until a pool with one of them in its queue starts {started}"
     )
 }
 
