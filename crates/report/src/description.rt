@@ -93,9 +93,7 @@ fn push_why(text: &mut String, plan: &Plan, ending: &Ending) -> Result<(), Alloc
     match ending {
         Ending::Refused(_) => Ok(()),
         Ending::StuckForever(_, Reason::PoolsAreFull) => {
-            text.push_str(
-                "forever: each pool with one of them in its queue has all its threads\n",
-            )
+            text.push_str("forever: each pool with one of them in its queue has all its threads\n")
         }
         Ending::StuckForever(_, Reason::PoolsStayAtCore) => {
             push_at_core(text, has_timeouts(plan))
