@@ -213,14 +213,23 @@ fn hint_of_second<'a>(command: Command, text: &[u8], plan: Option<&'a str>) -> O
         Command::OnRecording(RecordingCommand::Conform) => hint_of_recording(text),
         Command::Sequential(ReviewCommand::Replay) => hint_of_events(text, plan.is_some()),
         Command::Sequential(ReviewCommand::Check | ReviewCommand::Explain) => {
-            if let Some(hint) = hint_of_misplaced(text, CERTIFICATE) {
-                return Some(hint);
-            }
-            Some(Hint::NoCertificateOf { plan: plan? })
+            hint_of_certificate(text, plan)
         }
         Command::OnThreads(Task::Run { .. }) => hint_of_misplaced(text, CERTIFICATE),
         // The answer of `ask` explains the mistake itself, and the other commands read one text.
         _ => None,
+    }
+}
+
+/// Returns a hint about a file that the command reads as a certificate for the plan in the file
+/// `plan`. The hint is only about a text of another kind if `plan` is `None`.
+fn hint_of_certificate<'a>(text: &[u8], plan: Option<&'a str>) -> Option<Hint<'a>> {
+    if let Some(hint) = hint_of_misplaced(text, CERTIFICATE) {
+        return Some(hint);
+    }
+    match plan {
+        Some(plan) => Some(Hint::NoCertificateOf { plan }),
+        None => None,
     }
 }
 
