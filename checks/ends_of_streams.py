@@ -133,7 +133,7 @@ def cases_of_misplaced_files(program, folder):
     certificate_for_events = b"%s looks like a certificate: name events in its place\n"
     no_recording = b"%s is not a recording: the first line of a recording is `recording 1`\n"
     faulty_plan = b"`sizing ask %s` prints each fault of this plan with its line, and what would be right\n"
-    no_certificate = b"%%s is not a certificate for %s: `sizing ask --certificate %%s %s` writes one if the plan is safe\n" % (bytes(plan), bytes(plan))
+    no_certificate = b"%s is not a certificate for this plan: `sizing ask --certificate %s PLAN` writes one if the plan is safe\n"
     malformed = b"each line of %s must be `client N`, `job N`, `take POOL`, `retire POOL` or `stuck N N ..`, with single spaces\n"
     no_plan, no_line, no_separator = b"fault 1 NotToml\n", b"fault 53 BadRecording at line 1: it is not a valid line\n", b"fault 50 NoSeparator\n"
     bad_core = b"fault 8 BadNumber at pool 0\n"

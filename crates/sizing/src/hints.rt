@@ -20,7 +20,7 @@ const CERTIFICATE: &str = "a certificate";
 /// A likely mistake in a file. The arguments of the command line name this file. The mistake
 /// explains why the command found a fault in a text.
 #[derive(Clone, Copy)]
-pub(crate) enum Hint<'a> {
+pub(crate) enum Hint {
     /// The file has only one text, but the command also needs a second text. The field is the name
     /// of this second text.
     MissingText(&'static str),
@@ -40,11 +40,8 @@ pub(crate) enum Hint<'a> {
     ReturnsInEvents,
     /// The plan in the file has a fault.
     FaultyPlan,
-    /// The file has no certificate of the plan. `plan` is the name of another file, which has the
-    /// plan. The plan itself has no fault.
-    NoCertificateOf {
-        plan: &'a str,
-    },
+    /// The file has no certificate for the plan, and the plan has no fault.
+    NoCertificate,
     /// The file has a line that is no event, and the plan has no fault.
     MalformedEvents,
 }
@@ -112,20 +109,27 @@ pub(crate) fn hint_of<'a>(
     rt: &impl Files,
     alloc: Global,
     words: &'a [&'a str],
-) -> Option<(&'a str, Hint<'a>)> {
+) -> Option<(&'a str, Hint)> {
     let cli = read_words(alloc, words).ok()??;
-    let mut plan = None;
     if let Some(name) = cli.first
         && let Some(text) = text_of(rt, alloc, cli.command, name)
+        && let Some(hint) = hint_of_first(alloc, cli.command, &text, cli.second.is_none())
     {
-        if let Some(hint) = hint_of_first(alloc, cli.command, &text, cli.second.is_none()) {
-            return Some((name, hint));
-        }
-        plan = Some(name);
+        return Some((name, hint));
     }
+    let has_plan = is_readable(rt, alloc, cli.command, cli.first);
     let name = cli.second?;
     let text = text_of(rt, alloc, cli.command, name)?;
-    Some((name, hint_of_second(cli.command, &text, plan)?))
+    Some((name, hint_of_second(cli.command, &text, has_plan)?))
+}
+
+/// Returns `true` if the arguments name this file and it can be read.
+fn is_readable(rt: &impl Files, alloc: Global, command: Command, name: Option<&str>) -> bool {
+    let Some(name) = name else {
+        return false;
+    };
+    let text = text_of(rt, alloc, command, name);
+    text.is_some()
 }
 
 /// Returns the content of the file. Reads at most one byte more than the maximum length of the
@@ -139,12 +143,7 @@ fn text_of(rt: &impl Files, alloc: Global, command: Command, name: &str) -> Opti
 /// Returns a hint about the first file, which has the content `text`. Returns `None` if the file
 /// shows no known mistake. Also returns `None` for `ask`, because its answer already explains the
 /// mistake. `is_alone` says whether the arguments name no other file.
-fn hint_of_first<'a>(
-    alloc: Global,
-    command: Command,
-    text: &[u8],
-    is_alone: bool,
-) -> Option<Hint<'a>> {
+fn hint_of_first(alloc: Global, command: Command, text: &[u8], is_alone: bool) -> Option<Hint> {
     if let Command::OnRecording(RecordingCommand::Learn { .. }) = command {
         return hint_of_recording(text);
     }
@@ -181,7 +180,7 @@ fn has_faulty_plan(alloc: Global, text: &[u8]) -> bool {
 
 /// Returns the hint about a file that has only one text. The hint says that a carriage return
 /// follows the separator `%%`, or that the text `second` is missing.
-fn missing_text<'a>(text: &[u8], second: &'static str) -> Hint<'a> {
+fn missing_text(text: &[u8], second: &'static str) -> Hint {
     if has_line(text, b"%%\r") {
         Hint::ReturnAfterSeparator
     } else {
@@ -193,7 +192,7 @@ fn has_line(text: &[u8], wanted: &[u8]) -> bool {
     text.split(|byte| *byte == b'\n').any(|line| line == wanted)
 }
 
-fn hint_of_recording<'a>(text: &[u8]) -> Option<Hint<'a>> {
+fn hint_of_recording(text: &[u8]) -> Option<Hint> {
     if text.starts_with(b"recording 1") {
         None
     } else {
@@ -201,19 +200,18 @@ fn hint_of_recording<'a>(text: &[u8]) -> Option<Hint<'a>> {
     }
 }
 
-/// Returns a hint about the second file, which has the content `text`. `plan` is the name of the
-/// first file, or `None` if the first text was read from standard input. The first file must show
-/// no known mistake. Returns `None`
+/// Returns a hint about the second file, which has the content `text`. `has_plan` says whether the
+/// first text was read from a file, which then must show no known mistake. Returns `None`
 ///
 /// - if the second file shows no known mistake,
 /// - for `ask`, because its answer already explains the mistake, and
 /// - for commands that read only one text.
-fn hint_of_second<'a>(command: Command, text: &[u8], plan: Option<&'a str>) -> Option<Hint<'a>> {
+fn hint_of_second(command: Command, text: &[u8], has_plan: bool) -> Option<Hint> {
     match command {
         Command::OnRecording(RecordingCommand::Conform) => hint_of_recording(text),
-        Command::Sequential(ReviewCommand::Replay) => hint_of_events(text, plan.is_some()),
+        Command::Sequential(ReviewCommand::Replay) => hint_of_events(text, has_plan),
         Command::Sequential(ReviewCommand::Check | ReviewCommand::Explain) => {
-            hint_of_certificate(text, plan)
+            hint_of_certificate(text, has_plan)
         }
         Command::OnThreads(Task::Run { .. }) => hint_of_misplaced(text, CERTIFICATE),
         // The answer of `ask` explains the mistake itself, and the other commands read one text.
@@ -221,21 +219,22 @@ fn hint_of_second<'a>(command: Command, text: &[u8], plan: Option<&'a str>) -> O
     }
 }
 
-/// Returns a hint about a file that the command reads as a certificate for the plan in the file
-/// `plan`. The hint is only about a text of another kind if `plan` is `None`.
-fn hint_of_certificate<'a>(text: &[u8], plan: Option<&'a str>) -> Option<Hint<'a>> {
+/// Returns a hint about a file that the command reads as a certificate. `has_plan` says whether the
+/// plan is known to have no fault, so that the certificate has one.
+fn hint_of_certificate(text: &[u8], has_plan: bool) -> Option<Hint> {
     if let Some(hint) = hint_of_misplaced(text, CERTIFICATE) {
         return Some(hint);
     }
-    match plan {
-        Some(plan) => Some(Hint::NoCertificateOf { plan }),
-        None => None,
+    if has_plan {
+        Some(Hint::NoCertificate)
+    } else {
+        None
     }
 }
 
 /// Returns a hint about a file of events. `has_plan` says whether the plan is known to have no
 /// fault. If so, the fault is in the events.
-fn hint_of_events<'a>(text: &[u8], has_plan: bool) -> Option<Hint<'a>> {
+fn hint_of_events(text: &[u8], has_plan: bool) -> Option<Hint> {
     if let Some(hint) = hint_of_misplaced(text, "events") {
         return Some(hint);
     }
@@ -250,7 +249,7 @@ fn hint_of_events<'a>(text: &[u8], has_plan: bool) -> Option<Hint<'a>> {
 
 /// Returns a hint if the text looks like a text of a known kind other than `wanted`. Returns `None`
 /// otherwise.
-fn hint_of_misplaced<'a>(text: &[u8], wanted: &'static str) -> Option<Hint<'a>> {
+fn hint_of_misplaced(text: &[u8], wanted: &'static str) -> Option<Hint> {
     let found = kind_of(text)?;
     if found == wanted {
         None

@@ -53,7 +53,7 @@ fn advise(rt: &HostRuntime, words: &[&str]) {
     }
 }
 
-fn print_hint(rt: &impl Eprint, name: &str, hint: Hint<'_>) -> io::Result<()> {
+fn print_hint(rt: &impl Eprint, name: &str, hint: Hint) -> io::Result<()> {
     match hint {
         Hint::MissingText(second) => {
             eprintln!(rt; "{name} has no line `%%`: name a second file with {second}")
@@ -81,9 +81,9 @@ fn print_hint(rt: &impl Eprint, name: &str, hint: Hint<'_>) -> io::Result<()> {
                 "`sizing ask {name}` prints each fault of this plan with its line, and what would be right"
             )
         }
-        Hint::NoCertificateOf { plan } => {
+        Hint::NoCertificate => {
             eprintln!(rt;
-                "{name} is not a certificate for {plan}: `sizing ask --certificate {name} {plan}` writes one if the plan is safe"
+                "{name} is not a certificate for this plan: `sizing ask --certificate {name} PLAN` writes one if the plan is safe"
             )
         }
         Hint::MalformedEvents => {
