@@ -4,8 +4,9 @@ ghost use Rattle.std.specs.Borrow.{ftrue};
 
 use std::marker::Model;
 
-/// A natural number that exists only in contracts. It takes no memory and never overflows. An
-/// invariant of [`Failures`] relates it to the counter that the program stores.
+/// A natural number that exists only in contracts, so it takes no memory and never overflows.
+/// [`Failures`] uses it for the exact number of failed calls. The counter that the program stores
+/// stops at `u64::MAX`.
 #[derive(Drop)]
 pub(crate) struct GhostCount {
     pub ghost value: { ℕ },

@@ -1,6 +1,7 @@
-//! Tests of whether a certificate accepts a plan. A certificate has ranks and, for each pool, a
-//! blocked vector. It can also have a *bound* for a pool, which is a standing or a lifetime vector.
-//! A pool needs a bound if it must not reject jobs and its queue is bounded.
+//! Tests of whether a certificate accepts a plan. A certificate has [`Ranks`](crate::Ranks) and,
+//! for each pool, a blocked vector, which bounds the pool's jobs that wait for other jobs. It can
+//! also have a [`Bound`] of a pool, which shows that the pool never refuses a job. A pool needs a
+//! bound if it must not reject jobs and its queue is bounded.
 
 ghost use Rattle.std.specs.Prelude.{◌≡◌, ◌<◌, ◌&&◌, not, IsTrue, length};
 ghost use Rattle.std.specs.List.{list_all, enumerate_from};
@@ -72,7 +73,8 @@ fn bound_holds(plan: &Plan, pool: usize, bound: &Option<Bound>) -> bool
 }
 
 /// Returns whether the standing vectors of the certificate alone show that no submit is ever
-/// refused. The result is `true` if all of these conditions hold:
+/// refused. A standing vector bounds the number of a pool's queued jobs. The result is `true` if
+/// all of these conditions hold:
 ///
 /// - The certificate fits the plan.
 /// - No pool of the plan may reject jobs. A rejected job could increase the weight of a state, so
@@ -81,8 +83,8 @@ fn bound_holds(plan: &Plan, pool: usize, bound: &Option<Bound>) -> bool
 ///
 /// The conditions of the blocked vectors and of the ranks are not checked.
 ///
-/// If the result is `true`, no submit is ever refused, even if each submit takes the separate steps
-/// of Java's `execute`. Allocates no memory.
+/// If the result is `true`, no submit is ever refused. This is also true if other events occur
+/// between the steps of a submit, as in Java's `execute`. Allocates no memory.
 pub fn accepts_standing(plan: &Plan, cert: &Cert) -> bool
     ensures exact { result ≡ spec.accepted_standing plan.now cert.now }
     ensures refuses_nothing { IsTrue result → RefusesNothing plan.now }

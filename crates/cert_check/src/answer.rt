@@ -4,11 +4,12 @@ ghost use Rattle.cert_check.specs.Verdict as spec;
 
 use std::marker::Model;
 
-/// The total of a pool's bound, and the limit of this total. The bound is a standing or a lifetime
-/// vector.
+/// The total of a pool's bound, and the limit of this total. The bound is a standing vector, which
+/// bounds the pool's queued jobs, or a lifetime vector, which bounds all jobs ever submitted to the
+/// pool.
 #[derive(Clone, Copy, Debug, PartialEq, Eq)]
 pub struct BoundTotal {
-    /// Whether the bound is a lifetime vector. If it is not, it is a standing vector.
+    /// Whether the bound is a lifetime vector. Otherwise, the bound is a standing vector.
     pub lifetime: bool,
     /// The total of the bound.
     pub total: u64,

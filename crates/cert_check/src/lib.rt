@@ -1,8 +1,9 @@
 //! The check of a certificate against a plan. If the check accepts the certificate, no submit is
 //! ever refused, and jobs never wait only for each other.
 //!
-//! [`check`] goes from bytes to a verdict. Its clause `safe` states what a `yes` means for every
-//! state that any list of events reaches. Nothing is assumed about the certificate or its author.
+//! [`check`] reads the bytes of a plan and of a certificate, and returns a verdict. The clause
+//! `safe` of its contract states what a `yes` means for every state that any list of events
+//! reaches. Nothing is assumed about the certificate or its author.
 #![tactic(auto)]
 
 mod acceptance;

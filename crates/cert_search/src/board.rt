@@ -1,5 +1,6 @@
-//! The board of one round: the state of each pool, and the operations by which workers claim pools
-//! and give them back. A pool has a rank if an earlier round found its blocked vector.
+//! The board of one round of the search, on which each pool is free, claimed or done. A worker (a
+//! thread of the search) claims a free pool, searches for its vectors and gives the pool back. The
+//! pool is then done. A pool has a rank if an earlier round found its blocked vector.
 
 ghost use Rattle.std.specs.Prelude.{◌≡◌, ◌++◌, ◌∷◌, [], List, true, false, Some, None, IfOk, IfSome, OnErr, IsTrue, is_some, position, slice_get};
 ghost use Rattle.std.specs.List.{list_all};
@@ -17,9 +18,9 @@ use std::marker::Model;
 pub(crate) enum PoolStatus {
     /// A pool that no thread of the search has claimed.
     Free,
-    /// A pool that a thread of the search has claimed and not given back.
+    /// A pool that a thread of the search has claimed and not finished yet.
     Claimed,
-    /// A pool that a thread of the search has given back in this round, or that has a rank from an
+    /// A pool that a thread of the search has finished in this round, or that has a rank from an
     /// earlier round.
     Done,
 }
@@ -29,7 +30,7 @@ pub(crate) enum PoolStatus {
 pub(crate) enum BoardEvent {
     /// Claims the free pool with this number.
     Claim(usize),
-    /// Gives back the claimed pool with this number.
+    /// Marks the claimed pool with this number as done.
     Return(usize),
 }
 
@@ -132,8 +133,8 @@ impl PoolStatuses {
     }
 }
 
-/// The board of a round, on which the threads of the search claim the pools without a rank. Each of
-/// these pools can be claimed only once.
+/// A list of pools, from which the threads of the search take the pools that have no rank yet. Each
+/// of these pools can be claimed by only one thread.
 #[derive(Drop)]
 pub(crate) struct Board {
     /// For each pool, whether it has a rank from an earlier round.
@@ -173,7 +174,8 @@ impl Machine for Board {
     }
 }
 
-/// Claims the first free pool and returns its number. Returns `None` if no pool is free.
+/// Claims the first pool that no thread has claimed, and returns the number of the pool. Returns
+/// `None` if all pools are claimed.
 ///
 /// # Errors
 ///

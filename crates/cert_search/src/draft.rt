@@ -48,7 +48,7 @@ impl Draft {
     }
 
     /// Returns the number of pools that have no rank yet.
-    pub(crate) fn unranked(&self) -> usize {
+    pub(crate) fn unranked_count(&self) -> usize {
         self.pools.iter().filter(|pool| pool.rank.is_none()).count()
     }
 

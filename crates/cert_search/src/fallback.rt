@@ -1,5 +1,5 @@
-//! The steady certificate, which the search tries if the rounds find no certificate. All vectors of
-//! the steady certificate come from one vector:
+//! The steady certificate, which the search tries if its rounds find no certificate. All vectors of
+//! the steady certificate come from one vector, whose weights do not depend on the pool sizes:
 //!
 //! - The blocked vector of a pool is this vector, or 0 if core threads of the pool may time out.
 //! - If a pool needs a bound, its bound is also this vector. A pool that may reject jobs or has an
@@ -17,12 +17,12 @@ use job_bodies::Plan;
 use size_search::{cause_of, steady};
 use std::alloc::{AllocError, Global};
 
-/// Returns the plan's steady certificate if this certificate accepts the plan with the declared
-/// sizes. Returns `None` in these cases:
+/// Returns the plan's steady certificate if this certificate accepts the plan. Returns `None` in
+/// these cases:
 ///
-/// - The steady certificate does not accept the plan with the declared sizes.
+/// - The steady certificate does not accept the plan.
 /// - The steady certificate has a weight above `MAX_WEIGHT`.
-/// - There is a *cause*: a reason why no certificate accepts the plan, whatever sizes the plan has.
+/// - There is a *cause*: a reason why no certificate accepts the plan, even with other pool sizes.
 pub(crate) fn steady_if_accepted(alloc: Global, plan: &Plan) -> Result<Option<Cert>, AllocError>
     ensures accepted { IfOk result
         (λ found. IfSome found (λ cert. IsTrue (accepted plan.now cert))) }

@@ -55,21 +55,23 @@ impl From<AllocError> for SearchFault {
 /// pool whose blocked vector is found gets the round's number as its rank.
 ///
 /// A blocked vector bounds the number of jobs that wait at *counted* gets. In the first round, all
-/// gets are counted. A get waits for a job. After each round, the get is no longer counted if this
-/// job depends only on pools with a rank. A job depends on its own pool, and on the pools of all
-/// jobs for which it waits, directly or through other jobs.
+/// gets are counted. In a later round, a get is counted if the job for which it waits depends on a
+/// pool without a rank. Other gets are not counted. A job depends on its own pool, and on the pools
+/// of all jobs that it gets, directly or through other jobs.
 ///
 /// If a pool has the same counted gets as in the previous round, the search for its blocked vector
 /// is skipped. The previous round found no vector for these gets.
 ///
 /// If the rounds find no certificate that accepts the plan, the search tries the plan's steady
-/// certificate, whose numbers do not depend on the sizes. If the steady certificate accepts the
-/// plan with its declared sizes, the result is never `None`.
+/// certificate, whose numbers do not depend on the pool sizes. If the steady certificate accepts
+/// the plan, the result is never `None`.
 ///
-/// A pool needs no bound if it may reject jobs or its queue is unbounded. If the rounds still find
-/// a bound of such a pool, the bound is part of their certificate. A pool with a bound never
-/// rejects a job, even if the plan allows the pool to reject jobs. For a pool with an unbounded
-/// queue, the rounds search for a standing vector of any total.
+/// A pool needs no bound if it may reject jobs or its queue is unbounded. If the search still finds
+/// a bound of such a pool, the certificate has it:
+///
+/// - A pool with a bound never rejects a job, even if the plan allows the pool to reject jobs.
+/// - For a pool with an unbounded queue, the bound is a standing vector, which bounds the queued
+///   jobs. Its total has no limit.
 ///
 /// Tests check that the result does not depend on the number of workers. This is not proved.
 ///
@@ -102,7 +104,7 @@ pub fn search<R: Threads + Wait + Sync, G: PoolGate>(
     Ok(steady_if_accepted(alloc, plan)?)
 }
 
-/// Returns the certificate that the rounds find, or `None` if they find none. Does not check that
+/// Searches for a certificate in rounds. Returns `None` if no round finds one. Does not check that
 /// the certificate accepts the plan.
 fn search_rounds<R: Threads + Wait + Sync, G: PoolGate>(
     rt: &R,
@@ -119,7 +121,7 @@ fn search_rounds<R: Threads + Wait + Sync, G: PoolGate>(
     let mut draft = Draft::of(alloc, plan)?;
     let mut reach_before = Vec::new(alloc);
     for rank in 0..plan.pools().len() as u64 {
-        let unranked = draft.unranked();
+        let unranked = draft.unranked_count();
         if unranked == 0 {
             break;
         }

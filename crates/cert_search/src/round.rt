@@ -1,9 +1,10 @@
-//! One round of the search. The workers search for these vectors of each pool without a rank:
+//! One round of the search. The workers (threads of the search) search for these vectors of each
+//! pool without a rank:
 //!
-//! - The bound of the pool's queue.
+//! - The bound of the pool's queue, only in the first round.
 //! - The blocked vector. It bounds the number of the pool's jobs that wait at *counted* gets. A get
-//!   waits for a job of some class. The get is counted in a round if the reach of this class is at
-//!   least the round's rank. The field `reach` of [`Round`] defines the reach.
+//!   is counted if the job for which it waits depends on a pool without a rank. This is the case if
+//!   the reach of the job's class is at least the round's rank (see [`Round`]).
 
 ghost use Rattle.std.specs.Prelude.{◌≡◌, ◌≢◌, ◌<◌, ◌≤◌, IfErr, IfOk, length};
 ghost use Rattle.cert_search.specs.declared.finding.SearchFault.TheVariants.{Memory, Mixed};
@@ -28,7 +29,7 @@ pub(crate) struct Round<'a> {
     /// jobs that it gets, directly or through other jobs. The reach is the greatest rank of these
     /// pools. A pool without a rank counts as if it had the rank of this round.
     pub(crate) reach: &'a [u64],
-    /// The value of `reach` in the previous round. It is empty in the first round.
+    /// The reach of each class in the previous round. The slice is empty in the first round.
     pub(crate) reach_before: &'a [u64],
     /// The rank that pools get in this round: the round's number, counted from 0.
     pub(crate) rank: u64,

@@ -64,7 +64,9 @@ pub fn needs_no_bound(plan: &Plan, pool: usize) -> bool
     }
 }
 
-/// A certificate: a part for each pool, in plan order, and the ranks of pools.
+/// A certificate: a part for each pool, in plan order, and the [`Ranks`] of pools and classes. The
+/// ranks decide which gets are [counted](weights::Counted). They also show that no class submits
+/// itself, directly or through other classes.
 #[derive(Debug, Drop)]
 pub struct Cert {
     pub pools: Vec<PoolCert>,

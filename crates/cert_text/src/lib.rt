@@ -1,10 +1,11 @@
 //! Certificates and their texts. A text is a JSON object, of version 1 or 2.
 //!
-//! A [`Cert`] has ranks of the pools and, for each pool, vectors of numbers. The blocked vector
-//! bounds the pool's jobs that wait for other jobs, and the *bound* is a vector that bounds the
-//! pool's queue. A pool that may reject jobs or has an unbounded queue needs no bound.
-//! [`read_cert`] parses a certificate that fits a plan, or returns the first fault. [`write_cert`]
-//! writes a text that `read_cert` parses as the same certificate, if the text is not too long.
+//! A [`Cert`] has vectors of numbers for each pool, and the [`Ranks`](weights::Ranks) of pools and
+//! classes. The blocked vector of a pool bounds the pool's jobs that wait for other jobs. The
+//! *bound* of a pool is a vector that bounds the pool's queue. A pool that may reject jobs or has
+//! an unbounded queue needs no bound. [`read_cert`] parses a certificate that fits a plan, or
+//! returns the first fault. [`write_cert`] writes a text that `read_cert` parses as the same
+//! certificate, if the text is not too long.
 #![tactic(auto)]
 
 mod canonical;

@@ -60,8 +60,8 @@ fn push_vector(text: &mut String, vector: &Vector) -> Result<(), AllocError>
     text.push('}')
 }
 
-/// Appends a comma, which separates the bound from the blocked vector, and then the key and the
-/// vector of the bound.
+/// Appends the bound of a pool: a comma, the key and the vector. The comma separates the bound from
+/// the blocked vector before it.
 fn push_bound(text: &mut String, bound: &Bound) -> Result<(), AllocError>
     ensures { Pushes result text.old text.new (bound_text (Some bound.now)) }
 {

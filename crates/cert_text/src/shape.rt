@@ -33,7 +33,8 @@ fn lifetime_of(alloc: Global, plan: &Plan, value: &Value) -> Result<Option<Bound
     Ok(Some(Bound::Lifetime(vector)))
 }
 
-/// Returns `None` if the pool with this index needs no bound, and a fault otherwise.
+/// Returns the bound of the pool with this index, for which the certificate has no vector: `None`
+/// if the pool needs no bound, and a fault otherwise.
 #[tactic(auto, unfolding(crate::specs::Shape::no_bound_of))]
 fn no_bound_of(plan: &Plan, pool: usize) -> Result<Option<Bound>, CertError>
     ensures { Gives (λ bound. bound) result (spec.no_bound_of plan.now pool) }
@@ -44,9 +45,10 @@ fn no_bound_of(plan: &Plan, pool: usize) -> Result<Option<Bound>, CertError>
     Ok(None)
 }
 
-/// Reads the bound of the pool with this index. `lifetime` is the value at the key `lifetime` of
-/// the pool's object, or `None` if the key is missing. `standing` is the same for the key
-/// `standing`.
+/// Reads the bound of the pool with this index. `lifetime` and `standing` are the values at these
+/// keys of the pool's object. A missing key is `None`. A standing vector bounds the number of
+/// queued jobs. A lifetime vector bounds the number of all jobs that are ever submitted to the
+/// pool.
 ///
 /// - If `lifetime` is a value, the bound is a lifetime vector.
 /// - Otherwise, if `standing` is a value, the bound is a standing vector.
@@ -71,8 +73,9 @@ fn either_of(
 }
 
 /// Reads the bound of the pool with this index from `value`, the pool's object. In version 1, each
-/// pool must have a standing vector. In version 2, the bound can also be a lifetime vector, and a
-/// pool that needs no bound can have none.
+/// pool must have a standing vector, which bounds its queued jobs. In version 2, the bound can also
+/// be a lifetime vector, which bounds all jobs ever submitted to the pool. A pool that needs no
+/// bound can then have none.
 fn bound_of(
     alloc: Global,
     version: Version,

@@ -40,8 +40,8 @@ pub fn numbers_of(alloc: Global, value: &Value, count: usize) -> Result<Vec<u64>
 }
 
 /// Returns the number of weights in the row of a class. A row has a weight for a queued job, one
-/// for each position of the body from 0 to its length, and one for a done job. Returns 3 if the
-/// plan has no class with this index.
+/// for each position of the body from 0 to its length, and one for a done job. If the plan has no
+/// class with this index, returns 3, as for an empty body.
 pub fn class_points(plan: &Plan, class: usize) -> usize
     ensures { result ≡ spec.class_points plan.now class }
 {
@@ -52,7 +52,8 @@ pub fn class_points(plan: &Plan, class: usize) -> usize
 }
 
 /// Returns the number of weights in the row of a client kind: one for each position of the body
-/// from 0 to its length. Returns 1 if the plan has no client kind with this index.
+/// from 0 to its length. If the plan has no client kind with this index, returns 1, as for an empty
+/// body.
 pub fn client_points(plan: &Plan, client: usize) -> usize
     ensures { result ≡ spec.client_points plan.now client }
 {

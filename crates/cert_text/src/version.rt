@@ -58,8 +58,8 @@ fn all_are_standing(pools: &[PoolCert]) -> bool
     pools.iter().all(|pool| is_standing(&pool.bound))
 }
 
-/// Returns the lowest version that can represent the certificate: 1 if each pool has a standing
-/// vector, and otherwise 2.
+/// Returns the lowest version of the text format that can represent the certificate: 1 if the
+/// bound of each pool is a standing vector, and otherwise 2.
 pub fn version_number(cert: &Cert) -> u64
     ensures { result ≡ version_number cert.now }
 {

@@ -16,7 +16,8 @@ use std::alloc::Global;
 /// A command of the program.
 #[derive(Clone, Copy, Debug, PartialEq, Eq)]
 pub enum Command {
-    /// A command on a plan and a second text. It neither starts a thread nor waits for one.
+    /// A command on a plan and a second text: events or a certificate. It neither starts a thread
+    /// nor waits for one.
     Sequential(ReviewCommand),
     /// A command on a recording. It neither starts a thread nor waits for one.
     OnRecording(RecordingCommand),
@@ -24,7 +25,7 @@ pub enum Command {
     OnThreads(Task),
 }
 
-/// A command on a plan and a second text.
+/// A command on a plan and a second text: events or a certificate.
 #[derive(Clone, Copy, Debug, PartialEq, Eq)]
 pub enum ReviewCommand {
     /// Replays events on a plan, and reports the outcome of each event.
@@ -43,8 +44,8 @@ pub enum RecordingCommand {
     Conform,
     /// Derives a plan from a recording.
     Learn {
-        /// Whether the command withholds a learned plan if the recording does not conform to the
-        /// plan. The command then writes the differences instead.
+        /// Whether the derived plan is written only if the recording conforms to the plan. If the
+        /// recording does not conform, the command writes the differences instead.
         strict: bool,
     },
 }
@@ -58,9 +59,10 @@ pub enum Task {
         /// is 4.
         workers: usize,
     },
-    /// Searches for sizes that a certificate accepts.
+    /// Searches for pool sizes that a certificate accepts. The sizes of a pool are its core size,
+    /// maximum and queue capacity.
     Fit {
-        /// The output format for the sizes.
+        /// The output format for the pool sizes.
         sizes_form: SizesForm,
     },
     /// Runs a plan on threads, and counts the jobs and the units of work. A certificate must accept
@@ -73,14 +75,14 @@ pub enum Task {
     Refute {
         /// The maximum number of states to search, from 1 to 10,000,000. The default is 100,000.
         states: usize,
-        /// The output format for a witness.
+        /// The output format for the events that were found.
         refute_format: RefuteFormat,
     },
     /// Decides whether a plan is safe with the sizes that it declares.
     Ask {
         /// The texts to read: a plan alone, or a plan and a certificate.
         given: AskInput,
-        /// The other options of `ask`.
+        /// The output format, and whether a warning changes the exit status.
         options: AskOptions,
     },
 }
@@ -103,8 +105,8 @@ pub struct Cli<'a> {
 /// An output format of `fit`.
 #[derive(Clone, Copy, Debug, PartialEq, Eq)]
 pub enum SizesForm {
-    /// A line for each pool, and then the number of sizes that change. These sizes are marked in
-    /// the lines.
+    /// A line with the sizes of each pool, and then the number of sizes that differ from the plan.
+    /// The lines mark these sizes.
     Sizes,
     /// The plan with the new sizes, and its certificate.
     Bundle,
@@ -113,7 +115,8 @@ pub enum SizesForm {
 /// An output format of `refute`.
 #[derive(Clone, Copy, Debug, PartialEq, Eq)]
 pub enum RefuteFormat {
-    /// Lines for a person: how the witness ends, and the steps that lead to this end.
+    /// Lines for a person: the violation, and the events that lead to it. The violation is a
+    /// refused submit, or jobs that wait only for each other.
     Story,
     /// The plan and then the events, in the form that `replay` reads.
     Bundle,
@@ -132,7 +135,7 @@ pub enum AskInput {
 #[derive(Clone, Copy, Debug, PartialEq, Eq)]
 pub struct AskOptions {
     /// Whether a warning about a safe plan changes the exit status from 0 to 1. A note does not
-    /// change it.
+    /// change the exit status, because the plan does not show whether a note matters.
     pub strict: bool,
     pub form: Form,
 }

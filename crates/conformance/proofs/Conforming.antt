@@ -26,7 +26,7 @@ use Rattle.conformance.specs.ClassifiedActor.{IsCorrectResult, AreAllResultsOf, 
 use Rattle.conformance.specs.declared.finding.Finding.{Finding}
 use Rattle.conformance.specs.declared.finding.Finding.TheVariants as finding
 use Rattle.conformance.specs.declared.survey.Survey.{Survey}
-use Rattle.conformance.specs.declared.unplanned.NotPlanned.{NotPlanned}
+use Rattle.conformance.specs.declared.unplanned.UnplannedLabel.{UnplannedLabel}
 use Rattle.conformance.specs.Conforms.{Conforms, DoAsPlanned, HasNoInvalidation, IsOfAClass, IsOfAKind, HasItsKind}
 use Rattle.conformance.specs.Findings.{is_of_actors, counted_invalidations}
 use Rattle.conformance.specs.FirstKinds.{AreFirstKinds, has_kind, has_no_kind, round_and_kind}
@@ -126,17 +126,17 @@ none_mapped : {X : Type 0} (f : X → Finding) (xs : List X) → ((x : X) → is
 none_mapped f [] each h = refl
 none_mapped f (x ∷ xs) each h = absurd (contra (sym (each x) ∙ (none_of_both (is_of_actors (f x)) (list_any is_of_actors (map f xs)) h).0))
 
-record NoActors (labels : List NotPlanned) (mismatched : List Finding) (undecided : List ClassifiedActor) (excesses : List RoundExcess) : Type 0 where
+record NoActors (labels : List UnplannedLabel) (mismatched : List Finding) (undecided : List ClassifiedActor) (excesses : List RoundExcess) : Type 0 where
   labels_none : labels ≡ []
   astray_none : list_any is_of_actors mismatched ≡ false
   undecided_none : undecided ≡ []
   excesses_none : excesses ≡ []
 
-none_in_parts : (deviations : List PoolDeviation) (labels : List NotPlanned) (mismatched : List Finding) (undecided : List ClassifiedActor) (excesses : List RoundExcess) (gets invalidations : List Finding)
+none_in_parts : (deviations : List PoolDeviation) (labels : List UnplannedLabel) (mismatched : List Finding) (undecided : List ClassifiedActor) (excesses : List RoundExcess) (gets invalidations : List Finding)
     → list_any is_of_actors (made.all_findings deviations labels mismatched undecided excesses gets invalidations) ≡ false → NoActors labels mismatched undecided excesses
 none_in_parts deviations labels mismatched undecided excesses gets invalidations none =
     let pools = map finding.Pool deviations in
-    let named = map finding.NotPlanned labels in
+    let named = map finding.UnplannedLabel labels in
     let not_yet = map not_decided undecided in
     let many = map finding.TooMany excesses in
     let p6 = none_in_both (pools ++ named ++ mismatched ++ not_yet ++ many ++ gets) invalidations none in
@@ -146,7 +146,7 @@ none_in_parts deviations labels mismatched undecided excesses gets invalidations
     let p2 = none_in_both (pools ++ named) mismatched p3.0 in
     let p1 = none_in_both pools named p2.0 in
     record {
-      labels_none = none_mapped finding.NotPlanned labels (λ label. refl) p1.1;
+      labels_none = none_mapped finding.UnplannedLabel labels (λ label. refl) p1.1;
       astray_none = p2.1;
       undecided_none = none_mapped not_decided undecided (λ reported. refl) p3.1;
       excesses_none = none_mapped finding.TooMany excesses (λ excess. refl) p4.1;

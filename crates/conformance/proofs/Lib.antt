@@ -1,6 +1,7 @@
 pub mod OpenCounts
 pub mod Walks
 pub mod OpenJobs
+pub mod ReadStates
 pub mod Rows
 pub mod BodyGets
 pub mod Candidates
@@ -8,10 +9,18 @@ pub mod WalkStates
 pub mod WalkSteps
 pub mod BlockingGet
 pub mod PassedGets
+pub mod OpenExcesses
 pub mod PlannedSizes
 pub mod StoppedWalks
 pub mod MissingJobs
 pub mod WalkProgress
+pub mod CopiedStates
+pub mod LastIndices
+pub mod FurthestStates
+pub mod MergedStates
+pub mod StatesAfterSubmit
+pub mod StatesAfterGet
+pub mod StoppedStates
 pub mod MachineJobs
 pub mod OpenSubmits
 pub mod Undisturbed

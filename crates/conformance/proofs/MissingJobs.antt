@@ -1,5 +1,5 @@
 -- The job that is missing at the end of a path.
-use Rattle.std.proofs.Common.{◌≡◌, ℕ, suc, ◌+◌, ◌<◌, Bool, true, false, cond, eqb, List, [], ◌∷◌, length, Option, Some, None, refl, sym, ap, subst, ◌∙◌, option_map, slice_get, arith}
+use Rattle.std.proofs.Common.{◌≡◌, ℕ, suc, ◌+◌, ◌<◌, ◌≤◌, Bool, true, false, cond, eqb, List, [], ◌∷◌, length, Option, Some, None, refl, sym, ap, subst, ◌∙◌, option_map, slice_get, arith}
 use Rattle.std.specs.List.{find}
 use Rattle.std.proofs.lemmas.Bool.{false≢true}
 use Rattle.std.proofs.lemmas.Option.{none-some}
@@ -7,15 +7,15 @@ use Rattle.job_bodies.specs.declared.action.Action.{Action}
 use Rattle.job_bodies.specs.declared.action.Action.TheVariants.{Work, Submit, Get}
 use Rattle.job_bodies.specs.Plan.{submitted_class}
 use Rattle.conformance.specs.declared.body_gets.BodyGet.{BodyGet}
-use Rattle.conformance.specs.declared.open_job.OpenJob.{OpenJob}
 use Rattle.conformance.specs.declared.step.ActorKind.{ActorKind}
 use Rattle.conformance.specs.declared.step.PathStep.{PathStep}
 use Rattle.conformance.specs.declared.walk_state.WalkState.{WalkState}
-use Rattle.conformance.specs.Path.{count_in, count_in_body, open_in_body}
+use Rattle.conformance.specs.declared.open_job.OpenJob.{OpenJob}
+use Rattle.conformance.specs.Path.{Walks, count_in, count_in_body, open_in_body}
 use Rattle.conformance.specs.BodyGets.{AreGets, get_with}
 use Rattle.conformance.specs.BlockingGet.{IsFree, IsBlocked, IsBlockingEnd}
 use Rattle.conformance.specs.MissingJob.{IsMissingJob, first_in}
-use Rattle.conformance.specs.WalkState.{is_at, IsStateAt, IsBegun}
+use Rattle.conformance.specs.WalkState.{is_at, HasTables, IsStateAt, IsBegun}
 use Rattle.conformance.proofs.OpenCounts.{count_cons}
 use Rattle.conformance.proofs.Walks.{walk_in_body}
 use Rattle.conformance.proofs.PassedGets as passed
@@ -55,42 +55,51 @@ is_first class (one ∷ others) some =
     record { job = first.0; is = first.1 }
 
 -- ---- the end of the path
+-- A state in which the body may not pass a get before its end. No walk goes further.
+module _ (kind : ActorKind) (body : List Action) (path : List PathStep) (place : ℕ) (state : WalkState) (tables : HasTables body state) (sound : (index : ℕ) → is_at state index ≡ true → Walks kind body path index place state.jobs.items)
+    (gets : List (Option BodyGet)) (are_gets : AreGets body gets) (get : BodyGet) (way : IsBlocked state.row.items state.passes.items gets (suc (length body)) (length body) get)
+    (last : (index : ℕ) (others : List OpenJob) → Walks kind body path index place others → index ≤ way.reached) where
+  is_get : IsGetOf (slice_get body way.stop) body get.class
+  is_get =
+      let at = passed.first_at kind body path place state tables sound gets are_gets (length body) (omega arith) get way in
+      subst (IsGetOf (slice_get body way.stop) body) way.same_class (get_is (slice_get body way.stop) body (open_in_body body (suc way.stop)) way.first at)
+
+  pub missing_job : (job : ℕ) × (first_in get.class state.jobs.items ≡ Some job) × IsMissingJob kind body path place job
+  missing_job =
+      let count = passed.first_count kind body path place state tables sound gets are_gets (length body) (omega arith) get way in
+      let exceeds = passed.first_exceeds kind body path place state tables sound gets are_gets (length body) (omega arith) get way in
+      let first = is_first get.class state.jobs.items (omega (arith, exceeds)) in
+      let more : count_in_body get.class body (suc way.stop) < count_in get.class state.jobs.items = omega (arith, count, exceeds) in (
+        first.job,
+        first.is,
+        record {
+          reached = way.reached;
+          jobs = state.jobs.items;
+          walk = sound way.reached way.from.at;
+          last = last;
+          get = way.stop;
+          submit = is_get.submit;
+          after = way.after;
+          gets = is_get.is;
+          fits = passed.fits_before kind body path place state tables sound gets are_gets (length body) (omega arith) get way;
+          exceeds = subst (λ (class : ℕ). count_in_body class body (suc way.stop) < count_in class state.jobs.items) (sym is_get.of_class) more;
+          first = subst (λ (class : ℕ). first_in class state.jobs.items ≡ Some first.job) (sym is_get.of_class) first.is;
+        },
+      )
+
+-- A single state that represents all walks.
 module _ (kind : ActorKind) (body : List Action) (path : List PathStep) (place : ℕ) (state : WalkState) (is_state : IsStateAt kind body path place state) (at_end : is_at state (length body) ≡ false) (gets : List (Option BodyGet)) (are_gets : AreGets body gets) where
   -- The body cannot be at its end.
   not_free : IsFree state.row.items state.passes.items gets (suc (length body)) (length body) → ⊥
   not_free free =
       let before = free.from.before in
-      let walk = passed.walk_over kind body path place state is_state gets are_gets free.reached free.from.at (length body) free.free (length body) (omega (arith, before)) (omega arith) (omega arith) in
+      let walk = passed.walk_over kind body path place state is_state.tables is_state.sound gets are_gets free.reached free.from.at (length body) free.free (length body) (omega (arith, before)) (omega arith) (omega arith) in
       false≢true (sym at_end ∙ (is_state.complete (length body) state.jobs.items walk).1)
 
   pub none_missing : IsBegun state → IsBlockingEnd state.row.items state.passes.items gets (length body) None → ⊥
   none_missing begun free = not_free (free begun.0 (walk_in_body kind body path (is_state.sound begun.0 begun.1)) begun.1)
 
-  module _ (get : BodyGet) (way : IsBlocked state.row.items state.passes.items gets (suc (length body)) (length body) get) where
-    is_get : IsGetOf (slice_get body way.stop) body get.class
-    is_get =
-        let at = passed.first_at kind body path place state is_state gets are_gets (length body) (omega arith) get way in
-        subst (IsGetOf (slice_get body way.stop) body) way.same_class (get_is (slice_get body way.stop) body (open_in_body body (suc way.stop)) way.first at)
-
-    pub some_missing : (job : ℕ) × (first_in get.class state.jobs.items ≡ Some job) × IsMissingJob kind body path place job
-    some_missing =
-        let count = passed.first_count kind body path place state is_state gets are_gets (length body) (omega arith) get way in
-        let exceeds = passed.first_exceeds kind body path place state is_state gets are_gets (length body) (omega arith) get way in
-        let first = is_first get.class state.jobs.items (omega (arith, exceeds)) in
-        let more : count_in_body get.class body (suc way.stop) < count_in get.class state.jobs.items = omega (arith, count, exceeds) in (
-          first.job,
-          first.is,
-          record {
-            reached = way.reached;
-            jobs = state.jobs.items;
-            walk = is_state.sound way.reached way.from.at;
-            last = λ index others w. passed.last_reached kind body path place state is_state gets are_gets (length body) (omega arith) get way index others w (walk_in_body kind body path w);
-            get = way.stop;
-            submit = is_get.submit;
-            after = way.after;
-            gets = is_get.is;
-            fits = passed.fits_before kind body path place state is_state gets are_gets (length body) (omega arith) get way;
-            exceeds = subst (λ (class : ℕ). count_in_body class body (suc way.stop) < count_in class state.jobs.items) (sym is_get.of_class) more;
-            first = subst (λ (class : ℕ). first_in class state.jobs.items ≡ Some first.job) (sym is_get.of_class) first.is;
-          },
-        )
+  pub some_missing : (get : BodyGet) → IsBlocked state.row.items state.passes.items gets (suc (length body)) (length body) get → (job : ℕ) × (first_in get.class state.jobs.items ≡ Some job) × IsMissingJob kind body path place job
+  some_missing get way =
+      missing_job kind body path place state is_state.tables is_state.sound gets are_gets get way
+      (λ index others w. passed.last_reached kind body path place state is_state.tables is_state.sound gets are_gets (length body) (omega arith) get way (λ index others w. (is_state.complete index others w).1) index others w (walk_in_body kind body path w))

@@ -81,11 +81,11 @@ pub none_undecided : (plan : Plan) (lines : List RecordedLine) (findings : List 
 none_undecided plan lines findings are none =
     let nobody : are.undecided ≡ [] = no_first (filter (is_undecided plan) are.reported) are.undecided are.undecided_so (no_actor plan lines are.reported none are.all_reported.reported) in
     let d = map finding.Pool are.deviations in
-    let l = map finding.NotPlanned are.labels in
+    let l = map finding.UnplannedLabel are.labels in
     let u = map not_decided are.undecided in
     let e = map finding.TooMany (excesses_by_lines plan are.kinds lines) in
     let pools = none_mapped finding.Pool are.deviations (λ x. refl) in
-    let labels = both_false d l pools (none_mapped finding.NotPlanned are.labels (λ x. refl)) in
+    let labels = both_false d l pools (none_mapped finding.UnplannedLabel are.labels (λ x. refl)) in
     let paths = both_false (d ++ l) are.mismatches labels (mismatches_none plan lines (is_classless_in are.reported) are.first_mismatches are.mismatches are.mismatches_so) in
     let actors = both_false (d ++ l ++ are.mismatches) u paths (ap (λ (xs : List ClassifiedActor). list_any is_not_decided (map not_decided xs)) nobody) in
     let rounds = both_false (d ++ l ++ are.mismatches ++ u) e actors (none_mapped finding.TooMany (excesses_by_lines plan are.kinds lines) (λ x. refl)) in

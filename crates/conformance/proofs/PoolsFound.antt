@@ -15,7 +15,7 @@ use Rattle.recordings.specs.LineParts.{declares}
 use Rattle.recordings.specs.Before.{has_pool, is_closed}
 use Rattle.conformance.specs.declared.difference.Difference.{Difference}
 use Rattle.conformance.specs.Sizes.{differences}
-use Rattle.conformance.specs.PoolDeviations.{Deviation, NotPlanned, Differs, NotRecorded, pool_named, is_pool, is_among, has_difference, was_reported, unreported, deviations_of_pool, deviations_by_line, deviations_by_lines, unrecorded_at, unrecorded_by, unrecorded}
+use Rattle.conformance.specs.PoolDeviations.{Deviation, UnplannedLabel, Differs, NotRecorded, pool_named, is_pool, is_among, has_difference, was_reported, unreported, deviations_of_pool, deviations_by_line, deviations_by_lines, unrecorded_at, unrecorded_by, unrecorded}
 use Rattle.conformance.specs.ComparisonLaws.{DeviationsAddUp, PoolsAreAsPlanned, PoolsAreRecorded, IsPlannedPool}
 use Rattle.conformance.proofs.LineByLine.{by_last, any_more, all_more, any_line_more, nothing_first, nothing_last}
 use Rattle.conformance.proofs.PlannedSizes.{as_planned}
@@ -59,7 +59,7 @@ all_unreported is_reported none (d ∷ ds) = rw (none d) (ap (λ (more : List Di
 never : (P : Type 0) → false ≡ true → P
 never P h = cc
 
-unplanned : (is_first : Bool) (number : ℕ) (name : List ℕ) → (if is_first then NotPlanned number name ∷ [] else []) ≡ [] → is_first ≡ false
+unplanned : (is_first : Bool) (number : ℕ) (name : List ℕ) → (if is_first then UnplannedLabel number name ∷ [] else []) ≡ [] → is_first ≡ false
 unplanned true number name h = cc
 unplanned false number name h = refl
 

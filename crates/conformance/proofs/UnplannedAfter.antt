@@ -16,8 +16,8 @@ use Rattle.std.proofs.Common.{Bor}
 use Rattle.conformance.specs.Verdicts.{is_empty}
 use Rattle.recordings.specs.RecordingLine.{RecordedLine, Submits, RoundBegins}
 use Rattle.conformance.specs.Family.{class_family, client_family}
-use Rattle.conformance.specs.declared.unplanned.NotPlanned.{NotPlanned}
-use Rattle.conformance.specs.declared.unplanned.NotPlanned.TheVariants as code
+use Rattle.conformance.specs.declared.unplanned.UnplannedLabel.{UnplannedLabel}
+use Rattle.conformance.specs.declared.unplanned.UnplannedLabel.TheVariants as code
 use Rattle.conformance.specs.declared.unplanned.UnplannedLabels.{UnplannedLabels}
 use Rattle.conformance.specs.LabelSet.{has_label, pair_text}
 use Rattle.conformance.specs.LineQuery.{IsLine}
@@ -55,7 +55,7 @@ first_next : (before : List RecordedLine) (number : ℕ) (line other : RecordedL
 first_next before number line other earlier next none at =
     elim (line_cases before (line ∷ []) earlier other at) [ inl before_it ↦ absurd (none (line_among before earlier other before_it)) | inr after ↦ omega (arith, next, after) ]
 
-label_stays : (plan : Plan) (before more : List RecordedLine) (label : NotPlanned) → IsNotPlanned plan before label → IsNotPlanned plan (before ++ more) label
+label_stays : (plan : Plan) (before more : List RecordedLine) (label : UnplannedLabel) → IsNotPlanned plan before label → IsNotPlanned plan (before ++ more) label
 label_stays plan before more (code.Class line class pool) so = record {
   actor = so.actor;
   job = so.job;
@@ -166,7 +166,7 @@ reported_class plan before number actor job class pool old new next so fresh c p
     sym (so.kept_classes x y) ∙ (ap (λ (t : List ℕ). has_label old.classes t) (sym same) ∙ fresh) in
     record {
       found = record {
-        sound = subst (λ (xs : List NotPlanned). All (IsNotPlanned plan (before ++ line ∷ [])) xs) (sym found_is)
+        sound = subst (λ (xs : List UnplannedLabel). All (IsNotPlanned plan (before ++ line ∷ [])) xs) (sym found_is)
             (All-push (IsNotPlanned plan (before ++ line ∷ [])) old.found.items one (All-weaker (IsNotPlanned plan before) (IsNotPlanned plan (before ++ line ∷ [])) (label_stays plan before (line ∷ [])) _ so.found.sound) new_one);
         classes = λ who n x y among none. elim (Contains-push_cases before line _ among) [
           | inl earlier ↦ any_class x y ∙ or_left _ _ (so.found.classes who n x y earlier none)
@@ -177,8 +177,8 @@ reported_class plan before number actor job class pool old new next so fresh c p
               any_class x y ∙ or_right _ _ (tells x y ∙ same)
         ];
         kinds = λ round kind among none. elim (Contains-push_cases before line _ among) [ inl earlier ↦ any_kind kind ∙ so.found.kinds round kind earlier none | inr is ↦ absurd (cc) ];
-        class_once = λ x y. subst (λ (xs : List NotPlanned). count_by (names_class x y) xs ≤ 1) (sym found_is) (once_more (names_class x y) old.found.items one (so.found.class_once x y) (not_yet x y));
-        kind_once = λ x. subst (λ (xs : List NotPlanned). count_by (names_kind x) xs ≤ 1) (sym found_is) (once_more (names_kind x) old.found.items one (so.found.kind_once x) (λ h. absurd (contra _ h refl)));
+        class_once = λ x y. subst (λ (xs : List UnplannedLabel). count_by (names_class x y) xs ≤ 1) (sym found_is) (once_more (names_class x y) old.found.items one (so.found.class_once x y) (not_yet x y));
+        kind_once = λ x. subst (λ (xs : List UnplannedLabel). count_by (names_kind x) xs ≤ 1) (sym found_is) (once_more (names_kind x) old.found.items one (so.found.kind_once x) (λ h. absurd (contra _ h refl)));
       };
       kept_classes = λ x y. kept_is (pair_text x y) ∙ (ap (λ (b : Bool). b || bytes_eq (pair_text class pool) (pair_text x y)) (so.kept_classes x y) ∙ (ap (λ (b : Bool). list_any (names_class x y) old.found.items || b) (sym (tells x y)) ∙ sym (any_class x y)));
       kept_kinds = λ x. ap (λ (k : _). has_label k x) kinds_is ∙ (so.kept_kinds x ∙ sym (any_kind x));
@@ -232,7 +232,7 @@ reported_kind plan before number round kind old new next so fresh k k_is empty f
     sym (so.kept_kinds x) ∙ (ap (λ (t : List ℕ). has_label old.kinds t) (sym same) ∙ fresh) in
     record {
       found = record {
-        sound = subst (λ (xs : List NotPlanned). All (IsNotPlanned plan (before ++ line ∷ [])) xs) (sym found_is)
+        sound = subst (λ (xs : List UnplannedLabel). All (IsNotPlanned plan (before ++ line ∷ [])) xs) (sym found_is)
             (All-push (IsNotPlanned plan (before ++ line ∷ [])) old.found.items one (All-weaker (IsNotPlanned plan before) (IsNotPlanned plan (before ++ line ∷ [])) (label_stays plan before (line ∷ [])) _ so.found.sound) new_one);
         classes = λ who n x y among none. elim (Contains-push_cases before line _ among) [ inl earlier ↦ any_class x y ∙ so.found.classes who n x y earlier none | inr is ↦ absurd (cc) ];
         kinds = λ r x among none. elim (Contains-push_cases before line _ among) [
@@ -241,8 +241,8 @@ reported_kind plan before number round kind old new next so fresh k k_is empty f
               let same : kind ≡ x = cc in
               any_kind x ∙ or_right _ _ (ap (λ (t : List ℕ). bytes_eq kind t) (sym same) ∙ same_bytes kind)
         ];
-        class_once = λ x y. subst (λ (xs : List NotPlanned). count_by (names_class x y) xs ≤ 1) (sym found_is) (once_more (names_class x y) old.found.items one (so.found.class_once x y) (λ h. absurd (contra _ h refl)));
-        kind_once = λ x. subst (λ (xs : List NotPlanned). count_by (names_kind x) xs ≤ 1) (sym found_is) (once_more (names_kind x) old.found.items one (so.found.kind_once x) (not_yet x));
+        class_once = λ x y. subst (λ (xs : List UnplannedLabel). count_by (names_class x y) xs ≤ 1) (sym found_is) (once_more (names_class x y) old.found.items one (so.found.class_once x y) (λ h. absurd (contra _ h refl)));
+        kind_once = λ x. subst (λ (xs : List UnplannedLabel). count_by (names_kind x) xs ≤ 1) (sym found_is) (once_more (names_kind x) old.found.items one (so.found.kind_once x) (not_yet x));
       };
       kept_classes = λ x y. ap (λ (l : _). has_label l (pair_text x y)) classes_is ∙ (so.kept_classes x y ∙ sym (any_class x y));
       kept_kinds = λ x. kept_is x ∙ (ap (λ (b : Bool). b || bytes_eq kind x) (so.kept_kinds x) ∙ sym (any_kind x));

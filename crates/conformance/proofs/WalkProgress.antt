@@ -25,7 +25,7 @@ use Rattle.conformance.specs.BodyGets.{get_at, can_pass}
 use Rattle.conformance.specs.OpenExcess.{IsReason}
 use Rattle.conformance.specs.MissingJob.{IsMissingJob}
 use Rattle.conformance.specs.Candidate.{IsCandidate}
-use Rattle.conformance.specs.PathMatch.{OnFits, OnDeviates, IfDeviates, IsExplained, IsDecided, IsUnambiguous, IsMatch}
+use Rattle.conformance.specs.PathMatch.{OnFits, OnDeviates, IfDeviates, IsExplained, IsDecided, IsUnambiguous, HasManyOpenLists, OnUndecided, IsMatch}
 use Rattle.conformance.specs.WalkState.{is_at, IsAfterSubmit, IsAfterGet, IsStateAt, IsBegun, CanSubmit, IsProgress, progress_of}
 use Rattle.conformance.proofs.Walks.{explained_from_walks, explained_to_end, no_path_from_walks}
 use Rattle.conformance.proofs.WalkStates.{state_after_submit, submit_is, after_get, no_walk_of_none}
@@ -122,4 +122,9 @@ module _ (kind : ActorKind) (path_state : PathState) (body : List Action) (path 
   pub decided_of_match : (result : PathMatch) → IsMatch kind path_state body path result → IsUnambiguous body path → IsDecided result
   decided_of_match Fits is all = tt
   decided_of_match (Deviates explained) is all = tt
-  decided_of_match Undecided is all = is all
+  decided_of_match Undecided is all = is.0 all
+
+  pub many_of_match : (result : PathMatch) → IsMatch kind path_state body path result → OnUndecided result (HasManyOpenLists kind body path)
+  many_of_match Fits is = tt
+  many_of_match (Deviates explained) is = tt
+  many_of_match Undecided is = is.1

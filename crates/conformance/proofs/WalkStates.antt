@@ -36,10 +36,10 @@ submit_is class (Some (Get submit)) h = absurd (false≢true h)
 pub no_submit_of_get : (job class : ℕ) (one : PathStep) → one ≡ step.Gets job → submits one class ≡ true → ⊥
 no_submit_of_get job class one e h = false≢true (sym (ap (λ s. submits s class) e) ∙ h)
 
-same_get : (job other : ℕ) → ◌≡◌ {A = Option PathStep} (Some (step.Gets job)) (Some (step.Gets other)) → job ≡ other
+pub same_get : (job other : ℕ) → ◌≡◌ {A = Option PathStep} (Some (step.Gets job)) (Some (step.Gets other)) → job ≡ other
 same_get job other e = grind (arith, e)
 
-at_next : (state : WalkState) (q : ℕ) → is_at state (q + 1) ≡ true → is_at state (suc q) ≡ true
+pub at_next : (state : WalkState) (q : ℕ) → is_at state (q + 1) ≡ true → is_at state (suc q) ≡ true
 at_next state q h = subst (λ n. is_at state n ≡ true) (add-one q) h
 
 at_plus : (state : WalkState) (q : ℕ) → is_at state (suc q) ≡ true → is_at state (q + 1) ≡ true
@@ -52,11 +52,11 @@ module _ (kind : ActorKind) (body : List Action) (path : List PathStep) where
       body_moves (get_or body q (Work 0)) w (slice_get-get_or body q (Work 0) lt) (within_next jobs body q (walk_within kind body path w) passes)
 
   -- ---- a submit
-  module _ (p class : ℕ) (one : PathStep) (old new : WalkState) (state : IsStateAt kind body path p old) (after : IsAfterSubmit body p class old new)
+  module _ (p class : ℕ) (one : PathStep) (old new : WalkState) (sound : (index : ℕ) → is_at old index ≡ true → Walks kind body path index p old.jobs.items) (after : IsAfterSubmit body p class old new)
       (at_path : slice_get path p ≡ Some one) (may_be : submits one class ≡ true) where
     walk_submits : (q : ℕ) → is_at old q ≡ true → is_submit_of class (slice_get body q) ≡ true → Walks kind body path (suc q) (suc p) new.jobs.items
     walk_submits q at is_submit =
-        let w = state.sound q at in
+        let w = sound q at in
         let e = submit_is class (slice_get body q) is_submit in
         subst (λ jobs. Walks kind body path (suc q) (suc p) jobs) (sym after.jobs)
         (both_submit one class w e at_path may_be (within_submit old.jobs.items body q p class e (walk_within kind body path w)))
@@ -74,6 +74,19 @@ module _ (kind : ActorKind) (body : List Action) (path : List PathStep) where
         walk_moves q (suc p) new.jobs.items (sound_after_submit q parts.0) lt parts.1)
         (or_cases (is_at old q && is_submit_of class (slice_get body q)) (is_at new q && can_pass (get_at body q) new.jobs.items) found)
 
+    -- The body then continues alone as far as it may.
+    pub closed_after_submit : (q : ℕ) → q < length body → is_at new q ≡ true → can_pass (get_at body q) new.jobs.items ≡ true → is_at new (suc q) ≡ true
+    closed_after_submit q lt at passes = at_next new q (after.rest q lt ∙ or_right (is_at old q && is_submit_of class (slice_get body q)) (is_at new q && can_pass (get_at body q) new.jobs.items) (and_from (is_at new q) (can_pass (get_at body q) new.jobs.items) at passes))
+
+    -- Both submit.
+    pub at_after_submit : (q : ℕ) → is_at old q ≡ true → is_submit_of class (slice_get body q) ≡ true → is_at new (suc q) ≡ true
+    at_after_submit q at is_submit =
+        let lt = slice_get_within body q (Submit class) (submit_is class (slice_get body q) is_submit) in
+        at_next new q (after.rest q lt ∙ or_left (is_at old q && is_submit_of class (slice_get body q)) (is_at new q && can_pass (get_at body q) new.jobs.items) (and_from (is_at old q) (is_submit_of class (slice_get body q)) at is_submit))
+
+  -- If the job can have no other class, these are all walks.
+  module _ (p class : ℕ) (one : PathStep) (old new : WalkState) (state : IsStateAt kind body path p old) (after : IsAfterSubmit body p class old new)
+      (at_path : slice_get path p ≡ Some one) (may_be : submits one class ≡ true) where
     pub complete_after_submit : ((other : ℕ) → submits one other ≡ true → has_submit_of body other ≡ true → other ≡ class)
         → {q : ℕ} {jobs : List OpenJob} → Walks kind body path q (suc p) jobs → (jobs ≡ new.jobs.items) × (is_at new q ≡ true)
     complete_after_submit only =
@@ -97,17 +110,17 @@ module _ (kind : ActorKind) (body : List Action) (path : List PathStep) where
     pub state_after_submit : ((other : ℕ) → submits one other ≡ true → has_submit_of body other ≡ true → other ≡ class) → IsStateAt kind body path (suc p) new
     state_after_submit only = record {
       tables = after.tables;
-      sound = sound_after_submit;
+      sound = sound_after_submit p class one old new state.sound after at_path may_be;
       complete = λ q jobs w. complete_after_submit only w;
     }
 
   -- ---- a get
-  module _ (p job class : ℕ) (old new : WalkState) (state : IsStateAt kind body path p old) (is_open : open_class job old.jobs.items ≡ Some class) (after : IsAfterGetOf kind body job class old new)
+  module _ (p job class : ℕ) (old new : WalkState) (sound : (index : ℕ) → is_at old index ≡ true → Walks kind body path index p old.jobs.items) (is_open : open_class job old.jobs.items ≡ Some class) (after : IsAfterGetOf kind body job class old new)
       (at_path : slice_get path p ≡ Some (step.Gets job)) where
     walk_gets : (q : ℕ) → (is_at old q && ltb q after.end) ≡ true → Walks kind body path q (suc p) new.jobs.items
     walk_gets q h =
         let parts = and_parts (is_at old q) (ltb q after.end) h in
-        let w = state.sound q parts.0 in
+        let w = sound q parts.0 in
         let may = (after.is_end q (walk_in_body kind body path w)).0 parts.1 in
         subst (λ jobs. Walks kind body path q (suc p) jobs) (sym after.jobs)
         (path_gets job class w at_path is_open may (within_without old.jobs.items body q job (walk_within kind body path w)))
@@ -125,12 +138,17 @@ module _ (kind : ActorKind) (body : List Action) (path : List PathStep) where
         walk_moves q (suc p) new.jobs.items (sound_after_get q parts.0) lt parts.1)
         (or_cases (is_at old (q + 1) && ltb (q + 1) after.end) (is_at new q && can_pass (get_at body q) new.jobs.items) found)
 
-    kept_at : (q : ℕ) → q ≤ length body → (is_at old q && ltb q after.end) ≡ true → is_at new q ≡ true
+    pub kept_at : (q : ℕ) → q ≤ length body → (is_at old q && ltb q after.end) ≡ true → is_at new q ≡ true
     kept_at zero h kept = after.first ∙ kept
     kept_at (suc q) h kept =
         at_next new q (after.rest q (omega (arith, h)) ∙ or_left (is_at old (q + 1) && ltb (q + 1) after.end) (is_at new q && can_pass (get_at body q) new.jobs.items)
         (subst (λ n. (is_at old n && ltb n after.end) ≡ true) (sym (add-one q)) kept))
 
+    pub closed_after_get : (q : ℕ) → q < length body → is_at new q ≡ true → can_pass (get_at body q) new.jobs.items ≡ true → is_at new (suc q) ≡ true
+    closed_after_get q lt at passes = at_next new q (after.rest q lt ∙ or_right (is_at old (q + 1) && ltb (q + 1) after.end) (is_at new q && can_pass (get_at body q) new.jobs.items) (and_from (is_at new q) (can_pass (get_at body q) new.jobs.items) at passes))
+
+  module _ (p job class : ℕ) (old new : WalkState) (state : IsStateAt kind body path p old) (is_open : open_class job old.jobs.items ≡ Some class) (after : IsAfterGetOf kind body job class old new)
+      (at_path : slice_get path p ≡ Some (step.Gets job)) where
     pub complete_after_get : {q : ℕ} {jobs : List OpenJob} → Walks kind body path q (suc p) jobs → (jobs ≡ new.jobs.items) × (is_at new q ≡ true)
     complete_after_get =
         walk_last kind body path (λ q jobs. (jobs ≡ new.jobs.items) × (is_at new q ≡ true))
@@ -146,12 +164,12 @@ module _ (kind : ActorKind) (body : List Action) (path : List PathStep) where
         let in_body = walk_in_body kind body path w in
         let may = (after.is_end q in_body).1 (subst (λ n. MayGet kind body q n) is m) in
         let jobs_are : without other jobs ≡ new.jobs.items = ap (without other) before.0 ∙ (ap (λ j. without j old.jobs.items) same ∙ sym after.jobs) in
-        (jobs_are, kept_at q in_body (and_from (is_at old q) (ltb q after.end) before.1 may)))
+        (jobs_are, kept_at p job class old new state.sound is_open after at_path q in_body (and_from (is_at old q) (ltb q after.end) before.1 may)))
 
     pub state_after_get : IsStateAt kind body path (suc p) new
     state_after_get = record {
       tables = after.tables;
-      sound = sound_after_get;
+      sound = sound_after_get p job class old new state.sound is_open after at_path;
       complete = λ q jobs w. complete_after_get w;
     }
 

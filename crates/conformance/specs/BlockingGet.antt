@@ -63,8 +63,9 @@ abbrev pub IsBlocking : List Bool → List Bool → List (Option BodyGet) → Li
 IsBlocking row passes gets body class None = (end : ℕ) → AreReached row passes gets body class end
 IsBlocking row passes gets body class (Some get) = IsBlockingGet row passes gets body class get
 
--- ---- the end of the body
--- If there is a get, it keeps the body from its end. If there is none, the body can reach its end, or it can be at no index.
+-- ---- an index of the body
+-- If there is a get, it keeps the body from the index `end`. If there is none, the body can reach `end`, or it can be at no
+-- index up to `end`.
 abbrev pub IsBlockingEnd : List Bool → List Bool → List (Option BodyGet) → ℕ → Option BodyGet → Type 0
 IsBlockingEnd row passes gets end None = (index : ℕ) → index ≤ end → slice_index_or row index false ≡ true → IsFree row passes gets (suc end) end
 IsBlockingEnd row passes gets end (Some get) = IsBlocked row passes gets (suc end) end get

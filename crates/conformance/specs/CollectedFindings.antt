@@ -20,7 +20,7 @@ use Rattle.conformance.specs.declared.finding.Finding.TheVariants as finding
 use Rattle.conformance.specs.declared.mismatch.PathMismatch.{PathMismatch}
 use Rattle.conformance.specs.declared.rejections.Rejections.{Rejections}
 use Rattle.conformance.specs.declared.survey.Survey.{Survey}
-use Rattle.conformance.specs.declared.unplanned.NotPlanned.{NotPlanned}
+use Rattle.conformance.specs.declared.unplanned.UnplannedLabel.{UnplannedLabel}
 use Rattle.conformance.specs.declared.verdicts.Verdicts.{Verdicts}
 use Rattle.conformance.specs.Description.{IsDescriptionOf, IsLabelOfJob}
 use Rattle.conformance.specs.JobSet.{has_job}
@@ -112,9 +112,9 @@ pub record AddsNotes (lines : List RecordedLine) (rejections : Option Rejections
   pub after : new ≡ old ++ foreign ++ invalidations
 
 -- All findings, in the order of their types.
-abbrev pub all_findings : List PoolDeviation → List NotPlanned → List Finding → List ClassifiedActor → List RoundExcess → List Finding → List Finding → List Finding
+abbrev pub all_findings : List PoolDeviation → List UnplannedLabel → List Finding → List ClassifiedActor → List RoundExcess → List Finding → List Finding → List Finding
 all_findings deviations labels mismatched undecided excesses gets invalidations =
-    map finding.Pool deviations ++ map finding.NotPlanned labels ++ mismatched ++ map not_decided undecided ++ map finding.TooMany excesses ++ gets ++ invalidations
+    map finding.Pool deviations ++ map finding.UnplannedLabel labels ++ mismatched ++ map not_decided undecided ++ map finding.TooMany excesses ++ gets ++ invalidations
 
 -- `found` has the findings of the survey and of `excesses`. The foreign get and the invalidating events are those of `lines`.
 pub record AreCollected (plan : Plan) (lines : List RecordedLine) (survey : Survey) (excesses : List RoundExcess) (rejections : Option Rejections) (found : List Finding) : Type 0 where

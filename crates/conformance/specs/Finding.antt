@@ -8,22 +8,22 @@ use Rattle.conformance.specs.declared.difference.Difference.{Difference}
 use Rattle.conformance.specs.declared.difference.Difference.TheVariants as difference
 use Rattle.conformance.specs.declared.finding.Finding.{Finding}
 use Rattle.conformance.specs.declared.finding.Finding.TheVariants as finding
-use Rattle.conformance.specs.declared.unplanned.NotPlanned.{NotPlanned}
-use Rattle.conformance.specs.declared.unplanned.NotPlanned.TheVariants as label
+use Rattle.conformance.specs.declared.unplanned.UnplannedLabel.{UnplannedLabel}
+use Rattle.conformance.specs.declared.unplanned.UnplannedLabel.TheVariants as label
 
 abbrev pub pool_line : PoolDeviation → Option ℕ
-pool_line (pool.NotPlanned line name) = Some line
+pool_line (pool.UnplannedLabel line name) = Some line
 pool_line (pool.Differs line number difference) = Some line
 pool_line (pool.NotRecorded number) = None
 
-abbrev pub label_line : NotPlanned → Option ℕ
+abbrev pub label_line : UnplannedLabel → Option ℕ
 label_line (label.Class line class name) = Some line
 label_line (label.Kind line kind) = Some line
 
 -- The line number of a finding, if it has one.
 abbrev pub line_of : Finding → Option ℕ
 line_of (finding.Pool deviation) = pool_line deviation
-line_of (finding.NotPlanned name) = label_line name
+line_of (finding.UnplannedLabel name) = label_line name
 line_of (finding.PathMismatch line mismatch) = line
 line_of (finding.NotDecided actor name) = None
 line_of (finding.TooMany excess) = Some excess.line
@@ -51,7 +51,7 @@ undecided_rank (Round round) = 4
 
 abbrev pub rank_of : Finding → ℕ
 rank_of (finding.Pool deviation) = 0
-rank_of (finding.NotPlanned name) = 1
+rank_of (finding.UnplannedLabel name) = 1
 rank_of (finding.PathMismatch line mismatch) = 2
 rank_of (finding.NotDecided actor name) = undecided_rank actor
 rank_of (finding.TooMany excess) = 5
@@ -70,7 +70,7 @@ difference_number difference.NoCoreTimeout = 4
 difference_number (difference.Prestarted recorded planned) = 5
 
 abbrev pub pool_number : PoolDeviation → ℕ
-pool_number (pool.NotPlanned line name) = 0
+pool_number (pool.UnplannedLabel line name) = 0
 pool_number (pool.Differs line number one) = difference_number one
 pool_number (pool.NotRecorded number) = number
 
@@ -83,7 +83,7 @@ actor_number (Round round) = round
 -- Otherwise it is 0.
 abbrev pub number_of : Finding → ℕ
 number_of (finding.Pool deviation) = pool_number deviation
-number_of (finding.NotPlanned name) = 0
+number_of (finding.UnplannedLabel name) = 0
 number_of (finding.PathMismatch line mismatch) = 0
 number_of (finding.NotDecided actor name) = actor_number actor
 number_of (finding.TooMany excess) = excess.kind

@@ -16,8 +16,8 @@ use Rattle.recordings.specs.declared.recording_line.RecordedActor.TheVariants.{J
 use Rattle.conformance.specs.declared.actor_label.ActorLabel.{ActorLabel}
 use Rattle.conformance.specs.declared.finding.Finding.{Finding}
 use Rattle.conformance.specs.declared.finding.Finding.TheVariants as finding
-use Rattle.conformance.specs.declared.unplanned.NotPlanned.{NotPlanned}
-use Rattle.conformance.specs.declared.unplanned.NotPlanned.TheVariants as label
+use Rattle.conformance.specs.declared.unplanned.UnplannedLabel.{UnplannedLabel}
+use Rattle.conformance.specs.declared.unplanned.UnplannedLabel.TheVariants as label
 use Rattle.conformance.specs.Finding.{line_of}
 use Rattle.conformance.specs.PathMismatch.{actor_text, job_text, mismatch_text}
 
@@ -44,11 +44,11 @@ abbrev pub class_text : List ℕ → List ℕ → List ℕ
 class_text class pool = class_name_text class ++ unplanned_text (codes "pool") pool
 
 abbrev pub deviation_text : Plan → PoolDeviation → List ℕ
-deviation_text plan (pool.NotPlanned line name) = unplanned_text (codes "pool") (string_bytes name)
+deviation_text plan (pool.UnplannedLabel line name) = unplanned_text (codes "pool") (string_bytes name)
 deviation_text plan (pool.Differs line number difference) = pool_difference_text (pool_at plan number).name difference
 deviation_text plan (pool.NotRecorded number) = not_recorded_text (pool_at plan number).name
 
-abbrev pub not_planned_text : NotPlanned → List ℕ
+abbrev pub not_planned_text : UnplannedLabel → List ℕ
 not_planned_text (label.Class line class name) = class_text (string_bytes class) (string_bytes name)
 not_planned_text (label.Kind line kind) = unplanned_text (codes "kind") (string_bytes kind)
 
@@ -82,7 +82,7 @@ invalidation_text invalidation name = codes "the answer SAFE does not hold after
 
 abbrev pub found_text : Plan → Finding → List ℕ
 found_text plan (finding.Pool deviation) = deviation_text plan deviation
-found_text plan (finding.NotPlanned name) = not_planned_text name
+found_text plan (finding.UnplannedLabel name) = not_planned_text name
 found_text plan (finding.PathMismatch line mismatch) = mismatch_text plan mismatch
 found_text plan (finding.NotDecided actor name) = label_text actor name ++ codes ": not decided: a job that it submitted may belong to several classes of its body"
 found_text plan (finding.TooMany excess) = kind_excess_text plan excess

@@ -15,7 +15,7 @@ use Rattle.conformance.specs.PoolDeviations.{deviation_seen, deviations_by_lines
 use Rattle.conformance.specs.RoundExcesses.{excesses_by_lines}
 use Rattle.conformance.specs.declared.finding.Finding.{Finding}
 use Rattle.conformance.specs.declared.finding.Finding.TheVariants as finding
-use Rattle.conformance.specs.declared.unplanned.NotPlanned.{NotPlanned}
+use Rattle.conformance.specs.declared.unplanned.UnplannedLabel.{UnplannedLabel}
 use Rattle.conformance.specs.FirstKinds.{AreFirstKinds}
 use Rattle.conformance.specs.FirstActors.{AreFirstActorsOf}
 use Rattle.conformance.specs.CollectedFindings.{AreMismatchesOf, AreForeign, AreInvalidationsOf, is_counted, all_findings}
@@ -25,7 +25,7 @@ use Rattle.conformance.specs.Verdicts.{is_mismatch, is_undecided, is_classless_j
 
 -- The finding concerns a label, a path or a number of rounds.
 abbrev pub is_of_actors : Finding → Bool
-is_of_actors (finding.NotPlanned label) = true
+is_of_actors (finding.UnplannedLabel label) = true
 is_of_actors (finding.PathMismatch line mismatch) = true
 is_of_actors (finding.NotDecided actor label) = true
 is_of_actors (finding.TooMany excess) = true
@@ -36,7 +36,7 @@ is_of_actors (finding.Invalidation invalidation label) = false
 -- The finding says that it is undecided whether the path of an actor matches a body.
 abbrev pub is_not_decided : Finding → Bool
 is_not_decided (finding.NotDecided actor label) = true
-is_not_decided (finding.NotPlanned label) = false
+is_not_decided (finding.UnplannedLabel label) = false
 is_not_decided (finding.PathMismatch line mismatch) = false
 is_not_decided (finding.TooMany excess) = false
 is_not_decided (finding.Pool deviation) = false
@@ -69,7 +69,7 @@ pub record AreFindingsOf (plan : Plan) (lines : List RecordedLine) (findings : L
   pub kinds_so : AreFirstKinds plan lines reported kinds
   pub deviations : List PoolDeviation
   pub deviations_so : map deviation_seen deviations ≡ deviations_by_lines plan lines ++ deviations_at_end plan lines
-  pub labels : List NotPlanned
+  pub labels : List UnplannedLabel
   pub labels_so : AreNotPlanned plan lines labels
   pub first_mismatches : List ClassifiedActor
   pub first_mismatches_so : AreFirstActorsOf (filter (is_mismatch plan) reported) first_mismatches

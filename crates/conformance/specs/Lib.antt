@@ -4,6 +4,7 @@ pub mod LaggingRun
 pub mod BodyGets
 pub mod Candidate
 pub mod WalkState
+pub mod WalkStates
 pub mod Narrowing
 pub mod BlockingGet
 pub mod OpenExcess

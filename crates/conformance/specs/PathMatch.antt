@@ -1,5 +1,5 @@
 -- The results of matching a path against a body.
-use Rattle.std.specs.Prelude.{◌≡◌, ◌≤◌, ◌<◌, ◌==◌, ◌||◌, ◌&&◌, ℕ, true, nat_lt, is_none, is_some, if◌then◌else◌, List, ⊤, length, take, All}
+use Rattle.std.specs.Prelude.{◌≡◌, ◌≤◌, ◌<◌, ◌==◌, ◌||◌, ◌&&◌, ℕ, true, nat_lt, is_none, is_some, if◌then◌else◌, List, Some, ⊤, length, take, slice_get, All}
 use Rattle.job_bodies.specs.declared.action.Action.{Action}
 use Rattle.conformance.specs.declared.step.ActorKind.{ActorKind}
 use Rattle.conformance.specs.declared.step.PathStep.{PathStep}
@@ -8,7 +8,9 @@ use Rattle.conformance.specs.declared.step.PathState.TheVariants.{Prefix}
 use Rattle.conformance.specs.declared.explained_prefix.ExplainedPrefix.{ExplainedPrefix}
 use Rattle.conformance.specs.declared.path_match.PathMatch.{PathMatch}
 use Rattle.conformance.specs.declared.path_match.PathMatch.TheVariants.{Fits, Deviates, Undecided}
-use Rattle.conformance.specs.Path.{IsPathOf, HasOneClass}
+use Rattle.conformance.specs.declared.open_job.OpenJob.{OpenJob}
+use Rattle.conformance.specs.declared.path_match.TheConstants.{MAX_OPEN_LISTS}
+use Rattle.conformance.specs.Path.{Walks, IsPathOf, HasOneClass}
 use Rattle.conformance.specs.OpenExcess.{IsReason}
 use Rattle.conformance.specs.MissingJob.{IsMissing}
 
@@ -54,8 +56,24 @@ IsDecided Undecided = ⊥
 abbrev pub IsUnambiguous : List Action → List PathStep → Type 0
 IsUnambiguous body path = All (HasOneClass body) path
 
+-- After the first `place` steps of the path, more than `MAX_OPEN_LISTS` lists of jobs can be open. In each list, each job has one
+-- of the classes that it may belong to.
+pub record HasManyOpenLists (kind : ActorKind) (body : List Action) (path : List PathStep) : Type 0 where
+  pub place : ℕ
+  pub within : place ≤ length path
+  pub lists : List (List OpenJob)
+  pub many : MAX_OPEN_LISTS < length lists
+  pub distinct : (i j : ℕ) (jobs : List OpenJob) → slice_get lists i ≡ Some jobs → slice_get lists j ≡ Some jobs → i ≡ j
+  pub walks : (i : ℕ) (jobs : List OpenJob) → slice_get lists i ≡ Some jobs → (index : ℕ) × Walks kind body path index place jobs
+
+-- `P` holds if the result is `Undecided`.
+abbrev pub OnUndecided : PathMatch → Type 0 → Type 0
+OnUndecided Fits P = ⊤
+OnUndecided (Deviates explained) P = ⊤
+OnUndecided Undecided P = P
+
 -- The result of matching the path against the body is correct.
 abbrev pub IsMatch : ActorKind → PathState → List Action → List PathStep → PathMatch → Type 0
 IsMatch kind path_state body path Fits = IsPathOf kind path_state body path
 IsMatch kind path_state body path (Deviates explained) = (¬ IsPathOf kind path_state body path) × IsExplained kind body path explained
-IsMatch kind path_state body path Undecided = ¬ IsUnambiguous body path
+IsMatch kind path_state body path Undecided = (¬ IsUnambiguous body path) × HasManyOpenLists kind body path

@@ -17,13 +17,13 @@ use Rattle.conformance.specs.Sizes.{differences}
 -- A difference between the pools of a recording and of a plan. A pool that is not in the plan has its name as a list of
 -- bytes.
 pub data Deviation : Type 0 where
-  NotPlanned : ℕ → List ℕ → Deviation
+  UnplannedLabel : ℕ → List ℕ → Deviation
   Differs : ℕ → ℕ → Difference → Deviation
   NotRecorded : ℕ → Deviation
 
 -- The `Deviation` for a difference that the program returns.
 abbrev pub deviation_seen : PoolDeviation → Deviation
-deviation_seen (code.NotPlanned line pool) = NotPlanned line (string_bytes pool)
+deviation_seen (code.UnplannedLabel line pool) = UnplannedLabel line (string_bytes pool)
 deviation_seen (code.Differs line pool difference) = Differs line pool difference
 deviation_seen (code.NotRecorded pool) = NotRecorded pool
 
@@ -58,7 +58,7 @@ unreported is_reported found = filter (λ difference. not (is_reported differenc
 -- The differences to report for a `pool` line. If the plan has no pool of this name, the pool is reported at its first line.
 -- Otherwise each difference is reported that has not been reported for the pool.
 abbrev pub deviations_of_pool : Plan → Bool → (ℕ → Difference → Bool) → ℕ → List ℕ → PoolSizes → Option ℕ → List Deviation
-deviations_of_pool plan is_first is_reported number name sizes None = if is_first then NotPlanned number name ∷ [] else []
+deviations_of_pool plan is_first is_reported number name sizes None = if is_first then UnplannedLabel number name ∷ [] else []
 deviations_of_pool plan is_first is_reported number name sizes (Some pool) = map (Differs number pool) (unreported (is_reported pool) (differences is_first sizes (pool_at plan pool)))
 
 -- The differences to report for a line. `is_named` says which pools have an earlier line. `is_reported` says which

@@ -8,8 +8,8 @@ use Rattle.job_bodies.specs.Plan.{Plan}
 use Rattle.recordings.specs.declared.recording_line.RecordedActor.{RecordedActor}
 use Rattle.recordings.specs.RecordingLine.{RecordedLine, Submits, RoundBegins}
 use Rattle.conformance.specs.Family.{class_family, client_family}
-use Rattle.conformance.specs.declared.unplanned.NotPlanned.{NotPlanned}
-use Rattle.conformance.specs.declared.unplanned.NotPlanned.TheVariants as code
+use Rattle.conformance.specs.declared.unplanned.UnplannedLabel.{UnplannedLabel}
+use Rattle.conformance.specs.declared.unplanned.UnplannedLabel.TheVariants as code
 use Rattle.conformance.specs.declared.unplanned.UnplannedLabels.{UnplannedLabels}
 use Rattle.conformance.specs.LabelSet.{has_label, pair_text}
 use Rattle.conformance.specs.LineQuery.{IsLine}
@@ -34,23 +34,23 @@ pub record IsKindNotPlanned (plan : Plan) (lines : List RecordedLine) (number : 
   pub none : client_family plan kind ≡ []
   pub first : (earlier : ℕ) (one : ℕ) → IsLine lines earlier (RoundBegins one kind) → number ≤ earlier
 
-abbrev pub IsNotPlanned : Plan → List RecordedLine → NotPlanned → Type 0
+abbrev pub IsNotPlanned : Plan → List RecordedLine → UnplannedLabel → Type 0
 IsNotPlanned plan lines (code.Class line class pool) = IsClassNotPlanned plan lines line (string_bytes class) (string_bytes pool)
 IsNotPlanned plan lines (code.Kind line kind) = IsKindNotPlanned plan lines line (string_bytes kind)
 
 -- ---- all labels
 -- The element is this class in this pool.
-abbrev pub names_class : List ℕ → List ℕ → NotPlanned → Bool
+abbrev pub names_class : List ℕ → List ℕ → UnplannedLabel → Bool
 names_class class pool (code.Class line c p) = bytes_eq (pair_text (string_bytes c) (string_bytes p)) (pair_text class pool)
 names_class class pool (code.Kind line kind) = false
 
-abbrev pub names_kind : List ℕ → NotPlanned → Bool
+abbrev pub names_kind : List ℕ → UnplannedLabel → Bool
 names_kind kind (code.Class line c p) = false
 names_kind kind (code.Kind line k) = bytes_eq (string_bytes k) kind
 
 -- The list has each label of the lines that is not in the plan, once and with the first line that has it. It has no other
 -- label.
-pub record AreNotPlanned (plan : Plan) (lines : List RecordedLine) (found : List NotPlanned) : Type 0 where
+pub record AreNotPlanned (plan : Plan) (lines : List RecordedLine) (found : List UnplannedLabel) : Type 0 where
   pub sound : All (IsNotPlanned plan lines) found
   pub classes : (actor : RecordedActor) (job : ℕ) (class pool : List ℕ) → Contains lines (Submits actor job class pool) → class_family plan class pool ≡ []
       → list_any (names_class class pool) found ≡ true

@@ -69,4 +69,4 @@ progress_of state = if list_any (λ at. at) state.row.items then progress.Advanc
 abbrev pub IsProgress : ActorKind → List Action → List PathStep → ℕ → PathStep → WalkState → Progress → Type 0
 IsProgress kind body path place step new progress.Advanced = IsStateAt kind body path (place + 1) new × IsBegun new
 IsProgress kind body path place step new (progress.Stops excess) = ((index : ℕ) (jobs : List OpenJob) → ¬ Walks kind body path index (place + 1) jobs) × IsReason kind body path place excess
-IsProgress kind body path place step new progress.Undecided = ¬ HasOneClass body step
+IsProgress kind body path place step new progress.Undecided = ¬ HasOneClass body step × IsStateAt kind body path place new

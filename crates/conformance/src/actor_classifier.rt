@@ -24,20 +24,22 @@ use job_bodies::Plan;
 use recordings::{Line, Paths, RecordedActor};
 use std::alloc::{AllocError, Global};
 
-/// A classifier for the actors of a recording. An actor is a job or a round of a client.
+/// A classifier for the actors of a recording. An actor is a job or a round. A round is one pass of
+/// a client through its body.
 ///
-/// An actor becomes settled once it has ended and all jobs that it submitted are settled. The
-/// classifier then classifies the actor: it finds the classes or kinds that the actor can belong
-/// to. A job may never run because it was refused, cancelled or removed. Such a job stays open
-/// until the recording ends. At the end of the recording, [`finish`](ActorClassifier::finish)
-/// classifies all actors that are not settled.
+/// An actor becomes settled once it has ended and all jobs in its path are settled. The classifier
+/// then classifies the actor: it finds the classes or client kinds that the actor can belong to. If
+/// a job never runs because it was refused, cancelled or removed, it stays unsettled until the
+/// recording ends. At the end of the recording, [`finish`](ActorClassifier::finish) classifies all
+/// actors that are not settled.
 ///
 /// The classifier stores the paths of the unsettled actors. It also stores the classes of each
 /// settled job that an unsettled actor submitted.
 ///
-/// The path of an ended actor is scanned only once in total: each scan continues at the unsettled
-/// job that stopped the previous scan. No contract states the running time for a line. If several
-/// actors become settled with the same line, no contract states in which order they are reported.
+/// The path of an ended actor is scanned only once in total. Each scan stops at the first unsettled
+/// job, and the next scan continues there. No contract states the running time for a line. If
+/// several actors become settled with the same line, no contract states in which order they are
+/// reported.
 #[derive(Drop)]
 pub struct ActorClassifier {
     pub(crate) paths: Paths,
@@ -49,7 +51,7 @@ pub struct ActorClassifier {
 }
 
 impl ActorClassifier {
-    /// Creates a classifier in its state before the first line.
+    /// Creates a classifier that has read no line yet.
     pub fn new(alloc: Global) -> ActorClassifier
         ensures represents { (plan : plans.Plan) → IsClassifierOf plan result [] }
         ensures reported { (plan : plans.Plan) → AreResultsOfPrefix plan [] [] }
@@ -63,8 +65,9 @@ impl ActorClassifier {
         }
     }
 
-    /// Reads the next line of a valid recording, and appends each actor that becomes settled with
-    /// this line to `reported`. The caller must pass the same `plan` for all lines.
+    /// Reads the next line of a valid recording. Classifies each actor that becomes settled with
+    /// this line, and appends the results to `reported`. An actor becomes settled once it has ended
+    /// and all jobs in its path are settled. The caller must pass the same `plan` for all lines.
     ///
     /// # Errors
     ///
@@ -278,8 +281,9 @@ impl ActorClassifier {
     }
 }
 
-/// The progress of an ended actor. `known` is the length of a prefix of the actor's path. All jobs
-/// that this prefix submits are settled. `is_ready` is true if the prefix is the whole path.
+/// The progress towards classifying an ended actor. All jobs that the first `known` steps of its
+/// path submit are settled, which means that they are classified. `is_ready` is true if these are
+/// all steps of the path: the actor can then be classified.
 #[derive(Clone, Copy)]
 struct Progress {
     known: usize,

@@ -25,16 +25,16 @@ pub(crate) struct UnsettledActor {
     pub(crate) pool: String,
     /// The submitter of a job. It is `None` for a refused job and for a round.
     pub(crate) submitter: Option<RecordedActor>,
-    /// The path of the actor, and how much of the path is settled. It is `None` if the actor is
-    /// open.
+    /// The path of the actor if it has ended. It is `None` if the actor is open.
     pub(crate) ended_path: Option<EndedPath>,
 }
 
-/// The path of an actor that has ended but is not settled.
+/// The path of an ended actor that is not yet classified.
 #[derive(Drop)]
 pub(crate) struct EndedPath {
     pub(crate) path: Vec<RecordedStep>,
-    /// The length of a prefix of the path. All jobs that this prefix submits are settled.
+    /// The length of a prefix of the path. All jobs that this prefix submits are settled, so the
+    /// next search for an unsettled job starts after it.
     pub(crate) known: usize,
 }
 
@@ -149,8 +149,8 @@ impl ActorTable {
         }
     }
 
-    /// Returns the path of an ended actor, and how much of the path is settled. Returns `None` if
-    /// the actor has not ended or is not in the table.
+    /// Returns the path of an ended actor, with the length of a prefix. All jobs that this prefix
+    /// submits are settled. Returns `None` if the actor has not ended or is not in the table.
     pub(crate) fn ended_path(&self, actor: RecordedActor) -> Option<&EndedPath>
         ensures { option_copied result
             ≡ option_and_then (λ kept. kept.ended_path) (in_table self.now actor) }
@@ -162,9 +162,9 @@ impl ActorTable {
         kept.ended_path.as_ref()
     }
 
-    /// Sets the settled part of an ended actor's path. `known` is the length of a prefix of the
-    /// path. All jobs that this prefix submits are settled. Does nothing if the actor has not ended
-    /// or is not in the table.
+    /// Stores `known` for an ended actor: the length of a prefix of the actor's path. All jobs that
+    /// this prefix submits are settled. Does nothing if the actor has not ended or is not in the
+    /// table.
     pub(crate) fn advance(&mut self, actor: RecordedActor, known: usize)
         ensures later { (one : RecordedActor)
             → in_table self.new one

@@ -1,36 +1,39 @@
-//! A search for the get that blocks a body. A get blocks a body if the body may not pass the get.
-//! The search ends at the next submit of a class, or at the end of the body.
+//! A search for the get that keeps a body from a submit of a class, or from its end. A get blocks
+//! the body while the path that is matched against it has too many open jobs of the get's class.
+//! The search finds the reason why a recorded path does not match a body.
 
-ghost use Rattle.std.specs.Prelude.{◌≡◌, ◌+◌, ◌==◌, ◌&&◌, nat_lt, if◌then◌else◌, length};
+ghost use Rattle.std.specs.Prelude.{◌≡◌, ◌≤◌, ◌<◌, ◌+◌, ◌==◌, ◌&&◌, nat_lt, if◌then◌else◌, length};
 ghost use Rattle.conformance.specs.BlockingGet as spec;
 
 use crate::body_gets::BodyGet;
 use crate::row::has_submit_at;
 use job_bodies::Action;
 
-/// The result of a search for a blocking get, up to an index of the body. The search covers the way
-/// to this index: the actions that lead to it from the last index where the body can be.
+/// The result of a search for a blocking get before an index of the body. The search covers the way
+/// to this index: the actions from the last index where the body can be, up to this index.
 #[derive(Clone, Copy)]
 enum Way {
-    /// The body can be neither at this index nor at an earlier one.
+    /// There is no way: the body can be neither at the index nor before it.
     Unreached,
-    /// The body may pass every get on the way to the index.
+    /// No get on the way to the index blocks the body.
     Free,
     /// At least one get on the way to the index blocks the body. The candidates are the first such
     /// get, and all later gets of the same class on the way. The field is the candidate with the
-    /// smallest limit.
+    /// smallest [`limit`](BodyGet::limit).
     Blocked(BodyGet),
 }
 
-/// Returns the get that blocks the body before its next submit of the class. Returns `None` if no
-/// get blocks the body.
+/// Returns the get that blocks the body before the first submit of the class that it cannot reach.
+/// Returns `None` if no get blocks the body.
 ///
-/// The way to the submit starts at the last index where the body can be. The candidates are the
-/// first get on the way that blocks the body, and all later gets of the same class on the way. The
-/// result is the candidate with the smallest limit.
+/// A get blocks the body if the body may not pass the get. The way to the submit has the actions
+/// from the last index where the body can be, up to the submit. The candidates are the first
+/// blocking get on the way, and all later gets of the same class on the way. The result is the
+/// candidate with the smallest [`limit`](BodyGet::limit).
 ///
-/// - `row` says for each index whether the body can be there.
-/// - `passes` says for each action whether the body may pass the action.
+/// - `row` says for each index, and for the end, whether the body can be there.
+/// - `passes` says for each action whether the body may pass it: whether the body may go to the
+///   next action while the path makes no step.
 /// - `gets` has an entry for each action: the get, or `None` if the action is no get.
 pub(crate) fn blocking_get(
     row: &[bool],
@@ -55,26 +58,27 @@ pub(crate) fn blocking_get(
     None
 }
 
-/// Returns the get that blocks the body before its end. Returns `None` if no get blocks the body,
-/// or if the body can be at no index.
+/// Returns the get that blocks the body before the index `end`. Returns `None` if no get blocks the
+/// body, or if the body can be neither at this index nor before it.
 ///
-/// The way to the end starts at the last index where the body can be. The candidates are the first
-/// get on the way that blocks the body, and all later gets of the same class. The result is the
-/// candidate with the smallest limit.
+/// A get blocks the body if the body may not pass the get. The way to `end` has the actions from
+/// the last index where the body can be. The candidates are the first blocking get on the way, and
+/// all later gets of the same class. The result is the candidate with the smallest
+/// [`limit`](BodyGet::limit).
 ///
 /// - `row` says for each index, and for the end, whether the body can be there.
-/// - `passes` says for each action whether the body may pass the action.
+/// - `passes` says for each action whether the body may pass it: whether the body may go to the
+///   next action while the path makes no step.
 /// - `gets` has an entry for each action: the get, or `None` if the action is no get.
-/// - `end` is the index of the end, which is the length of the body.
 pub(crate) fn get_before_end(
     row: &[bool],
     passes: &[bool],
     gets: &[Option<BodyGet>],
     end: usize,
 ) -> Option<BodyGet>
-    requires row { length row.now ≡ end + 1 }
-    requires passes { length passes.now ≡ end }
-    requires gets { length gets.now ≡ end }
+    requires row { end < length row.now }
+    requires passes { end ≤ length passes.now }
+    requires gets { end ≤ length gets.now }
     ensures { spec.IsBlockingEnd row.now passes.now gets.now end result }
 {
     let mut way = Way::Unreached;
@@ -86,17 +90,18 @@ pub(crate) fn get_before_end(
     blocking_at(here, true)
 }
 
-/// Returns the [`Way`] to an index. `is_at` says whether the body can be at the index. If so,
-/// returns [`Way::Free`]. Otherwise returns `before`, the result for the actions before the index.
+/// Returns the [`Way`] to an index. `before` is the result for the actions before the index. If the
+/// body can be at the index (`is_at`), returns [`Way::Free`], because the way starts there.
+/// Otherwise returns `before`.
 fn way_at(before: Way, is_at: bool) -> Way
     ensures { result ≡ spec.way_at before is_at }
 {
     if is_at { Way::Free } else { before }
 }
 
-/// Returns the get of [`Way::Blocked`] if the search ends at this index. Returns `None` if the
-/// search continues, or if no get blocks the body. `is_submit` says whether the search ends: the
-/// index has a submit of the class, or is the end of the body.
+/// Returns the get of [`Way::Blocked`] if the search looks for a way to this index. `is_submit`
+/// says whether it does: the index has a submit of the class, or is the end of the body. Returns
+/// `None` if `is_submit` is false, or if no get blocks the body.
 fn blocking_at(way: Way, is_submit: bool) -> Option<BodyGet>
     ensures { result ≡ spec.blocking_at way is_submit }
 {
@@ -106,8 +111,8 @@ fn blocking_at(way: Way, is_submit: bool) -> Option<BodyGet>
     }
 }
 
-/// Returns `way` extended by the next action. `get` is this action, or `None` if the action is no
-/// get. `passes` says whether the body may pass the get.
+/// Returns the [`Way`] to the next index. `way` leads to this index. `get` is the action at this
+/// index, or `None` if the action is no get. `passes` says whether the body may pass the get.
 fn way_after(way: Way, passes: bool, get: Option<BodyGet>) -> Way
     ensures { result ≡ spec.way_after way passes get }
 {
@@ -121,8 +126,8 @@ fn way_after(way: Way, passes: bool, get: Option<BodyGet>) -> Way
     }
 }
 
-/// Returns `get` if it has the same class as `least` and a smaller limit. Otherwise returns
-/// `least`.
+/// Returns `get` if it has the same class as `least` and a smaller [`limit`](BodyGet::limit).
+/// Otherwise returns `least`.
 fn least_get(least: BodyGet, get: Option<BodyGet>) -> BodyGet
     ensures { result ≡ spec.least_get least get }
 {

@@ -1,5 +1,6 @@
-//! The gets of a body, and when the body may pass them. A body passes an action if it moves past
-//! the action while the path makes no step.
+//! The gets of a body, with the condition under which the body may pass each of them. When a path
+//! is matched against a body, the body passes an action if it goes to the next action while the
+//! path makes no step.
 
 ghost use Rattle.std.specs.Prelude.{◌≡◌, ◌≤◌, ◌<◌, ◌↔◌, ℕ, ◌-◌, true, false, ◌==◌, not, None, List, IfOk, OnOk, nat_lt, length, filter, count_by, slice_get, slice_index_or};
 ghost use Rattle.job_bodies.specs.declared.action.Action.{Action};
@@ -17,7 +18,8 @@ pub(crate) struct BodyGet {
     /// The class of the job that the body gets.
     pub(crate) class: usize,
     /// The number of jobs of the class that are open in the body after the get. The body may pass
-    /// the get only while the path has at most this number of open jobs of the class.
+    /// the get only while the path that is matched against it has at most this number of open jobs
+    /// of the class.
     pub(crate) limit: usize,
 }
 
@@ -39,9 +41,9 @@ pub(crate) fn body_gets(alloc: Global, body: &[Action]) -> Result<Vec<Option<Bod
     Ok(gets)
 }
 
-/// Updates `jobs` for the action at this index of the body. `jobs` has the index of each submit
-/// whose job is open. A submit adds its own index. A get removes the index at which its job is
-/// submitted. Returns the get if the action is a get, and `None` otherwise.
+/// Updates `jobs` for the action at this index of the body. Returns the get if the action is a get,
+/// and `None` otherwise. `jobs` has each open job of the body, as the index of the job's submit. A
+/// submit adds its own index. A get removes the index of its job's submit.
 fn pass_action(
     body: &[Action],
     index: usize,
@@ -65,8 +67,8 @@ fn pass_action(
     }
 }
 
-/// Removes `submit`, the index of a submit of the body, from `jobs`. `jobs` has the index of each
-/// submit whose job is open. Returns the get of this submit's job.
+/// Removes a job from the open jobs, and returns the get that gets this job. Each job is given by
+/// the index of its submit in the body: `submit` for the job, and `jobs` for the open jobs.
 fn pass_get(body: &[Action], submit: usize, jobs: &mut Vec<usize>) -> BodyGet
     ensures jobs { jobs.new.items ≡ filter (λ other. not (other == submit)) jobs.old.items }
     ensures class { result.class ≡ submitted_class body.now submit }
@@ -92,8 +94,8 @@ fn submitted_class(body: &[Action], submit: usize) -> usize
     }
 }
 
-/// Returns the index of the body at which the gets of the class end. At each smaller index, an
-/// actor of this kind may get a job of the class. At this index and later, the actor may not.
+/// Returns the first index of the body at which an actor of this kind may no longer get a job of
+/// the class. At each smaller index, the actor may get one.
 ///
 /// - For [`ActorKind::Job`], this is the index after the body's last get of the class, or 0 if
 ///   there is no such get.

@@ -7,11 +7,11 @@ ghost use Rattle.conformance.specs.Candidate.{IsCandidate, next_candidate, with_
 
 use job_bodies::Action;
 
-/// The result of comparing a recorded job with a body: the body submits none, one or several of the
-/// job's classes. These are the classes that the job may belong to.
+/// The result of comparing a recorded job with a body. The job may belong to several classes. The
+/// body submits none, one or several of them.
 #[derive(Clone, Copy)]
 pub(crate) enum Candidate {
-    /// The body submits none of the job's classes.
+    /// The body submits none of the classes that the job may belong to.
     None,
     /// The body submits exactly one of the job's classes, which is the field.
     One(usize),
@@ -31,8 +31,8 @@ pub(crate) fn candidate_of(body: &[Action], classes: &Vec<usize>) -> Candidate
     found
 }
 
-/// Returns the candidate for one more class of a job. `found` is the candidate for the job's
-/// classes before `class`. The result also counts `class` if the body submits jobs of this class.
+/// Returns the result for a job's classes up to and including `class`. `found` is the result for
+/// the classes before `class`. The class counts if the body submits jobs of it.
 fn next_candidate(body: &[Action], found: Candidate, class: usize) -> Candidate
     ensures { result ≡ next_candidate body.now found class }
 {

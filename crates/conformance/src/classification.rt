@@ -1,4 +1,5 @@
-//! Classification of one actor.
+//! The classification of one actor. It finds the classes or client kinds whose bodies match the
+//! path of the actor.
 
 ghost use Rattle.std.specs.Prelude.{◌≡◌, true, List, Some, OnOk, IfOk};
 ghost use Rattle.recordings.specs.RecordingLine.{RecordedLine};
@@ -19,8 +20,9 @@ use std::alloc::{AllocError, Global};
 
 impl ActorClassifier {
     /// Classifies the actor by its path, and appends the result to `reported`. Removes the classes
-    /// of the jobs in the path from the classifier. If the actor is a job with a `submitter`,
-    /// stores the classes that this actor can belong to.
+    /// of the jobs in the path from the classifier, which no longer needs them. If the actor is a
+    /// job with a `submitter`, stores the classes that this actor can belong to, because
+    /// classifying the submitter needs them.
     ///
     /// # Errors
     ///

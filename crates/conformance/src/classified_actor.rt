@@ -13,8 +13,8 @@ pub struct ClassifiedActor {
     pub pool: String,
     /// The submits and gets of the actor, in order.
     pub path: Vec<RecordedStep>,
-    /// The classes that the job can belong to, or the kinds that the round can belong to.
-    /// [`is_decided`](FamilyMatch::is_decided) is true only if the classes of each job in the path
-    /// are decided, too.
+    /// The classes that the job can belong to, or the kinds that the round can belong to. They are
+    /// decided only if the classes of each job in the path are decided
+    /// ([`is_decided`](FamilyMatch::is_decided)).
     pub family: FamilyMatch,
 }

@@ -1,4 +1,4 @@
-//! All findings, collected from the parts of a survey.
+//! The findings of a comparison, collected from the facts about the lines of a recording.
 
 ghost use Rattle.std.specs.Prelude.{◌≡◌, ◌++◌, ◌∷◌, [], map, filter, OnOk, IfOk, string_bytes};
 ghost use Rattle.std.specs.Option.{option_to_list};
@@ -17,15 +17,17 @@ use crate::job_set::JobSet;
 use crate::line_query::LineQuery;
 use crate::rejections::Rejections;
 use crate::survey::{ActorSurvey, LineSurvey, Survey};
-use crate::unplanned::{NotPlanned, UnplannedLabels};
+use crate::unplanned::{UnplannedLabel, UnplannedLabels};
 use crate::verdicts::Verdicts;
 use crate::{ClassifiedActor, PoolDeviation, RoundExcess};
 use job_bodies::Plan;
 use recordings::{InvalidatingEvent, Invalidation, RecordedActor, RecordedNotes};
 use std::alloc::{AllocError, Global};
 
-/// Returns the findings of the survey together with those for `excesses` and `refusals`. The list
-/// is not sorted. Fails if memory runs out.
+/// Returns all findings of a comparison. The list is not sorted. Fails if memory runs out.
+///
+/// `excesses` has the client kinds with more rounds than the plan allows. `refusals` is `None` if
+/// no pool of the plan may reject jobs.
 pub(crate) fn collect_findings(
     alloc: Global,
     plan: &Plan,
@@ -65,7 +67,7 @@ fn push_plan_differences(
 ) -> Result<(), AllocError>
     ensures { OnOk result
         (findings.new.items
-        ≡ findings.old.items ++ map kinds.Pool deviations.items ++ map kinds.NotPlanned unplanned.found.items) }
+        ≡ findings.old.items ++ map kinds.Pool deviations.items ++ map kinds.UnplannedLabel unplanned.found.items) }
 {
     let UnplannedLabels { found, .. } = unplanned;
     push_pools(findings, deviations)?;
@@ -129,12 +131,12 @@ fn push_pools(findings: &mut Vec<Finding>, deviations: Vec<PoolDeviation>) -> Re
     Ok(())
 }
 
-fn push_labels(findings: &mut Vec<Finding>, labels: Vec<NotPlanned>) -> Result<(), AllocError>
+fn push_labels(findings: &mut Vec<Finding>, labels: Vec<UnplannedLabel>) -> Result<(), AllocError>
     ensures { OnOk result
-        (findings.new.items ≡ findings.old.items ++ map kinds.NotPlanned labels.items) }
+        (findings.new.items ≡ findings.old.items ++ map kinds.UnplannedLabel labels.items) }
 {
     for label in labels {
-        findings.push(Finding::NotPlanned(label))?;
+        findings.push(Finding::UnplannedLabel(label))?;
     }
     Ok(())
 }
@@ -350,12 +352,10 @@ fn push_event(
     Ok(())
 }
 
-/// Returns the class and the pool of the event's job. Two types of events are exceptions:
-///
-/// - For a call of `invokeAny`, returns the class or kind of the caller, and the pool of the first
-///   such call.
-/// - For jobs that no line submits, returns an empty name, and the pool of the first line that
-///   reports such jobs.
+/// Returns the class and the pool that the finding names: those of the event's job. For
+/// `invokeAny`, returns the class or client kind of the caller and the pool of the first such call.
+/// For jobs that no line submits, returns an empty name and the pool of the first line with such
+/// jobs.
 fn subject_of(
     alloc: Global,
     recording: &[u8],

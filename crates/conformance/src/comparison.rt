@@ -45,8 +45,9 @@ pub enum Conformance {
 /// Compares the recording of a service with a plan. If a line of the recording is invalid, returns
 /// the first such line and compares nothing.
 ///
-/// The label of a job is its class and pool in its `submit` line. The label of a round is its
-/// client kind. The path of an actor (a job or a round) is the list of its submits and gets.
+/// An actor is a job or a round. A round is one pass of a client through its body. The path of an
+/// actor is the list of its submits and gets. The label of a job is its class and pool in its
+/// `submit` line. The label of a round is its client kind.
 ///
 /// The findings are exactly these, each listed once:
 ///
@@ -55,10 +56,10 @@ pub enum Conformance {
 /// - if the recording ends with `end`, every pool of the plan that the recording lacks;
 /// - every label that is not in the plan, with the first line that has the label;
 /// - for each label of the plan, the first actor, by number, with a path that matches no body. The
-///   finding has the first step that no body explains, and the line of this step;
+///   finding has the first step that no body allows, and the line of this step;
 /// - for each label of the plan, the first actor, by number, with an undecided match: it is unknown
-///   which bodies the path matches. There is no such actor if each label refers to at most one
-///   class in each pool;
+///   which bodies the path matches. There is no such actor if each label of a job refers to at most
+///   one class of the plan;
 /// - for each client kind, the first line at which the kind has more rounds than the plan allows.
 ///   Each round is counted for the first kind that it can belong to. A round with an undecided kind
 ///   is not counted;
@@ -78,12 +79,12 @@ pub enum Conformance {
 /// - The handler is `discard` in each of these lines, and no body of the plan gets a job of the
 ///   pool.
 ///
-/// Suppose that no finding is about a label, a path or a number of rounds. Then all jobs and rounds
-/// behave as planned, even if there are other findings.
+/// If no finding is about a label, a path or a number of rounds, all jobs and rounds behave as
+/// planned. This holds even if there are other findings.
 ///
-/// A get that timed out or was interrupted is not a finding. Consider the actor's path without this
-/// get. If this path matches a body, the get invalidates nothing. Otherwise the path is a mismatch
-/// like any other.
+/// A get that timed out or was interrupted is not a finding, and it is no step of the actor's path.
+/// If the path matches a body, the get does not invalidate a SAFE answer. Otherwise the path is
+/// treated like any other path that matches no body.
 ///
 /// # Errors
 ///

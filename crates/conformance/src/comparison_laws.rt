@@ -29,18 +29,20 @@ pub fn rounds_are_within_plan()
 
 /// States that the plan allows a rejection only if the rejecting pool may reject jobs.
 ///
-/// Also states a consequence for a plan in which no pool may reject jobs. Suppose that the plan
-/// allows every line that would invalidate a SAFE answer. Then the recording has no such line,
-/// because this plan allows none.
+/// Also states a consequence for a plan in which no pool may reject jobs. Such a plan allows no
+/// line that invalidates a SAFE answer. So if the plan allows all such lines of a recording, the
+/// recording has none.
 pub fn rejections_need_the_key()
     ensures need { RejectionsNeedTheKey }
     ensures all { WithoutTheKeyAllCount }
 {}
 
-/// States that the plan allows no rejection by a pool with an unbounded queue. Also states that
-/// [`mark_rejecting_pools`](crate::mark_rejecting_pools) does not set `may_reject` for such a pool
-/// if its `queue` is not 0. (In a plan that is parsed from a text, the `queue` of such a pool is
-/// 1,000,000.)
+/// States two facts about each pool with an unbounded queue:
+///
+/// - The plan allows no rejection by the pool.
+/// - [`mark_rejecting_pools`](crate::mark_rejecting_pools) returns a plan in which the pool may not
+///   reject jobs, unless the field `queue` of the pool is 0. This field has no effect on an
+///   unbounded pool, and parsing a plan sets it to 1,000,000.
 pub fn unbounded_pools_reject_nothing()
     ensures none { UnboundedPoolsRejectNothing }
     ensures no_key { UnboundedPoolsGetNoKey }

@@ -20,8 +20,8 @@ use job_bodies::Plan;
 use recordings::{RecordedActor, RecordedStep};
 use std::alloc::{AllocError, Global};
 
-/// Describes the deviating step of the actor: the first step of its path that no body explains. If
-/// a body explains the whole path, the deviating step is the actor's end. Returns the number of the
+/// Describes the deviating step of the actor: the first step of its path that no body allows. If a
+/// body allows the whole path, the deviating step is the actor's end. Returns the number of the
 /// line that records the deviating step, and the description. The number is `None` if no line
 /// records this step.
 ///
@@ -66,7 +66,6 @@ pub(crate) fn describe_mismatch(
     Ok((number_of(&line), mismatch))
 }
 
-/// Returns the number of the line, or `None` if there is no line.
 fn number_of(found: &Option<FoundLine>) -> Option<usize>
     ensures { result ≡ option_map (λ found. found.number) found.now }
 {
@@ -156,7 +155,6 @@ fn line_query_of(actor: RecordedActor, step: Option<JobStep>) -> LineQuery
     }
 }
 
-/// Returns the label of a classified actor.
 fn label_of_classified(reported: &ClassifiedActor) -> Result<ActorLabel, AllocError>
     ensures name { IfOk result (λ label. string_bytes label.name ≡ string_bytes reported.now.label) }
     ensures pool { IfOk result (λ label. string_bytes label.pool ≡ string_bytes reported.now.pool) }
@@ -294,9 +292,10 @@ fn deviating_submit(
     }
 }
 
-/// Returns the deviation for a submit that the body cannot make. The path of the submitted job is
-/// not the cause: it may match a class. `excess` has the open jobs that block the submit. If
-/// `excess` is `None`, the body has no submit left for a job of this label.
+/// Returns the deviation for a submit that the body cannot make. The path of the submitted job
+/// itself is no deviation: it matches a class, or its match is undecided. `excess` has the open
+/// jobs that block the submit. If `excess` is `None`, the body has no submit left for a job of this
+/// label.
 fn submit_of_body(label: ActorLabel, excess: Option<OpenExcess>) -> DeviatingStep
     ensures { result ≡ spec.submit_of_body label excess }
 {

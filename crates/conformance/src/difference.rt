@@ -64,7 +64,7 @@ impl fmt::Display for Difference {
     }
 }
 
-/// Returns the keyword of `pool` lines for the kind of a queue.
+/// Returns the word for this kind of queue in a `pool` line.
 fn kind_word(kind: QueueKind) -> &'static str
     ensures { result.now ≡ queue_word kind }
 {

@@ -1,13 +1,14 @@
-//! Rounds of a client kind beyond its `count`, and their text.
+//! The excess of a client kind: more rounds than its `count` in the plan.
 
 ghost use Rattle.std.specs.Prelude.{Some};
 ghost use Rattle.conformance.specs.Excess as spec;
 
 use std::fmt;
 
-/// More rounds of a client kind than its `count` in the plan.
+/// The excess of a client kind that has more rounds than its `count` in the plan. A round is one
+/// pass of a client through its body.
 ///
-/// It formats as a short phrase without the kind's name, such as `31 at once, count is 30`.
+/// The excess formats as a short phrase without the kind's name, such as `31 at once, count is 30`.
 #[derive(Clone, Copy, PartialEq, Eq)]
 pub enum Excess {
     /// `rounds` rounds are open at once, which is more than `count`.

@@ -27,7 +27,7 @@ pub(crate) struct ExcessTracker {
 }
 
 impl ExcessTracker {
-    /// Creates the tracker in its state before the first line.
+    /// Creates a tracker that has read no line yet.
     ///
     /// # Errors
     ///
@@ -44,8 +44,9 @@ impl ExcessTracker {
     }
 
     /// Reads line `number` of a valid recording. If the line begins or ends a round, updates the
-    /// counts of the round's client kind. This kind is looked up in `others`. If `others` does not
-    /// have the round, the round has the first kind of its label.
+    /// counts of the client kind for which the round is counted. This kind is looked up in
+    /// `others`. A round that is not in `others` is counted for the first client kind that its
+    /// label may refer to.
     ///
     /// # Errors
     ///
@@ -74,9 +75,9 @@ impl ExcessTracker {
 }
 
 /// Finds the client kinds that have more rounds than the plan allows. Returns, for each such kind,
-/// the first line at which the kind has too many rounds. The recording must be valid. The kind of a
-/// round is looked up in `others`. If `others` does not have the round, the round has the first
-/// kind of its label.
+/// the first line at which the kind has too many rounds. The recording must be valid. The kind for
+/// which a round is counted is looked up in `others`. A round that is not in `others` is counted
+/// for the first client kind that its label may refer to.
 ///
 /// # Errors
 ///

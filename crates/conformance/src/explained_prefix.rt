@@ -18,8 +18,8 @@ pub struct ExplainedPrefix {
     /// - The next step is a submit, but the body has no such submit left.
     /// - The prefix is the whole path.
     pub excess: Option<OpenExcess>,
-    /// The job that the actor should have got before its end, by the index at which the path
-    /// submits this job. It is `None` in these cases:
+    /// The job that the actor should have got before its end. The field is the index at which the
+    /// path submits this job. It is `None` in these cases:
     ///
     /// - The prefix is not the whole path.
     /// - The path matches the body.

@@ -18,11 +18,12 @@ pub struct FamilyMatch {
     /// The numbers of the classes or client kinds whose bodies the path matches, in ascending
     /// order.
     pub members: Vec<usize>,
-    /// The longest prefix of the path that a body of the family explains. It is the whole path if
-    /// the path matches a body, and empty if the family is empty.
+    /// The longest prefix of the path that a body of the family explains. A body explains a prefix
+    /// if some path that matches the body begins with this prefix. The longest prefix is the whole
+    /// path if the path matches a body, and empty if the family is empty.
     pub explained: ExplainedPrefix,
-    /// True if it is known for each body of the family whether the body matches the path. If it is
-    /// not known, the path may match more bodies, and a body may explain a longer prefix.
+    /// True if the result is known for each body of the family: the body matches the path or does
+    /// not. If false, the path may match more bodies, and a body may explain a longer prefix.
     pub is_decided: bool,
 }
 

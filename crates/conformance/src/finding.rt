@@ -5,12 +5,12 @@ ghost use Rattle.conformance.specs.Finding as spec;
 
 use crate::actor_label::ActorLabel;
 use crate::mismatch::PathMismatch;
-use crate::unplanned::NotPlanned;
+use crate::unplanned::UnplannedLabel;
 use crate::{Difference, PoolDeviation, RoundExcess};
 use recordings::{ForeignGet, Invalidation, RecordedActor};
 
-/// The factor of the line number in a sort key: 2^64. The lower 64 bits of a sort key are a rank of
-/// 4 bits and a number of 60 bits.
+/// The factor by which the line number is multiplied in the sort key of a finding: 2^64. The lower
+/// 64 bits of the key are a rank of 4 bits and a number of 60 bits.
 const RANKS: u128 = 1 << 64;
 
 const NUMBERS: u128 = 1 << 60;
@@ -24,10 +24,10 @@ pub enum Finding {
     /// A pool that differs from the plan.
     Pool(PoolDeviation),
     /// A label that is not in the plan. A label is a class with its pool, or a client kind.
-    NotPlanned(NotPlanned),
+    UnplannedLabel(UnplannedLabel),
     /// An actor with a path that matches no body of its label. It is the first such actor of the
-    /// label, by number. `line` is the line of the first step that no body explains, or `None` if
-    /// no line records this step. A label is a class with its pool, or a client kind.
+    /// label, by number. `line` is the line of the first step that no body allows, or `None` if no
+    /// line records this step. A label is a class with its pool, or a client kind.
     PathMismatch {
         line: Option<usize>,
         mismatch: PathMismatch,
@@ -39,9 +39,9 @@ pub enum Finding {
         actor: RecordedActor,
         label: ActorLabel,
     },
-    /// The first line at which a client kind has more rounds than the plan allows. Each round is
-    /// counted for the first kind that it can belong to. A round with an undecided kind is not
-    /// counted.
+    /// The first line at which a client kind has more rounds than the plan allows. A round is one
+    /// pass of a client through its body. Each round is counted for the first kind that it can
+    /// belong to. A round with an undecided kind is not counted.
     TooMany(RoundExcess),
     /// The first foreign get: a line in which an actor gets a job that another actor submitted, and
     /// the submitter has not got the job in an earlier line. `label` is the label of the actor that
@@ -54,10 +54,10 @@ pub enum Finding {
     /// The first line with an event of a type that invalidates a SAFE answer.
     Invalidation {
         invalidation: Invalidation,
-        /// The class and the pool that a message names:
+        /// The class and the pool that the text of the finding names:
         ///
-        /// - for a call of `invokeAny`, the class or kind of the calling actor, and the pool of the
-        ///   call;
+        /// - for a call of `invokeAny`, the class or client kind of the calling actor, and the pool
+        ///   of the call;
         /// - for jobs that no line submits, an empty name, and the pool of the line;
         /// - for any other event, the class and the pool of the job.
         label: ActorLabel,
@@ -68,15 +68,15 @@ impl Finding {
     /// Returns the line number of the finding. Returns `None` for these findings, which have no
     /// line:
     ///
-    /// - a pool that is not recorded;
-    /// - an actor that is not decided;
+    /// - a pool of the plan that the recording lacks;
+    /// - an actor with an undecided match;
     /// - a path mismatch with a deviating step that no line records.
     pub fn line(&self) -> Option<usize>
         ensures { result ≡ spec.line_of self.now }
     {
         match self {
             Finding::Pool(deviation) => pool_line(deviation),
-            Finding::NotPlanned(label) => label_line(label),
+            Finding::UnplannedLabel(label) => label_line(label),
             Finding::PathMismatch { line, .. } => *line,
             Finding::NotDecided { .. } => None,
             Finding::TooMany(excess) => Some(excess.line),
@@ -109,7 +109,7 @@ impl Finding {
     {
         match self {
             Finding::Pool(_) => 0,
-            Finding::NotPlanned(_) => 1,
+            Finding::UnplannedLabel(_) => 1,
             Finding::PathMismatch { .. } => 2,
             Finding::NotDecided {
                 actor: RecordedActor::Job(_),
@@ -148,7 +148,7 @@ fn pool_number(deviation: &PoolDeviation) -> usize
     ensures { result ≡ spec.pool_number deviation.now }
 {
     match deviation {
-        PoolDeviation::NotPlanned { .. } => 0,
+        PoolDeviation::UnplannedLabel { .. } => 0,
         PoolDeviation::Differs { difference, .. } => difference_number(*difference),
         PoolDeviation::NotRecorded { pool } => *pool,
     }
@@ -180,15 +180,17 @@ fn pool_line(deviation: &PoolDeviation) -> Option<usize>
     ensures { result ≡ spec.pool_line deviation.now }
 {
     match deviation {
-        PoolDeviation::NotPlanned { line, .. } | PoolDeviation::Differs { line, .. } => Some(*line),
+        PoolDeviation::UnplannedLabel { line, .. } | PoolDeviation::Differs { line, .. } => Some(
+            *line,
+        ),
         PoolDeviation::NotRecorded { .. } => None,
     }
 }
 
-fn label_line(label: &NotPlanned) -> Option<usize>
+fn label_line(label: &UnplannedLabel) -> Option<usize>
     ensures { result ≡ spec.label_line label.now }
 {
     match label {
-        NotPlanned::Class { line, .. } | NotPlanned::Kind { line, .. } => Some(*line),
+        UnplannedLabel::Class { line, .. } | UnplannedLabel::Kind { line, .. } => Some(*line),
     }
 }

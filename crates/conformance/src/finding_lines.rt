@@ -8,7 +8,7 @@ ghost use Rattle.conformance.specs.PathMismatch.{job_text};
 use crate::actor_label::ActorLabel;
 use crate::finding::Finding;
 use crate::mismatch::{push_actor, push_job, push_mismatch};
-use crate::unplanned::NotPlanned;
+use crate::unplanned::UnplannedLabel;
 use crate::{Difference, PoolDeviation, RoundExcess};
 use job_bodies::Plan;
 use recordings::{ForeignGet, InvalidatingEvent, Invalidation, RecordedActor};
@@ -40,7 +40,7 @@ pub fn push_finding(text: &mut String, plan: &Plan, finding: &Finding) -> Result
     push_line_number(text, finding.line())?;
     match finding {
         Finding::Pool(deviation) => push_deviation(text, plan, deviation),
-        Finding::NotPlanned(label) => push_not_planned(text, label),
+        Finding::UnplannedLabel(label) => push_not_planned(text, label),
         Finding::PathMismatch { mismatch, .. } => push_mismatch(text, plan, mismatch),
         Finding::NotDecided { actor, label } => {
             push_actor(text, *actor, label)?;
@@ -74,7 +74,7 @@ fn push_deviation(
     ensures { Pushes result text.old text.new (spec.deviation_text plan.now deviation.now) }
 {
     match deviation {
-        PoolDeviation::NotPlanned { pool, .. } => push_unplanned(text, "pool", pool),
+        PoolDeviation::UnplannedLabel { pool, .. } => push_unplanned(text, "pool", pool),
         PoolDeviation::Differs {
             pool,
             difference,
@@ -96,12 +96,12 @@ fn push_not_recorded(text: &mut String, name: &str) -> Result<(), AllocError>
     write!(text, "pool {name}: in the plan and not in the recording")
 }
 
-fn push_not_planned(text: &mut String, label: &NotPlanned) -> Result<(), AllocError>
+fn push_not_planned(text: &mut String, label: &UnplannedLabel) -> Result<(), AllocError>
     ensures { Pushes result text.old text.new (spec.not_planned_text label.now) }
 {
     match label {
-        NotPlanned::Class { class, pool, .. } => push_class(text, class, pool),
-        NotPlanned::Kind { kind, .. } => push_unplanned(text, "kind", kind),
+        UnplannedLabel::Class { class, pool, .. } => push_class(text, class, pool),
+        UnplannedLabel::Kind { kind, .. } => push_unplanned(text, "kind", kind),
     }
 }
 

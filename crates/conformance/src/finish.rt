@@ -1,4 +1,4 @@
-//! Classification of the unsettled actors at the end of a recording.
+//! Classification of the actors that are not yet classified at the end of a recording.
 
 ghost use Rattle.std.specs.Prelude.{◌≡◌, ◌++◌, ℕ, List, None, OnOk, if◌then◌else◌};
 ghost use Rattle.std.specs.List.Sorted.{IsNonDecreasing};

@@ -14,7 +14,8 @@ use job_bodies::Plan;
 use recordings::Line;
 use std::alloc::{AllocError, Global};
 
-/// Four sets of pools, from the lines read so far:
+/// The facts about the pools of a recording that determine, together with the plan, which refusals
+/// are allowed. They come from the lines read so far, and are four sets of pools:
 ///
 /// - the pools with a line that names a handler other than `abort`;
 /// - the pools with a line that names a handler other than `caller_runs`;
@@ -29,7 +30,7 @@ pub(crate) struct Handlers {
 }
 
 impl Handlers {
-    /// Creates the state before the first line.
+    /// Creates four empty sets.
     pub(crate) fn new(alloc: Global) -> Handlers
         ensures { spec.AreHandlersOf [] result }
     {
@@ -41,7 +42,7 @@ impl Handlers {
         }
     }
 
-    /// Updates the state for the next line of the recording.
+    /// Updates the sets for the next line of the recording.
     ///
     /// # Errors
     ///
@@ -147,9 +148,9 @@ fn rule_by(aborts: bool, caller_runs: bool, closes: bool, drops: bool) -> Reject
     }
 }
 
-/// Adds the name of a pool to the set, unless `is_kind` is true. The set has the pools with a
-/// handler other than a given one, such as `abort`. `is_kind` says whether the pool's line names
-/// this handler.
+/// Adds the name of a pool to the set if `is_kind` is false. The set has the pools with a handler
+/// other than a given one, such as `abort`. `is_kind` says whether the pool's line names the given
+/// handler.
 fn insert_unless(names: &mut PoolNames, name: &str, is_kind: bool) -> Result<(), AllocError>
     ensures { OnOk result
         ((q : List ℕ)

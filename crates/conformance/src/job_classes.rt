@@ -41,7 +41,7 @@ impl ClassTable {
         }
     }
 
-    /// Stores the classes of a classified job.
+    /// Stores the classes that a job can belong to.
     ///
     /// # Errors
     ///
@@ -108,8 +108,9 @@ impl ClassTable {
     }
 
     /// Replaces the contents of `steps` with the steps of the path. In `steps`, each submit has the
-    /// classes that its job can belong to. Removes the jobs of these submits from the table.
-    /// Returns true if the table had all these jobs and their classes are decided.
+    /// classes that its job can belong to. Removes the jobs of the path from the table. Returns
+    /// true if the table had each of these jobs, and it was decided which classes the job can
+    /// belong to.
     ///
     /// # Errors
     ///

@@ -2,9 +2,14 @@
 
 ghost use Rattle.conformance.specs.Laws.{PathsStay, JobsAreLater, ClassesStay, KindsStay, ClassesAreDetermined, KindsAreDetermined};
 
-/// States that later lines change neither the path of an ended actor, nor the classes of a settled
-/// job, nor the kinds of a settled round. Also states that a job submits only jobs with larger
-/// numbers.
+/// States that later lines of a recording change none of these:
+///
+/// - the path of an ended actor;
+/// - the classes that a settled job can belong to;
+/// - the client kinds that a settled round can belong to.
+///
+/// An actor is settled once it has ended and all jobs in its path are settled. Also states that a
+/// job submits only jobs with larger numbers.
 pub fn settled_actors_stay()
     ensures paths { PathsStay }
     ensures later { JobsAreLater }

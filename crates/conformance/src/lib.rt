@@ -1,18 +1,21 @@
 //! The comparison of a recording with a plan. [`conform`] returns the differences, in the order of
 //! the lines.
 //!
-//! An actor is a recorded job or round. Its label is the class and the pool in its `submit` line,
-//! or the kind in its `begin` line. The family of a label `query` has the classes or client kinds
-//! `query`, `query_2`, `query_3` and so on. The path of an actor is its submits and gets. The
-//! comparison matches the path with the bodies of the family, and so classifies the actor: it finds
-//! the classes or client kinds that the actor can belong to. An actor is settled once it is
-//! classified.
+//! An actor is a recorded job or round. A round is one pass of a client through its body. The label
+//! of an actor is the class and the pool in its `submit` line, or the client kind in its `begin`
+//! line. The family of a label `query` has the classes or client kinds `query`, `query_2`,
+//! `query_3` and so on. The path of an actor is its submits and gets.
+//!
+//! To classify an actor is to find the classes or client kinds that it can belong to. The
+//! comparison does this by matching the path with the bodies of the family. An actor is settled
+//! once it is classified.
 #![tactic(auto)]
 
 mod actor_classifier;
 mod actor_label;
 mod actor_path;
 mod actor_table;
+mod ambiguous_path;
 mod blocking_get;
 mod bodies;
 mod body_gets;
@@ -36,6 +39,7 @@ mod finding_lines;
 mod finish;
 mod first_actors;
 mod first_lines;
+mod furthest;
 mod handlers;
 mod job_classes;
 mod job_set;
@@ -66,10 +70,12 @@ mod round_count;
 mod row;
 mod sizes;
 mod step;
+mod stop_reasons;
 mod survey;
 mod unplanned;
 mod verdicts;
 mod walk_state;
+mod walk_states;
 mod well_formed_lines;
 
 pub use actor_classifier::ActorClassifier;
@@ -94,7 +100,7 @@ pub use open_excess::OpenExcess;
 pub use open_job::OpenJob;
 pub use path::match_path;
 pub use path_laws::{paths_are_followed, planned_actors_are_followed};
-pub use path_match::PathMatch;
+pub use path_match::{MAX_OPEN_LISTS, PathMatch};
 pub use pool_comparison::{PoolComparison, PoolDeviation};
 pub use rejecting_pools::mark_rejecting_pools;
 pub use rejections::PoolRejections;
@@ -102,4 +108,4 @@ pub use round_comparison::{RoundComparison, RoundExcess};
 pub use round_count::RoundCount;
 pub use sizes::differences;
 pub use step::{ActorKind, PathState, PathStep};
-pub use unplanned::NotPlanned;
+pub use unplanned::UnplannedLabel;

@@ -17,16 +17,16 @@ use support::push_number;
 pub struct PathMismatch {
     pub actor: RecordedActor,
     pub label: ActorLabel,
-    /// The first step of the path that no body explains. If a body explains the whole path, this is
-    /// the actor's end.
+    /// The first step of the path that no body of the label allows. If a body allows the whole
+    /// path, this is the actor's end.
     pub step: DeviatingStep,
     /// The step of the path before `step`, or `None` if there is no earlier step.
     pub after: Option<NamedStep>,
 }
 
-/// A step at which an actor deviates from the bodies of its label. No body of the label explains
-/// this step, but a body explains all earlier steps. If the actor ended too early, the deviating
-/// step is the actor's end.
+/// A step at which an actor deviates from the bodies of its label. A body of the label allows all
+/// earlier steps, but no body allows this step after them. If the actor ended too early, the
+/// deviating step is the actor's end.
 #[derive(Drop)]
 pub enum DeviatingStep {
     /// The actor submitted a job of this class to this pool. The actor's body has no submit of this
@@ -265,7 +265,8 @@ fn push_open_end(
 }
 
 /// Appends the end of the text about an actor that ended too early. If at least two gets failed,
-/// this includes their number. Then comes the reason why the end is a deviation.
+/// the text has their number. A get fails if it times out or is interrupted. Then comes the reason
+/// why the end is a deviation.
 fn push_end_after(text: &mut String, failed_gets: usize) -> Result<(), AllocError>
     ensures { Pushes result text.old text.new (spec.end_after_text failed_gets) }
 {

@@ -1,4 +1,4 @@
-//! Slices of numbers.
+//! A test for empty slices of numbers.
 
 ghost use Rattle.std.specs.Prelude.{◌≡◌};
 ghost use Rattle.conformance.specs.Verdicts.{is_empty};

@@ -1,6 +1,6 @@
 //! The open jobs of a path.
 
-ghost use Rattle.std.specs.Prelude.{◌≡◌, ◌<◌, ◌==◌, length, position, IfSome};
+ghost use Rattle.std.specs.Prelude.{◌≡◌, ◌<◌, ◌==◌, false, length, position, IfSome, IsTrue};
 ghost use Rattle.conformance.specs.MissingJob.{first_in};
 ghost use Rattle.conformance.specs.Path as spec;
 
@@ -27,6 +27,22 @@ pub(crate) fn first_in(class: usize, jobs: &[OpenJob]) -> Option<usize>
         Some(one) => Some(one.job),
         None => None,
     }
+}
+
+/// Returns true if the two lists are equal.
+pub(crate) fn are_same(one: &[OpenJob], other: &[OpenJob]) -> bool
+    ensures same { IsTrue result → one.now ≡ other.now }
+    ensures differ { result ≡ false → ¬ (one.now ≡ other.now) }
+{
+    if one.len() != other.len() {
+        return false;
+    }
+    for index in 0..one.len() {
+        if one[index].job != other[index].job || one[index].class != other[index].class {
+            return false;
+        }
+    }
+    true
 }
 
 /// Removes the job and returns its class, or `None` if it is not open.

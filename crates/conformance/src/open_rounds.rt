@@ -14,8 +14,9 @@ use recordings::Line;
 use std::alloc::{AllocError, Global};
 use support::IdMap;
 
-/// A map from each open round to the client kind for which the round is counted, or to `None` if
-/// the round is not counted.
+/// A map from each open round to the client kind for which the round is counted. The value is
+/// `None` if the round is not counted. The counts show whether a kind has more rounds than the plan
+/// allows.
 #[derive(Drop)]
 pub(crate) struct OpenRounds {
     kinds: IdMap<Option<usize>>,
@@ -32,10 +33,11 @@ impl OpenRounds {
     }
 
     /// Reads the next line of a valid recording. If the line begins or ends a round, returns the
-    /// client kind for which the round is counted, or `None` if the round is not counted. Returns
-    /// `None` for any other line.
+    /// client kind for which the round is counted. Returns `None` if the round is not counted, and
+    /// for any other line.
     ///
-    /// `others` has each round that is not counted for the first kind of its label.
+    /// The client kind is looked up in `others`. A round that is not in `others` is counted for the
+    /// first client kind that its label may refer to.
     ///
     /// # Errors
     ///

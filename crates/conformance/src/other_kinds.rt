@@ -1,4 +1,4 @@
-//! The rounds that do not count as the first kind of their label.
+//! The rounds that are not counted for the first client kind that their label may refer to.
 
 ghost use Rattle.std.specs.Prelude.{◌≡◌, ◌++◌, ◌∷◌, [], List, OnOk, false};
 ghost use Rattle.job_bodies.specs.Plan as plans;
@@ -12,13 +12,13 @@ use recordings::RecordedActor;
 use std::alloc::{AllocError, Global};
 use support::IdMap;
 
-/// A map from rounds to the client kinds for which they are counted. It has only the rounds that
-/// are not counted for the first kind of their label. The value is `None` if the kind of the round
-/// is undecided: such a round is not counted.
+/// A map from rounds to the client kinds for which they are counted. The label of a round may refer
+/// to several client kinds. By default, a round is counted for the first of them, and is not in the
+/// map. The map has only the other rounds. The value is `None` if the kind of the round is
+/// undecided: such a round is not counted.
 #[derive(Drop)]
 pub(crate) struct OtherKinds {
     kinds: IdMap<Option<usize>>,
-    /// True if the map has at least one round.
     pub(crate) has_any: bool,
 }
 
@@ -33,7 +33,8 @@ impl OtherKinds {
         }
     }
 
-    /// Adds the actor if it is a round that is not counted for the first kind of its label.
+    /// Adds the actor if it is a round that is not counted for the first client kind that its label
+    /// may refer to.
     ///
     /// # Errors
     ///
@@ -52,7 +53,8 @@ impl OtherKinds {
     }
 
     /// Returns the client kind for which a round is counted, or `None` if the round is not counted.
-    /// If the map does not have the round, the result is the first kind of `label`.
+    /// If the map does not have the round, the result is the first client kind that `label` may
+    /// refer to.
     pub(crate) fn kind_of(&self, plan: &Plan, round: usize, label: &str) -> Option<usize>
         ensures { result ≡ spec.kind_by plan.now self.now round label.now }
     {

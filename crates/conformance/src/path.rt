@@ -3,10 +3,11 @@
 ghost use Rattle.std.specs.Prelude.{IfOk, IsTrue, length};
 ghost use Rattle.conformance.specs.declared.step.ActorKind.{ActorKind};
 ghost use Rattle.conformance.specs.Path.{IsPathOf};
-ghost use Rattle.conformance.specs.PathMatch.{OnFits, OnDeviates, IfDeviates, IsExplained, IsDecided, IsUnambiguous, IsMatch};
+ghost use Rattle.conformance.specs.PathMatch.{OnFits, OnDeviates, IfDeviates, IsExplained, IsDecided, IsUnambiguous, HasManyOpenLists, OnUndecided, IsMatch};
 ghost use Rattle.conformance.specs.BodyGets.{AreGets};
 ghost use Rattle.conformance.specs.WalkState.{HasTables, IsStateAt, IsBegun};
 
+use crate::ambiguous_path::match_rest;
 use crate::body_gets::{BodyGet, body_gets};
 use crate::explained_prefix::ExplainedPrefix;
 use crate::narrowing::{Pick, narrowed};
@@ -29,13 +30,15 @@ use std::alloc::{AllocError, Global};
 ///   may get only jobs of classes that its body still gets.
 /// - If `path_state` is [`PathState::Whole`], the walk can reach the end of the body.
 ///
-/// A job of the path may belong to several classes that the body submits. Then three ways are tried
-/// to choose one of these classes for each such job: the first class, the last class, and the class
-/// of the next submit that fits. The result is [`PathMatch::Undecided`] only if there is such a
-/// job, and the path matches in none of the three ways.
+/// A job of the path may belong to several classes that the body submits. Then there is a state of
+/// the walk for each list of jobs that can be open, with one class for each job. If there are more
+/// than [`MAX_OPEN_LISTS`](crate::MAX_OPEN_LISTS) of them, three ways are tried to choose one
+/// class for each job: the first class, the last class, and the class of the next submit that fits.
+/// The result is [`PathMatch::Undecided`] if the path matches in none of the three ways. No contract
+/// says that these ways are tried.
 ///
-/// The number of computation steps is at most proportional to the length of the body times the
-/// length of the path.
+/// If each job of the path has at most one of the body's classes, the number of computation steps
+/// is at most proportional to the length of the body times the length of the path.
 ///
 /// # Errors
 ///
@@ -60,6 +63,10 @@ pub fn match_path(
     // The result is decided if each job of the path has at most one of the body's classes.
     ensures decided { IfOk result
         (λ path_match. IsUnambiguous body.now path.now → IsDecided path_match) }
+
+    // The result is undecided only if many lists of jobs can be open at one time.
+    ensures many { IfOk result
+        (λ path_match. OnUndecided path_match (HasManyOpenLists kind body.now path.now)) }
 {
     let path_match = match_exactly(alloc, body, path, kind, path_state)?;
     match path_match {
@@ -76,9 +83,9 @@ pub fn match_path(
     }
 }
 
-/// Matches the path against the body, step by step in a joint walk. The path deviates at the first
-/// step that the walk cannot make. The walk also stops at a submit if the body submits several of
-/// the job's classes. The result is then undecided.
+/// Matches the path against the body in a joint walk, which goes through both together, step by
+/// step. The path deviates at the first step that the walk cannot make. From the first submit of a
+/// job on that may belong to several classes of the body, [`match_rest`] continues the walk.
 ///
 /// # Errors
 ///
@@ -103,6 +110,10 @@ fn match_exactly(
     // The result is decided if each job of the path has at most one of the body's classes.
     ensures decided { IfOk result
         (λ path_match. IsUnambiguous body.now path.now → IsDecided path_match) }
+
+    // The result is undecided only if many lists of jobs can be open at one time.
+    ensures many { IfOk result
+        (λ path_match. OnUndecided path_match (HasManyOpenLists kind body.now path.now)) }
 {
     let gets = body_gets(alloc, body)?;
     let mut state = WalkState::new(alloc, body)?;
@@ -116,7 +127,9 @@ fn match_exactly(
                     missing: None,
                 }));
             }
-            Progress::Undecided => return Ok(PathMatch::Undecided),
+            Progress::Undecided => {
+                return match_rest(alloc, state, body, &gets, path, place, kind, path_state);
+            }
         }
     }
     Ok(match_at_end(&state, body, &gets, path, path_state))
@@ -173,9 +186,9 @@ fn fits_with(
     }
 }
 
-/// Returns the result after the joint walk has made all steps of the path. If the path is only a
-/// prefix, it matches. A whole path matches only if the walk can be at the end of the body. `state`
-/// is the state after the last step, and `gets` has the gets of the body.
+/// Returns the result after all steps of the path. If the path is only a prefix, it matches. A
+/// whole path matches only if the body can be at its end. `state` is the state after the last step,
+/// and `gets` has the gets of the body.
 fn match_at_end(
     state: &WalkState,
     body: &[Action],

@@ -26,8 +26,8 @@ pub fn paths_are_followed()
 {}
 
 /// States that the machine of an accepted plan can follow a recording in which all jobs and rounds
-/// behave as planned. The path of each job and each round matches at least one body of its family.
-/// The machine can follow the job or the round with each body that the path matches.
+/// behave as planned. The path of each job and each round matches at least one body that its label
+/// may refer to. The machine can follow the job or the round with each body that the path matches.
 pub fn planned_actors_are_followed()
     ensures { PlannedActorsAreFollowed }
 {}

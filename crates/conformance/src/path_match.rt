@@ -2,17 +2,23 @@
 
 use crate::explained_prefix::ExplainedPrefix;
 
+/// The maximum number of lists of open jobs that a match follows. In each list, each job has one of
+/// the classes that it may belong to. As long as no open job may belong to several classes of the
+/// body, there is one list. If one open job may, there is at most one list for each class.
+pub const MAX_OPEN_LISTS: usize = 64;
+
 /// The result of matching a path against a body.
 #[derive(Clone, Copy, PartialEq, Eq)]
 pub enum PathMatch {
     /// The path matches the body.
     Fits,
     /// The path does not match the body. The field is the longest prefix of the path that the body
-    /// explains. The step after the prefix deviates. If there is no such step, the actor ended too
+    /// explains. A body explains a prefix if some path that matches the body begins with this
+    /// prefix. The step after the prefix deviates. If there is no such step, the actor ended too
     /// early.
     Deviates(ExplainedPrefix),
     /// It is unknown whether the path matches. Some jobs of the path may belong to several classes
-    /// that the body submits. Several ways to choose one class for each job were tried, but the
-    /// path matches in none of them.
+    /// that the body submits, and there are more than [`MAX_OPEN_LISTS`] lists of jobs that can be
+    /// open at one time.
     Undecided,
 }

@@ -19,7 +19,7 @@ use std::alloc::{AllocError, Global};
 #[derive(Drop)]
 pub enum PoolDeviation {
     /// A pool that is not in the plan, with its first line.
-    NotPlanned {
+    UnplannedLabel {
         line: usize,
         pool: String,
     },
@@ -50,7 +50,7 @@ pub struct PoolComparison {
 }
 
 impl PoolComparison {
-    /// Creates a comparison in its state before the first line.
+    /// Creates a comparison that has read no line yet.
     pub fn new(alloc: Global) -> PoolComparison
         ensures { (plan : plans.Plan) → IsPoolComparisonOf plan result [] }
     {
@@ -232,12 +232,12 @@ fn push_unplanned(
     found: &mut Vec<PoolDeviation>,
 ) -> Result<(), AllocError>
     ensures { OnOk result
-        (Adds found.old.items (if is_first then spec.NotPlanned number name.now ∷ [] else [])
+        (Adds found.old.items (if is_first then spec.UnplannedLabel number name.now ∷ [] else [])
         found.new.items) }
 {
     if is_first {
         let pool = String::from_str(alloc, name)?;
-        found.push(PoolDeviation::NotPlanned { line: number, pool })?;
+        found.push(PoolDeviation::UnplannedLabel { line: number, pool })?;
     }
     Ok(())
 }

@@ -65,7 +65,7 @@ pub(crate) struct RefusedJobs {
 }
 
 impl RefusedJobs {
-    /// Creates the state before the first line. `refused` has the jobs for which facts are
+    /// Creates the facts before the first line is read. `refused` has the jobs for which facts are
     /// collected.
     pub(crate) fn new(alloc: Global, refused: JobSet) -> RefusedJobs
         ensures jobs { result.refused ≡ refused }

@@ -5,13 +5,14 @@ ghost use Rattle.std.specs.Prelude.{◌≡◌, ◌<◌, ℕ, ◌+◌, false, ◌
 ghost use Rattle.std.specs.Option.{option_copied};
 ghost use Rattle.conformance.specs.BodyGets.{pass_after};
 ghost use Rattle.conformance.specs.Path as spec;
+ghost use Rattle.conformance.specs.WalkStates.{AreJoined};
 
 use crate::body_gets::BodyGet;
 use job_bodies::Action;
 
 /// Updates `row` for a step of the path that submits a job of the class. `row` is the set of
-/// indices where the body can be. The body must submit a job of the class, too, and is then at the
-/// next index. The new row has only these next indices.
+/// indices where the body can be. At the same time, the body makes a submit of the class at one of
+/// these indices, and goes to the next index. The new row has exactly these next indices.
 pub(crate) fn shift_row(row: &mut [bool], body: &[Action], class: usize)
     requires { length row.old ≡ length body.now + 1 }
     ensures first { slice_index_or row.new 0 false ≡ false }
@@ -57,8 +58,9 @@ pub(crate) fn cut_row(row: &mut [bool], end: usize)
     }
 }
 
-/// Adds to `row` the indices that the body can reach from an index in `row` by passing actions.
-/// `passes` says for each action whether the body may pass the action.
+/// Adds to `row` the indices that the body can reach while the path makes no step. `row` is the set
+/// of indices where the body can be. `passes` says for each action whether the body may pass the
+/// action: go to the next one while the path makes no step.
 pub(crate) fn close_row(row: &mut [bool], passes: &[bool])
     requires { length row.old ≡ length passes.now + 1 }
     ensures first { slice_index_or row.new 0 false ≡ slice_index_or row.old 0 false }
@@ -75,9 +77,20 @@ pub(crate) fn close_row(row: &mut [bool], passes: &[bool])
     }
 }
 
+/// Adds to `row` the indices of another row. Ignores indices of the other row that `row` does not
+/// have.
+pub(crate) fn add_row(row: &mut [bool], other: &[bool])
+    ensures { AreJoined row.old other.now row.new }
+{
+    for index in 0..row.len() {
+        row[index] = row[index] || other.get(index).copied().unwrap_or(false);
+    }
+}
+
 /// Updates `passes` for a new number of open jobs: the path has `count` open jobs of the class.
-/// `passes` says for each action whether the body may pass the action. The body may pass a get of
-/// the class if `count` is at most the get's limit.
+/// `passes` says for each action whether the body may pass the action: go to the next one while the
+/// path makes no step. The body may pass a get of the class if `count` is at most the get's
+/// [`limit`](BodyGet::limit).
 pub(crate) fn update_passes(
     passes: &mut [bool],
     gets: &[Option<BodyGet>],

@@ -122,8 +122,8 @@ fn is_planned_kind(pool: &Pool, kind: QueueKind) -> bool
     }
 }
 
-/// Returns the capacity that a `pool` line gives for the plan's queue. For an unbounded queue, this
-/// is `UNBOUNDED_CAPACITY`.
+/// Returns the capacity that a `pool` line must have to agree with the plan's queue. For an
+/// unbounded queue, this is `UNBOUNDED_CAPACITY`.
 fn planned_capacity(pool: &Pool) -> u64
     ensures { result ≡ spec.planned_capacity pool.now }
 {

@@ -17,9 +17,11 @@ pub enum PathStep {
 /// of these jobs it may get.
 #[derive(Clone, Copy, PartialEq, Eq)]
 pub enum ActorKind {
-    /// A job. It may get only jobs of classes that the rest of its body gets.
+    /// A job. At each index of its body, it may get only jobs of classes that the body gets there
+    /// or later.
     Job,
-    /// A round of a client. It may get any of its own jobs, even a job that its body does not get.
+    /// A round, which is one pass of a client through its body. It may get any of its own jobs,
+    /// even a job that its body does not get.
     Round,
 }
 

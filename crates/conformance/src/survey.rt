@@ -1,4 +1,4 @@
-//! A survey of all lines of a recording: the facts for a comparison with a plan.
+//! The facts that a comparison with a plan needs, collected from all lines of a recording.
 
 ghost use Rattle.std.specs.Prelude.{◌≡◌, ◌++◌, ◌∷◌, [], ℕ, false, List, Option, OnOk, IfOk};
 ghost use Rattle.job_bodies.specs.Plan as plans;
@@ -23,7 +23,8 @@ use job_bodies::Plan;
 use recordings::{CheckedLines, Line, RecordedNotes, RecordingFault};
 use std::alloc::{AllocError, Global};
 
-/// The part of a survey that does not depend on the classes of actors.
+/// The facts about a recording that do not depend on the classes of its actors. Examples are the
+/// pools that differ from the plan, and the labels that are not in the plan.
 #[derive(Drop)]
 pub(crate) struct LineSurvey {
     pools: PoolComparison,
@@ -33,7 +34,7 @@ pub(crate) struct LineSurvey {
 }
 
 impl LineSurvey {
-    /// Creates the state before the first line.
+    /// Creates the facts before the first line is read.
     pub(crate) fn new(alloc: Global) -> LineSurvey
         ensures { (plan : plans.Plan) → spec.IsLineSurveyOf plan [] result }
     {
@@ -87,7 +88,8 @@ impl LineSurvey {
     }
 }
 
-/// The part of a survey that each classified actor updates.
+/// The facts about a recording that each classified actor updates. Examples are the actors with a
+/// path that matches no body.
 #[derive(Drop)]
 pub(crate) struct ActorSurvey {
     pub(crate) verdicts: Verdicts,
@@ -95,7 +97,7 @@ pub(crate) struct ActorSurvey {
 }
 
 impl ActorSurvey {
-    /// Creates the state before the first line.
+    /// Creates the facts before the first line is read.
     pub(crate) fn new(alloc: Global) -> ActorSurvey
         ensures { (plan : plans.Plan)
             → AreResultsOfPrefix plan [] []
@@ -106,7 +108,7 @@ impl ActorSurvey {
         ActorSurvey { verdicts, others }
     }
 
-    /// Adds the classified actors to the survey and empties the list.
+    /// Adds the classified actors in `reported` to the facts, and empties this list.
     ///
     /// # Errors
     ///
@@ -137,7 +139,7 @@ impl ActorSurvey {
     }
 }
 
-/// A survey of all lines of a recording.
+/// All facts about a recording that a comparison with a plan needs.
 #[derive(Drop)]
 pub(crate) struct Survey {
     pub(crate) line_survey: LineSurvey,
@@ -167,7 +169,7 @@ impl Survey {
     }
 }
 
-/// Returns the survey of a recording, or the first invalid line of the recording.
+/// Returns the facts about a recording, or the first invalid line of the recording.
 ///
 /// # Errors
 ///

@@ -14,7 +14,7 @@ use std::alloc::{AllocError, Global};
 /// A label that is not in the plan, with the number of the first line that has it. A label is a
 /// class with its pool, or a client kind.
 #[derive(Drop)]
-pub enum NotPlanned {
+pub enum UnplannedLabel {
     /// A job of this class was submitted to this pool. The plan has no such class in the pool.
     Class {
         line: usize,
@@ -31,7 +31,7 @@ pub enum NotPlanned {
 /// The labels in the lines read so far that are not in the plan.
 #[derive(Drop)]
 pub(crate) struct UnplannedLabels {
-    pub(crate) found: Vec<NotPlanned>,
+    pub(crate) found: Vec<UnplannedLabel>,
     classes: LabelSet,
     kinds: LabelSet,
     alloc: Global,
@@ -95,7 +95,7 @@ impl UnplannedLabels {
         let class = String::from_str(self.alloc, class)?;
         let pool = String::from_str(self.alloc, pool)?;
         self.classes.insert(&label)?;
-        self.found.push(NotPlanned::Class {
+        self.found.push(UnplannedLabel::Class {
             line: number,
             class,
             pool,
@@ -114,7 +114,7 @@ impl UnplannedLabels {
         }
         let label = String::from_str(self.alloc, kind)?;
         self.kinds.insert(kind)?;
-        self.found.push(NotPlanned::Kind {
+        self.found.push(UnplannedLabel::Kind {
             line: number,
             kind: label,
         })?;

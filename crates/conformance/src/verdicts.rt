@@ -1,5 +1,5 @@
-//! The first actors with a path that matches no body of the plan, and the first actors with an
-//! undecided match.
+//! For each label of the plan, the first actor with a path that matches no body, and the first
+//! actor with an undecided match.
 
 ghost use Rattle.std.specs.Prelude.{◌≡◌, ◌++◌, ◌∷◌, [], ℕ, List, OnOk};
 ghost use Rattle.job_bodies.specs.Plan as plans;
@@ -31,7 +31,7 @@ pub(crate) struct Verdicts {
 }
 
 impl Verdicts {
-    /// Creates the state before the first actor.
+    /// Creates the result for no actors.
     pub(crate) fn new(alloc: Global) -> Verdicts
         ensures { (plan : plans.Plan) → spec.IsVerdictsOf plan [] result }
     {

@@ -1,5 +1,5 @@
-//! The state of the joint walks over a body and a path. A joint walk goes through both together,
-//! each in its own order.
+//! The state of matching a path against a body. A joint walk goes through both together, each in
+//! its own order. The path can match only if such a walk makes all its steps.
 
 ghost use Rattle.std.specs.Prelude.{◌≡◌, ℕ, false, List, Some, IfOk, OnOk, IsTrue, length, slice_get};
 ghost use Rattle.std.specs.List.{list_any};
@@ -11,40 +11,44 @@ ghost use Rattle.conformance.specs.Candidate.{IsCandidate};
 ghost use Rattle.conformance.specs.MissingJob.{IsMissingJob};
 ghost use Rattle.conformance.specs.OpenExcess.{IsReason};
 ghost use Rattle.conformance.specs.WalkState as spec;
+ghost use Rattle.conformance.specs.WalkStates.{IsCopy, IsLastAt, AreJoined};
 
 use crate::blocking_get::{blocking_get, get_before_end};
 use crate::body_gets::{BodyGet, end_of_gets};
 use crate::candidate::{Candidate, candidate_of};
 use crate::open_excess::OpenExcess;
 use crate::open_job::{OpenJob, count_in, first_in, take_job};
-use crate::row::{close_row, cut_row, has_submit_at, shift_row, update_passes};
+use crate::row::{add_row, close_row, cut_row, has_submit_at, shift_row, update_passes};
 use crate::step::{ActorKind, PathStep};
 use job_bodies::Action;
 use std::alloc::{AllocError, Global};
 
-/// The state of all joint walks over a body and a path, after the first steps of the path. The open
-/// jobs of the path are the same in all walks, but the body can be at several indices.
+/// A state of matching a path against a body, after the first steps of the path. It covers joint
+/// walks, which go through path and body together, each in its own order. The open jobs of the path
+/// are the same in all these walks, with the same classes, but the body can be at several indices.
+/// If no job of the path may belong to several classes of the body, the state covers all walks.
 #[derive(Drop)]
 pub(crate) struct WalkState {
     /// The open jobs of the path.
-    jobs: Vec<OpenJob>,
+    pub(crate) jobs: Vec<OpenJob>,
     /// For each action of the body, true if the body may pass the action while the jobs in `jobs`
-    /// are open in the path.
-    passes: Vec<bool>,
+    /// are open in the path. The body passes an action if it goes to the next one while the path
+    /// makes no step.
+    pub(crate) passes: Vec<bool>,
     /// The indices where the body can be after the steps so far. The list has an element for each
     /// index of the body, and one for the end of the body. An element is true if the body can be
     /// there.
-    row: Vec<bool>,
+    pub(crate) row: Vec<bool>,
 }
 
 /// The result of trying a step of the path.
 #[derive(Clone, Copy)]
 pub(crate) enum Progress {
-    /// At least one joint walk over the path and the body makes this step.
+    /// The path has made the step, and the body allows it.
     Advanced,
-    /// No joint walk over the path and the body makes this step. The field has the open jobs that
-    /// block the body before the step. The field is `None` if the step is a get, or if the body has
-    /// no such submit left.
+    /// The body does not allow the step after the earlier steps of the path. The field has the open
+    /// jobs that block the body before the step. The field is `None` if the step is a get, or if
+    /// the body has no such submit left.
     Stops(Option<OpenExcess>),
     /// The job of the step may belong to several classes that the body submits.
     Undecided,
@@ -112,7 +116,7 @@ impl WalkState {
     }
 
     /// Returns true if the body has a submit of the class at an index where the body can be.
-    fn can_submit(&self, body: &[Action], class: usize) -> bool
+    pub(crate) fn can_submit(&self, body: &[Action], class: usize) -> bool
         ensures can { IsTrue result → spec.CanSubmit body.now class self.now }
         ensures cannot { result ≡ false → ¬ spec.CanSubmit body.now class self.now }
     {
@@ -151,9 +155,10 @@ impl WalkState {
         }
     }
 
-    /// Returns the job that the actor should have got before its end. Consider the first get that
-    /// the body cannot pass. The result is the first open job of the path that has the class of
-    /// this get. Returns `None` if the body can be at its end.
+    /// Returns the job that the actor should have got before its end. A get keeps the body from its
+    /// end, because too many jobs of the get's class are open in the path. The result is the first
+    /// of these jobs, as the index of its submit in the path. Returns `None` if the body can be at
+    /// its end.
     pub(crate) fn missing_job(&self, body: &[Action], gets: &[Option<BodyGet>]) -> Option<usize>
         requires gets { AreGets body.now gets.now }
         requires tables { spec.HasTables body.now self.now }
@@ -208,8 +213,8 @@ impl WalkState {
         }
     }
 
-    /// Returns [`Progress::Advanced`] if a walk is left, and otherwise [`Progress::Stops`] with
-    /// `None`.
+    /// Returns [`Progress::Advanced`] if the body can be at some index, and otherwise
+    /// [`Progress::Stops`] with `None`.
     fn progress(&self) -> Progress
         ensures { result ≡ spec.progress_of self.now }
     {
@@ -220,11 +225,94 @@ impl WalkState {
         }
     }
 
-    /// Returns true if a walk is left, which means that the body can be at some index.
-    fn is_begun(&self) -> bool
+    /// Returns true if the body can be at some index.
+    pub(crate) fn is_begun(&self) -> bool
         ensures { result ≡ list_any (λ at. at) self.now.row.items }
     {
         self.row.iter().any(|at| *at)
+    }
+
+    /// Returns a copy of the state.
+    ///
+    /// # Errors
+    ///
+    /// Returns [`AllocError`] if memory runs out.
+    pub(crate) fn try_clone(&self, alloc: Global) -> Result<WalkState, AllocError>
+        ensures { IfOk result (IsCopy self.now) }
+    {
+        let jobs = Vec::from_slice(alloc, &self.jobs)?;
+        let passes = Vec::from_slice(alloc, &self.passes)?;
+        let row = Vec::from_slice(alloc, &self.row)?;
+        Ok(WalkState { jobs, passes, row })
+    }
+
+    /// Returns the state after a submit of a job of the class. `job` is the index of this submit in
+    /// the path.
+    ///
+    /// # Errors
+    ///
+    /// Returns [`AllocError`] if memory runs out.
+    pub(crate) fn after_submit(
+        &self,
+        alloc: Global,
+        body: &[Action],
+        gets: &[Option<BodyGet>],
+        job: usize,
+        class: usize,
+    ) -> Result<WalkState, AllocError>
+        requires gets { AreGets body.now gets.now }
+        requires tables { spec.HasTables body.now self.now }
+        ensures { IfOk result (spec.IsAfterSubmit body.now job class self.now) }
+    {
+        let mut after = self.try_clone(alloc)?;
+        after.submit(body, gets, job, class)?;
+        Ok(after)
+    }
+
+    /// Returns the state after a get of the job that the path submits at index `job`. If the job is
+    /// not open, the body can be at no index afterwards.
+    ///
+    /// # Errors
+    ///
+    /// Returns [`AllocError`] if memory runs out.
+    pub(crate) fn after_get(
+        &self,
+        alloc: Global,
+        kind: ActorKind,
+        body: &[Action],
+        gets: &[Option<BodyGet>],
+        job: usize,
+    ) -> Result<WalkState, AllocError>
+        requires gets { AreGets body.now gets.now }
+        requires tables { spec.HasTables body.now self.now }
+        ensures { IfOk result (spec.IsAfterGet kind body.now job self.now) }
+    {
+        let mut after = self.try_clone(alloc)?;
+        after.get(kind, body, gets, job);
+        Ok(after)
+    }
+
+    /// Adds the walks of another state with the same open jobs.
+    pub(crate) fn add_row(&mut self, other: &WalkState)
+        ensures jobs { self.new.jobs.items ≡ self.old.jobs.items }
+        ensures passes { self.new.passes.items ≡ self.old.passes.items }
+        ensures long { length self.new.row.items ≡ length self.old.row.items }
+        ensures row { AreJoined self.old.row.items other.now.row.items self.new.row.items }
+    {
+        add_row(&mut self.row, &other.row);
+    }
+
+    /// Returns the last index up to `end` at which the body can be, or `None` if there is none.
+    pub(crate) fn last_at(&self, end: usize) -> Option<usize>
+        ensures { IsLastAt self.now end result }
+    {
+        let mut last = None;
+        for index in 0..self.row.len() {
+            if index <= end && self.is_at(index) {
+                last = Some(index);
+            }
+        }
+        last
     }
 
     /// Returns true if the body can be at this index.

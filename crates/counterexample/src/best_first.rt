@@ -2,9 +2,12 @@
 //! and *expands* this state. To expand a state means to visit the successors of the state. Several
 //! measures take turns in the selection:
 //!
-//! - the weight that was lost on the way to the state, under a vector of weights,
+//! - the weight that was lost on the way to the state, under a vector (see below),
 //! - the number of threads that do not wait at a get, and
 //! - the least number of further jobs that a pool accepts before it refuses one.
+//!
+//! A vector gives weights to workers, clients and jobs. No event increases the sum of these
+//! weights. If an event decreases the sum, the difference is lost.
 //!
 //! A violation is *permanent* in two cases:
 //!
@@ -21,8 +24,8 @@ use std::alloc::{AllocError, Global};
 use std::collections::{BinaryHeap, HashSet};
 use std::hash::{BuildHasherDefault, FoldHasher};
 
-/// The maximum number of vectors that the search uses as measures. For each of these vectors, the
-/// measure of a state is the weight that was lost on the way to this state.
+/// The maximum number of vectors that the search uses as measures. A vector gives weights to
+/// workers, clients and jobs. A state is more promising if less weight was lost on the way to it.
 const MAX_VECTORS: usize = 2;
 
 /// A state that the search reached. The state is open until the search visits its successors. Then
@@ -36,8 +39,9 @@ struct Node {
     is_open: bool,
 }
 
-/// A reached state that was recreated by a replay. For each vector, `lost` has the weight that was
-/// lost on the way to this state.
+/// A reached state, recreated by a replay of the branches that lead to it. The search does not
+/// store whole states. For each vector, `lost` has the weight that was lost on the way to the
+/// state.
 #[derive(Drop)]
 struct ReplayedState<'a> {
     walk: Walk<'a>,

@@ -17,8 +17,8 @@ const MAX_ACTORS: usize = 8;
 ///
 /// - `place` is the index of the choice.
 /// - `newer` selects the actor among those that are ready for the choice: 0 is the one that became
-///   ready last, 1 is the one before it, and so on. If a new client starts, or if a thread takes a
-///   job or ends, `newer` has no effect.
+///   ready last, 1 is the one before it, and so on. It has no effect on some choices: that a new
+///   client starts, that a thread takes a job, or that a thread ends.
 #[derive(Clone, Copy, PartialEq, Eq)]
 pub(crate) struct Branch {
     pub(crate) place: usize,
@@ -26,8 +26,8 @@ pub(crate) struct Branch {
 }
 
 impl<'a> Walk<'a> {
-    /// Returns a copy of the walk in the same state. In the copy, the script and `rejected` are
-    /// empty, and `has_blocked` is `false`.
+    /// Returns a copy of the walk in the same state, so that the search can try a branch in the
+    /// copy. In the copy, the script and `rejected` are empty, and `has_blocked` is `false`.
     pub(crate) fn try_clone(&self, alloc: Global) -> Result<Walk<'a>, AllocError> {
         let mut ready = Vec::with_capacity(alloc, self.ready.len())?;
         for actors in &self.ready {
@@ -45,10 +45,11 @@ impl<'a> Walk<'a> {
     }
 
     /// Returns the branches from this state that the search tries. Skips submits to an unbounded
-    /// queue that is at its limit. Also skips some of the actors that act alike:
+    /// queue that is at its limit. Also limits the number of actors that are tried:
     ///
-    /// - For each client kind, at most one of the clients that are back at their first submit is
-    ///   tried. The start of a new client is tried only if there is no such client.
+    /// - After the end of its body, a client can be at its first submit again. For each client
+    ///   kind, at most one of these clients is tried. A new client is tried only if there is no
+    ///   such client.
     /// - For each other submit, at most [`MAX_ACTORS`] actors are tried.
     pub(crate) fn branches(&self, alloc: Global) -> Result<Vec<Branch>, AllocError> {
         let mut branches = Vec::new(alloc);
@@ -70,7 +71,8 @@ impl<'a> Walk<'a> {
         Ok(branches)
     }
 
-    /// Returns `true` if some client of this client kind is back at its first submit.
+    /// Returns `true` if some client of this client kind has started its body again and is at its
+    /// first submit.
     fn has_old(&self, kind: usize) -> bool {
         self.choices.all.iter().zip(&self.ready).any(|(choice, ready)| *choice
             == Choice::First(kind)

@@ -14,8 +14,8 @@ const NO_CHOICE: usize = usize::MAX;
 pub(crate) enum Choice {
     /// A new client of this client kind starts its body and performs the first submit of this body.
     Begin(usize),
-    /// A client of this client kind performs the first submit of its body. The client moved before,
-    /// and has started its body again.
+    /// A client of this client kind has started its body again, and performs the first submit of
+    /// this body.
     First(usize),
     /// A client of this client kind performs a submit of its body, but not the first one.
     Later(usize),
@@ -31,12 +31,13 @@ pub(crate) enum Choice {
 #[derive(Drop)]
 pub(crate) struct Choices {
     pub(crate) all: Vec<Choice>,
-    /// Whether core threads of some pool may time out. If so, jobs can wait only for each other
-    /// although their pool has an idle thread, because this thread can end. The wait is short if
-    /// the thread takes a queued job instead.
+    /// Whether core threads of some pool may time out. If so, the search checks more states for
+    /// jobs that wait only for each other. In such a state, a pool with queued jobs can have idle
+    /// threads, because these threads can end. The wait is over as soon as one of them takes a
+    /// queued job instead, so rare checks would miss it.
     pub(crate) has_core_timeout: bool,
-    /// For each choice, the limit for its submit. The limit is `None` if the choice is not a
-    /// submit, or if it is a submit to a bounded queue.
+    /// For each choice, the limit on the number of jobs in the queue to which the choice submits.
+    /// `None` if the choice is not a submit, or if the queue is bounded.
     limits: Vec<Option<QueueLimit>>,
     of_kinds: Vec<Vec<usize>>,
     of_classes: Vec<Vec<usize>>,

@@ -19,13 +19,14 @@ use job_bodies::Plan;
 use std::alloc::{AllocError, Global};
 use weights::Vector;
 
-/// Checks whether a list of events is a witness against the plan, and returns the witness if it is.
-/// The arguments are not trusted:
+/// Checks whether a list of events is a witness, which proves that the plan is not safe. If it is,
+/// returns the witness. The arguments are not trusted:
 ///
 /// - `members` should be the numbers of jobs that wait only for each other after the events, in
 ///   ascending order and without duplicates.
-/// - `standing` should be empty, or have one vector for each pool. A vector can prove that its pool
-///   never has more than `core` threads.
+/// - `standing` should be empty, or have one vector for each pool. A vector gives weights to
+///   workers, clients and jobs. It can prove that its pool never has more than `core` threads. Such
+///   a proof can show that the members wait forever.
 ///
 /// The events are performed in order. A submit is *refused* only if its pool has no room for the
 /// job and must not reject jobs. A rejection that the plan allows is an event like any other.
@@ -39,7 +40,8 @@ use weights::Vector;
 ///
 /// - The vector's pool has at least `core` threads after the events. If core threads may time out,
 ///   a pool can have fewer threads. Such a pool starts a thread at the next submit.
-/// - The vector satisfies all conditions of a standing vector of the pool.
+/// - The vector is a standing vector of the pool: its weights satisfy the conditions that bound the
+///   number of queued jobs.
 /// - If the pool of a class may reject jobs, a done job of this class weighs at most as much as a
 ///   queued job. A rejected job then does not increase the weight of a state.
 ///
@@ -78,12 +80,12 @@ fn refused(mut events: Vec<Event>, length: usize, pool: usize) -> Witness
     }
 }
 
-/// Returns the witness that consists of these events and ends with the wait of the members. `world`
-/// is the world after the events. Returns `None` if
+/// Returns the witness with these events, if the jobs in `members` wait only for each other after
+/// the events. `world` is the state after the events. Returns `None` if
 ///
-/// - there are no members,
-/// - the members are not in ascending order, or
-/// - the members do not wait only for each other in `world`.
+/// - `members` is empty,
+/// - `members` is not in ascending order, or
+/// - the jobs do not wait only for each other in `world`.
 fn stuck(
     plan: &Plan,
     world: &World,
@@ -109,8 +111,9 @@ fn stuck(
     Some(Witness { events, ending })
 }
 
-/// Returns the [`Reason`] why no later event ends the members' wait for each other. Returns `None`
-/// if `world` and `standing` prove no reason.
+/// Returns the [`Reason`] why the jobs in `members` wait forever, if they wait only for each other
+/// in `world`. Returns `None` if neither reason holds. `standing` has the vectors that can prove a
+/// reason, as in [`confirmed`].
 fn reason(plan: &Plan, world: &World, members: &[usize], standing: &[Vector]) -> Option<Reason>
     requires { IsReachableView plan.now world.now.view }
     ensures { (s : State)

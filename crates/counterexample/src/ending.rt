@@ -14,17 +14,21 @@ pub enum Ending {
     StuckNow(Vec<usize>),
 }
 
-/// The reason why some jobs that wait only for each other wait forever.
+/// The reason why no later event ends the wait of jobs that wait only for each other. In each case,
+/// no new thread can take one of these jobs from a queue.
 #[derive(Clone, Copy, Debug, PartialEq, Eq)]
 pub enum Reason {
-    /// If one of the jobs is queued in a pool, this pool has `max` threads.
+    /// Each pool that has at least one of these jobs in its queue has `max` threads.
     PoolsAreFull,
-    /// If one of the jobs is queued in a pool, this pool starts no further thread. The reason is
-    /// one of these:
+    /// Each pool that has one of the jobs in its queue starts no further thread, for one of these
+    /// reasons:
     ///
     /// - The pool has `max` threads.
     /// - The pool has at least `core` threads and an unbounded queue.
     /// - The pool has at least `core` threads, and a standing vector proves that its queue is never
     ///   full.
+    ///
+    /// A standing vector gives weights to workers, clients and jobs. These weights bound the number
+    /// of queued jobs.
     PoolsStayAtCore,
 }

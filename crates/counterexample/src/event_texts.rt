@@ -53,7 +53,6 @@ fn push_lines(
     push_question(text, plan, members)
 }
 
-/// Appends the line of an event.
 fn push_event(text: &mut String, plan: &Plan, event: Event) -> Result<(), AllocError>
     ensures { Pushes result text.old text.new (event_text plan.now event ++ 10 ∷ []) }
 {
@@ -86,7 +85,8 @@ fn push_named(text: &mut String, words: &str, name: &str) -> Result<(), AllocErr
     text.push_str(name)
 }
 
-/// Appends a `stuck` line with the numbers of the members, if there are any.
+/// Appends a line with the numbers of the jobs in `members`, such as `stuck 0 2`. Appends nothing
+/// if `members` is empty.
 fn push_question(text: &mut String, _plan: &Plan, members: &[usize]) -> Result<(), AllocError>
     ensures { Pushes result text.old text.new (lines_text _plan.now (spec.question members.now)) }
 {

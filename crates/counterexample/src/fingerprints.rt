@@ -4,7 +4,7 @@
 //!
 //! - how jobs and clients are numbered,
 //! - finished jobs that no actor will get, and
-//! - clients that are again at their first submit.
+//! - clients that have started their bodies again and are at their first submit.
 //!
 //! Two other states can have the same fingerprint by chance. The search then continues from only
 //! one of them.
@@ -35,7 +35,7 @@ pub(crate) fn fingerprint(
     machine: &Machine,
     choices: &Choices,
 ) -> Result<u64, AllocError> {
-    let mut prints = Prints {
+    let mut prints = Fingerprints {
         machine,
         of_jobs: vec![in alloc; 0; machine.jobs.len()]?,
         of_active_clients: vec![in alloc; 0; machine.active_clients()]?,
@@ -55,7 +55,7 @@ pub(crate) fn fingerprint(
 }
 
 /// Combines two numbers into one hash.
-fn mixed(first: u64, second: u64) -> u64 {
+fn combined_hash(first: u64, second: u64) -> u64 {
     let mixed = (first ^ second.wrapping_mul(FACTOR))
         .wrapping_add(second.rotate_left(17))
         .wrapping_mul(0xbf58_476d_1ce4_e5b9);
@@ -65,13 +65,12 @@ fn mixed(first: u64, second: u64) -> u64 {
 /// The fingerprints of the parts of a state. A fingerprint is a hash. The fingerprint of a client
 /// or job includes the fingerprints of the jobs that the client or job will get.
 #[derive(Drop)]
-struct Prints<'a> {
+struct Fingerprints<'a> {
     machine: &'a Machine<'a>,
-    /// A sum for each job. It adds up the fingerprints of the jobs that this job created and will
-    /// get.
+    /// For each job, the sum of the fingerprints of the jobs that it created and will get.
     of_jobs: Vec<u64>,
-    /// A sum for each client that has moved. It adds up the fingerprints of the jobs that this
-    /// client created and will get.
+    /// For each client that has moved, the sum of the fingerprints of the jobs that it created and
+    /// will get.
     of_active_clients: Vec<u64>,
     /// For each job, its place in the queue of its pool, counted from 1. The place is 0 if the job
     /// is not queued.
@@ -79,15 +78,15 @@ struct Prints<'a> {
     whole: u64,
 }
 
-impl Prints<'_> {
+impl Fingerprints<'_> {
     fn add(&mut self, print: u64) {
         self.whole = self.whole.wrapping_add(print);
     }
 
     fn add_pools(&mut self) {
         for (number, pool) in self.machine.pools.iter().enumerate() {
-            let threads = mixed(pool.threads(), pool.idle());
-            let print = mixed(mixed(POOL, number as u64), threads);
+            let threads = combined_hash(pool.threads(), pool.idle());
+            let print = combined_hash(combined_hash(POOL, number as u64), threads);
             self.whole = self.whole.wrapping_add(print);
             for (place, job) in pool.queued().iter().enumerate() {
                 if let Some(at) = self.places.get_mut(*job) {
@@ -107,15 +106,15 @@ impl Prints<'_> {
     fn add_job(&mut self, number: usize, job: &Job) {
         let of_jobs = self.of_jobs.get(number).copied().unwrap_or(0);
         let phase = match job.phase {
-            Phase::Queued => mixed(QUEUED, self.places.get(number).copied().unwrap_or(0)),
+            Phase::Queued => combined_hash(QUEUED, self.places.get(number).copied().unwrap_or(0)),
             Phase::At(position) => position as u64,
             Phase::Done => DONE,
         };
-        let print = mixed(mixed(job.class as u64, phase), of_jobs);
+        let print = combined_hash(combined_hash(job.class as u64, phase), of_jobs);
         if self.will_get(job, number) {
-            self.add_to_parent(job.parent, mixed(print, job.submit as u64));
+            self.add_to_parent(job.parent, combined_hash(print, job.submit as u64));
         } else if job.phase != Phase::Done {
-            self.add(mixed(print, ROOT));
+            self.add(combined_hash(print, ROOT));
         }
     }
 
@@ -154,8 +153,8 @@ impl Prints<'_> {
             return;
         }
         let kind = self.machine.kind_of(actor).unwrap_or(0);
-        let stands = mixed(mixed(CLIENT, kind as u64), position as u64);
+        let stands = combined_hash(combined_hash(CLIENT, kind as u64), position as u64);
         let of_jobs = self.of_active_clients.get(number).copied().unwrap_or(0);
-        self.add(mixed(stands, of_jobs));
+        self.add(combined_hash(stands, of_jobs));
     }
 }

@@ -1,9 +1,11 @@
-//! Laws of witnesses. Each law is the contract of a function with an empty body.
+//! Laws of witnesses. A witness is a list of events that proves that a plan is not safe. Each law
+//! is the contract of a function with an empty body.
 
 ghost use Rattle.counterexample.specs.Witness.{WitnessedPlansAreNotAccepted, WitnessedPlansAreNotSafe};
 ghost use Rattle.counterexample.specs.PermanentSets.{StandingPoolsStayAtCore, PermanentWaitingSetsStay};
 
-/// States that no certificate accepts a well-formed plan with a witness.
+/// States that no certificate accepts a well-formed plan that has a witness. A witness proves that
+/// the plan is not safe, and a certificate that accepts the plan would prove the opposite.
 pub fn witnessed_plans_are_not_accepted()
     ensures { WitnessedPlansAreNotAccepted }
 {}
@@ -14,12 +16,11 @@ pub fn witnessed_plans_are_not_safe()
     ensures { WitnessedPlansAreNotSafe }
 {}
 
-/// States that a pool with a certain vector never has more than `core` threads. This holds even if
-/// core threads of the pool may time out. The vector must satisfy two conditions:
-///
-/// - The vector is a standing vector of the pool.
-/// - If the pool of a class may reject jobs, a done job of this class weighs at most as much as a
-///   queued job.
+/// States that a pool with a standing vector never has more than `core` threads, even if core
+/// threads of the pool may time out. A standing vector gives weights to workers, clients and jobs.
+/// If the pool's queue is bounded, the weights limit the number of queued jobs to its capacity. The
+/// vector must satisfy one more condition: if the pool of a class may reject jobs, a done job of
+/// this class weighs at most as much as a queued job.
 ///
 /// The other pools can have any sizes, and may even refuse submits.
 ///

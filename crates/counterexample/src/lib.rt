@@ -1,13 +1,13 @@
-//! Counterexamples to a plan: the search for one, its confirmation on the machine, and its event
-//! lines.
+//! Counterexamples to a plan. This crate searches for one, checks it by a replay, and writes it as
+//! event lines.
 //!
 //! A [`Witness`] is a list of events. Either the last event is a refused submit, or some jobs wait
 //! only for each other after the last event. The search is not trusted: [`confirmed`] replays the
 //! events that the search finds.
 //!
 //! If core threads of a pool may time out, events of a witness can end idle threads of this pool.
-//! The search also finds jobs that wait only for each other after such threads have ended. The last
-//! events of the witness then end these threads.
+//! In some states, jobs wait only for each other as soon as idle threads have ended. The search
+//! finds these jobs too. The last events of the witness then end the threads.
 //!
 //! A full pool refuses or rejects a submit:
 //!

@@ -1,9 +1,11 @@
-//! The losses of choices. A vector of weights gives each state a weight, and no event increases the
-//! weight of the state. The loss of a choice is the amount by which the choice decreases this
-//! weight.
+//! The losses of choices. A vector gives weights to workers, clients and jobs. The weight of a
+//! state is the sum of these weights, and no event increases it. The loss of a choice is the amount
+//! by which the choice decreases the weight of the state.
 //!
-//! The total of a vector can exceed a bound by an amount `e`. A walk that violates this bound then
-//! loses at most `e` in all. So a guided walk prefers choices with small losses.
+//! The total of a vector is an upper bound on the weight of each reachable state. A plan has
+//! limits, such as the capacity of a queue. If the total exceeds a limit by an amount `e`, a walk
+//! that violates this limit loses at most `e` in all. So a walk that uses the vector prefers
+//! choices with small losses.
 
 use crate::choices::Choice;
 use crate::machine::Machine;
@@ -42,7 +44,7 @@ impl WeightedBody<'_> {
 
     /// Returns the weight of an actor after it performed all consecutive work actions from this
     /// position on. Also returns whether the actor is then at the end of its body.
-    fn settled(&self, position: usize) -> (u64, bool) {
+    fn weight_after_work(&self, position: usize) -> (u64, bool) {
         let mut position = position;
         for _ in 0..MAX_ACTIONS {
             match self.body.get(position) {
@@ -156,7 +158,7 @@ impl<'a> Losses<'a> {
         };
         let pool = self.machine.plan.class_at(class)?.pool;
         let before = weighted.weight_at(from);
-        let (after, _) = weighted.settled(at.saturating_add(1));
+        let (after, _) = weighted.weight_after_work(at.saturating_add(1));
         match self.machine.pools.get(pool)?.answer() {
             Admission::Refused => Some(0),
             Admission::Rejected => {
@@ -169,7 +171,7 @@ impl<'a> Losses<'a> {
             }
             Admission::Started => {
                 let before = before.saturating_add(self.worker(class));
-                let (job, _) = self.weighted_class(class)?.settled(0);
+                let (job, _) = self.weighted_class(class)?.weight_after_work(0);
                 Some(before.saturating_sub(after.saturating_add(job)))
             }
         }
@@ -187,7 +189,7 @@ impl<'a> Losses<'a> {
         let mut job = self.machine.pools.get(pool)?.next_to_take()?;
         let mut class = class;
         let mut before = self.queued(class).saturating_add(self.worker(class));
-        let (mut after, mut ends) = self.weighted_class(class)?.settled(0);
+        let (mut after, mut ends) = self.weighted_class(class)?.weight_after_work(0);
         for _ in 0..MAX_PARENTS {
             if !ends {
                 break;
@@ -198,7 +200,7 @@ impl<'a> Losses<'a> {
             }
             let (position, _) = self.machine.point(parent)?;
             let weighted = self.weighted_actor(parent)?;
-            let (next, is_end) = weighted.settled(position.saturating_add(1));
+            let (next, is_end) = weighted.weight_after_work(position.saturating_add(1));
             before = before.saturating_add(weighted.weight_at(position));
             after = after.saturating_sub(self.done(class)).saturating_add(next);
             ends = is_end;

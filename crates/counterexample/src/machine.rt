@@ -49,8 +49,8 @@ pub(crate) enum StepOutcome {
     /// The job with this number was created. If `started` is `true`, a new thread runs the job.
     /// Otherwise the job is queued.
     Created { job: usize, started: bool },
-    /// The pool rejected the job, as the plan allows, and the submit was skipped. The field is the
-    /// number of the job, which was created as a done job.
+    /// The pool rejected the job, as the plan allows, and the actor moved past the submit. The
+    /// field is the number of the job, which was created as a done job.
     Rejected(usize),
     /// The pool refused the job.
     Refused,
@@ -60,7 +60,7 @@ pub(crate) enum StepOutcome {
 
 impl StepOutcome {
     /// Returns the number of the job that the step created, or `None` if the step created no job.
-    pub(crate) fn created(self) -> Option<usize> {
+    pub(crate) fn created_job(self) -> Option<usize> {
         match self {
             StepOutcome::Created { job, .. } | StepOutcome::Rejected(job) => Some(job),
             _ => None,
@@ -158,7 +158,7 @@ impl<'a> Machine<'a> {
     /// `submit` of its body. Returns `None` if there is no such job. Ignores the jobs that a client
     /// created before it last started its body again.
     pub(crate) fn child(&self, actor: Parent, submit: usize) -> Option<usize> {
-        let mut next = self.newest(actor);
+        let mut next = self.newest_job(actor);
         for _ in 0..MAX_ACTIONS {
             let number = next?;
             let job = self.jobs.get(number)?;
@@ -272,7 +272,7 @@ impl<'a> Machine<'a> {
             Admission::Rejected => Phase::Done,
             Admission::Refused => return Ok(StepOutcome::Refused),
         };
-        let before = self.newest(actor);
+        let before = self.newest_job(actor);
         self.jobs.push(Job {
             class,
             pool,
@@ -282,7 +282,7 @@ impl<'a> Machine<'a> {
             newest: None,
             before,
         })?;
-        self.set_newest(actor, Some(number));
+        self.set_newest_job(actor, Some(number));
         self.go_to(actor, position.saturating_add(1));
         if phase == Phase::Done {
             return Ok(StepOutcome::Rejected(number));
@@ -326,14 +326,14 @@ impl<'a> Machine<'a> {
         StepOutcome::Moved
     }
 
-    fn newest(&self, actor: Parent) -> Option<usize> {
+    fn newest_job(&self, actor: Parent) -> Option<usize> {
         match actor {
             Parent::Client(number) => self.active_clients.get(number)?.newest,
             Parent::Job(number) => self.jobs.get(number)?.newest,
         }
     }
 
-    fn set_newest(&mut self, actor: Parent, newest: Option<usize>) {
+    fn set_newest_job(&mut self, actor: Parent, newest: Option<usize>) {
         match actor {
             Parent::Client(number) => {
                 if let Some(client) = self.active_clients.get_mut(number) {

@@ -1,5 +1,6 @@
-//! The check of pools in which members of a waiting set are queued. Such a pool must start no
-//! further thread. A waiting set is a set of jobs that wait only for each other.
+//! The check that no new thread can end the wait of a waiting set. A waiting set is a set of jobs
+//! that wait only for each other. Each pool with one of these jobs in its queue must start no
+//! further thread.
 
 ghost use Rattle.std.specs.Prelude.{◌≡◌, ◌<◌, IsTrue, Some, length, slice_get};
 ghost use Rattle.job_bodies.specs.Plan.{pool_at};
@@ -127,9 +128,10 @@ fn stays_at_core(plan: &Plan, world: &World, pool: usize, standing: &[Vector]) -
     state.threads() >= state.core() && (state.is_unbounded() || has_standing(plan, pool, standing))
 }
 
-/// Returns `true` if `standing` has a vector for the pool that satisfies two conditions:
+/// Returns `true` if the pool's vector in `standing` proves that the pool never has more than
+/// `core` threads. The proof needs two conditions:
 ///
-/// - The vector is a standing vector of the pool.
+/// - The vector is a standing vector of the pool: its weights bound the number of queued jobs.
 /// - Under the vector, a rejected job does not increase the weight of a state.
 fn has_standing(plan: &Plan, pool: usize, standing: &[Vector]) -> bool
     requires { pool < length plan.now.pools }

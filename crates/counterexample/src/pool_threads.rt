@@ -37,7 +37,7 @@ impl Walk<'_> {
             return Ok(WalkStep::Nothing);
         };
         self.script.add_take(pool)?;
-        self.settle(Parent::Job(job))?;
+        self.run_to_next_choice(Parent::Job(job))?;
         Ok(WalkStep::Advanced)
     }
 

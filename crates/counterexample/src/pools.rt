@@ -1,4 +1,4 @@
-//! A pool of the lightweight machine.
+//! Pools in a search for a counterexample: their threads and queues, and how they respond to jobs.
 
 use job_bodies::Pool;
 use std::alloc::{AllocError, Global};
@@ -14,11 +14,11 @@ pub(crate) enum Admission {
     Refused,
 }
 
-/// Returns the greatest number of threads that the pool can have in a witness: its core size if its
+/// Returns the greatest number of threads that the pool can have in a search: its core size if its
 /// queue is unbounded, and otherwise its maximum.
 ///
 /// If core threads may time out, Java can start threads above core even if the queue is unbounded.
-/// But it does so only between the steps of a submit, and in a witness each submit is one event.
+/// But it does so only between the steps of a submit, and in a search each submit is one event.
 pub(crate) fn most_threads(pool: &Pool) -> u64 {
     if pool.unbounded { pool.core } else { pool.max }
 }
@@ -168,9 +168,11 @@ impl SearchPool {
         &self.queue
     }
 
-    /// Returns `true` if no thread is idle, or if all idle threads can end. Each queued job then
-    /// waits until a running job ends. If `permanent` is `true`, all threads must be busy, and the
-    /// pool must have `max` threads.
+    /// Returns whether it is possible that no thread takes a queued job before a running job ends.
+    ///
+    /// If `permanent` is `false`, this is so if no thread is idle, or if all idle threads can end.
+    /// If `permanent` is `true`, submits to the pool must not help either: the pool must have `max`
+    /// threads, and all of them must be busy.
     pub(crate) fn is_closed(&self, permanent: bool) -> bool {
         if permanent {
             self.idle == 0 && self.threads == self.max

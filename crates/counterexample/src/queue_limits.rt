@@ -1,9 +1,10 @@
 //! The limits of submits to unbounded queues. An unbounded queue always has room, so a search could
 //! add jobs to it forever. The search makes a submit to such a queue only if the queue has fewer
-//! jobs than the limit of this submit.
+//! jobs than the limit of this submit:
 //!
-//! The running jobs of all pools can have submitted jobs to the queue. The limits leave room for
-//! all of these jobs. They also leave room for a few more jobs, which can become running jobs.
+//! - The limit for a submit by a client is [`FOR_CLIENTS`].
+//! - The limit for a submit by a job is [`FOR_CLIENTS`], plus the number of jobs that the running
+//!   jobs of all pools can submit to this queue.
 
 use crate::pools::most_threads;
 use job_bodies::{Action, Plan};
@@ -63,10 +64,10 @@ impl<'a> QueueLimits<'a> {
     }
 }
 
-/// Returns the maximum number of jobs that a search puts into the pool's unbounded queue. It is the
-/// sum of [`FOR_CLIENTS`] and the submits of all threads of all pools to this queue. For this sum,
-/// each thread runs one body. Of the bodies that the thread can run, this is the one with the most
-/// submits to this queue.
+/// Returns the maximum number of jobs that a search puts into the pool's unbounded queue. This is
+/// the limit for submits by jobs. It is [`FOR_CLIENTS`], plus the number of jobs that the running
+/// jobs of all pools can submit to this queue. Each pool contributes its greatest number of
+/// threads, times the most submits to this queue in a body of its classes.
 pub(crate) fn most_queued(plan: &Plan, pool: usize) -> u64 {
     let mut jobs = FOR_CLIENTS;
     for (number, from) in plan.pools().iter().enumerate() {

@@ -25,9 +25,9 @@ use std::alloc::{AllocError, Global};
 /// The result is the same for each call with the same arguments.
 ///
 /// The search looks for a witness against a changed plan. In the changed plan, this pool must not
-/// reject jobs and has a queue of at least 1. The events of this witness are then replayed in the
-/// given plan. The search can also end at another violation: another pool refuses a submit, or jobs
-/// wait only for each other.
+/// reject jobs, and its queue has a capacity of at least 1. The events of this witness are then
+/// replayed in the given plan. The search can also end at another violation: another pool refuses a
+/// submit, or jobs wait only for each other.
 ///
 /// # Errors
 ///
@@ -54,7 +54,8 @@ pub fn find_rejection(
     }
 }
 
-/// Returns a copy of the plan in which the pool must not reject jobs and has a queue of at least 1.
+/// Returns a copy of the plan in which the pool must not reject jobs and its queue has a capacity
+/// of at least 1.
 fn refusing_plan(alloc: Global, plan: &Plan, pool: usize) -> Result<Plan, AllocError>
     requires { pool < length plan.now.pools }
     ensures { IfOk result (λ refusing. refusing ≡ spec.refusing plan.now pool) }
@@ -73,7 +74,8 @@ fn refusing_pools(alloc: Global, plan: &Plan, pool: usize) -> Result<Vec<Pool>, 
     Ok(pools)
 }
 
-/// Changes the pool into one that must not reject jobs and has a queue of at least 1.
+/// Changes the pool into one that must not reject jobs. Raises a queue capacity of 0 to 1, because
+/// such a pool needs at least 1.
 fn forbid_rejections(pool: &mut Pool)
     ensures { pool.new ≡ spec.refusing_pool pool.old }
 {

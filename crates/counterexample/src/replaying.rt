@@ -1,4 +1,4 @@
-//! The replay of a list of events in a world.
+//! The replay of a list of events from a plan's initial state.
 
 ghost use Rattle.std.specs.Prelude.{◌≡◌, IfOk};
 ghost use Rattle.written_machine.specs.Reach.{start};

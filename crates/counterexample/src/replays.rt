@@ -1,4 +1,5 @@
-//! Replays of selected events of a script. A replay skips events that are no longer possible.
+//! Replays of selected events of a script, which is a list of events. A replay skips events that
+//! are no longer possible, because others were left out.
 
 use crate::machine::{Machine, Phase, StepOutcome};
 use crate::scripts::Script;
@@ -68,8 +69,8 @@ impl<'a> Replay<'a> {
         Ok(!members.is_empty())
     }
 
-    /// Ends the idle threads of each pool that has one of the members in its queue. The members
-    /// must wait only for each other as soon as these threads have ended.
+    /// Ends the idle threads of each pool that has a job of `members` in its queue. The jobs in
+    /// `members` must wait only for each other as soon as these threads have ended.
     pub(crate) fn end_idle_threads(&mut self, members: &[usize]) -> Result<(), AllocError> {
         for member in members {
             let Some(job) = self.machine.jobs.get(*member).copied() else {
@@ -144,7 +145,7 @@ impl<'a> Replay<'a> {
         }
         self.script.add(actor, outcome)?;
         self.is_refused = outcome == StepOutcome::Refused;
-        if let Some(job) = outcome.created() {
+        if let Some(job) = outcome.created_job() {
             if let Some(place) = made.and_then(|made| self.jobs.get_mut(made)) {
                 *place = Some(Parent::Job(job));
             }

@@ -33,7 +33,7 @@ impl Script {
 
     /// Appends the event in which this actor performs a step with this outcome.
     pub(crate) fn add(&mut self, actor: Parent, outcome: StepOutcome) -> Result<(), AllocError> {
-        let made = outcome.created();
+        let made = outcome.created_job();
         let event = match actor {
             Parent::Client(client) => Event::Client(client),
             Parent::Job(job) => Event::Job(job),
@@ -95,7 +95,8 @@ impl Script {
         Ok(numbers)
     }
 
-    /// Adds a client of this client kind to the script and to the machine, and returns this client.
+    /// Starts a client of this client kind in the machine, records it in the script, and returns
+    /// the client.
     pub(crate) fn begin(
         &mut self,
         machine: &mut Machine,

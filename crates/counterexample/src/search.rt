@@ -1,6 +1,7 @@
-//! The search for a witness: several kinds of walks, and then a best-first search. A walk starts in
-//! the plan's initial state and makes possible choices. A guided walk makes the choices that lose
-//! the least weight under a vector.
+//! The search for a witness, which proves that a plan is not safe. The search performs several
+//! kinds of walks, and then a best-first search. A walk starts in the plan's initial state and
+//! makes possible choices. A *guided* walk uses a vector, which gives weights to workers, clients
+//! and jobs. The walk prefers the choices that lose the least weight.
 //!
 //! A violation is *permanent* in two cases:
 //!
@@ -117,7 +118,7 @@ impl Search<'_> {
             return Ok(Some(found));
         }
         let potentials = missed_vectors(self.alloc, self.plan)?;
-        if let Some(found) = self.guided(&potentials)? {
+        if let Some(found) = self.search_guided(&potentials)? {
             return Ok(Some(found));
         }
         if let Some(found) = self.random_walks()? {
@@ -161,7 +162,10 @@ impl Search<'_> {
 
     /// Performs guided walks for each vector in `potentials`, until one of them finds a permanent
     /// violation. All these walks together may visit half of the remaining states.
-    fn guided(&mut self, potentials: &[Potential]) -> Result<Option<CandidateWitness>, AllocError> {
+    fn search_guided(
+        &mut self,
+        potentials: &[Potential],
+    ) -> Result<Option<CandidateWitness>, AllocError> {
         self.reserve_half();
         for potential in potentials {
             for number in 0..GUIDED_WALKS {
@@ -308,9 +312,10 @@ impl Search<'_> {
     }
 }
 
-/// Returns the maximum number of states that one walk may visit. It is 12 times a sum, plus 128.
-/// Each pool adds its maximum and its queue capacity to the sum. A pool with an unbounded queue
-/// adds its core size and [`most_queued`] instead.
+/// Returns the maximum number of states that one walk may visit. It is 128, plus 12 for each thread
+/// and each queued job that the pools can have. For a pool with a bounded queue, these numbers are
+/// its maximum and its queue capacity. For a pool with an unbounded queue, they are its core size
+/// and [`most_queued`].
 fn longest_walk(plan: &Plan) -> usize {
     let mut room = 0u64;
     for (number, pool) in plan.pools().iter().enumerate() {

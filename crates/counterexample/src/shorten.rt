@@ -15,9 +15,8 @@ const MAX_REPLAYED: u64 = 6_000_000;
 const WHOLE_REPLAYS: u64 = 24;
 /// The maximum number of rounds, each of which tries every kind of removal.
 const MAX_ROUNDS: usize = 8;
-/// The maximum number of times that a removal halves the size of its parts. A removal first tries
-/// to remove large parts of a script, and then smaller ones. The maximum is large enough for every
-/// script.
+/// The maximum number of part sizes that are tried. First large parts of a script are removed, then
+/// parts of half this size, and so on. The maximum is large enough for every script.
 const MAX_HALVES: usize = 40;
 
 /// The state of the shortening of a script: the script so far, and the number of events that may
@@ -118,9 +117,12 @@ impl Shortener<'_> {
         Ok(())
     }
 
-    /// Tries, for each event, to remove this event and all equal later events. Two steps of the
-    /// same actor are equal events. If threads of the same pool take jobs, these are equal events
-    /// too. The same applies if threads of the same pool end.
+    /// Tries, for each event, to remove this event and all equal later events. Two events are equal
+    /// in three cases:
+    ///
+    /// - Both are steps of the same actor.
+    /// - In both, a thread of the same pool takes a job.
+    /// - In both, a thread of the same pool ends.
     fn with_actors_still(&mut self) -> Result<(), AllocError> {
         for from in (0..self.script.steps.len()).rev() {
             if let Some(act) = self.script.steps.get(from).copied() {

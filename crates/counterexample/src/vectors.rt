@@ -1,7 +1,10 @@
-//! The vectors that show where a plan may fail: their totals exceed the bounds that the plan's
-//! sizes set. The standing vector of a pool bounds the number of its queued jobs. The blocked
-//! vector of a pool bounds the number of its jobs that wait for other jobs. A pool that may reject
-//! jobs, or whose queue is unbounded, needs no standing vector.
+//! The vectors that show where a plan may fail. A vector gives weights to workers, clients and
+//! jobs, so that its total is an upper bound on a number of jobs. A plan may fail where a total is
+//! larger than the plan's sizes allow. Each pool can have two vectors:
+//!
+//! - The standing vector bounds the number of queued jobs. A pool that may reject jobs, or whose
+//!   queue is unbounded, needs no standing vector.
+//! - The blocked vector bounds the number of jobs that wait for other jobs.
 
 use job_bodies::Plan;
 use least_vectors::{Kind, Levels, ResizedPlan, reach};
@@ -36,7 +39,7 @@ pub(crate) fn missed_vectors(alloc: Global, plan: &Plan) -> Result<Vec<Potential
     };
     for (number, pool) in plan.pools().iter().enumerate() {
         if !pool.needs_no_bound() {
-            vectors.holds(&growing, number, Kind::Standing, pool.queue)?;
+            vectors.check_total(&growing, number, Kind::Standing, pool.queue)?;
         }
     }
     let mut ranks = vec![in alloc; None; plan.pools().len()]?;
@@ -59,7 +62,7 @@ impl MissedVectors {
     /// Returns `true` if the pool's lightest vector of this kind has a total of at most `limit`. If
     /// the total is larger, records this vector and returns `false`. Also returns `false` if there
     /// is no vector of this kind.
-    fn holds(
+    fn check_total(
         &mut self,
         growing: &ResizedPlan,
         pool: usize,
@@ -87,8 +90,8 @@ impl MissedVectors {
         Ok(false)
     }
 
-    /// Gives `rank` to each pool that has no rank and has enough threads. A pool has enough threads
-    /// if the first of these numbers is less than the second:
+    /// Gives `rank` to each pool that has no rank and has enough threads. Ranks decide which gets
+    /// are counted. A pool has enough threads if the first of these numbers is less than the second:
     ///
     /// - the total of the pool's lightest blocked vector for this rank, and
     /// - the number of threads that the pool has while a job is queued.
@@ -121,7 +124,7 @@ impl MissedVectors {
                 lending: true,
             };
             let limit = pool.least_threads().saturating_sub(1);
-            if self.holds(growing, number, kind, limit)? {
+            if self.check_total(growing, number, kind, limit)? {
                 *place = Some(rank);
                 moved = true;
             }

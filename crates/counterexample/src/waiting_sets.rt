@@ -7,8 +7,8 @@ use job_bodies::MAX_POOLS;
 use std::alloc::{AllocError, Global};
 use written_machine::Parent;
 
-/// The maximum work for making one set of jobs minimal. The work is the number of attempts to
-/// remove a member, times the number of jobs.
+/// The maximum work to find a minimal set. Each attempt to remove a member visits all jobs, so the
+/// work is the number of attempts times the number of jobs.
 const MAX_LOOKS: usize = 4_000_000;
 
 /// A set of jobs of a machine, by number.
@@ -97,8 +97,10 @@ impl JobSet {
     /// Removes members until each remaining member waits only for members. If `permanent` is
     /// `true`, also removes each queued job in a pool with fewer than `max` threads.
     ///
-    /// The number of rounds is at most the number of pools plus 2. The reason is that each round
-    /// between the first and the last finds fewer closed pools than the round before.
+    /// Each round computes the *closed* pools, whose queued jobs wait only for members. Then it
+    /// removes the members that wait for no job or for a job outside the set. The number of rounds
+    /// is at most the number of pools plus 2. The reason is that each round between the first and
+    /// the last finds fewer closed pools than the round before.
     fn shrink(
         &mut self,
         alloc: Global,

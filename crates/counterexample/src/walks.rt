@@ -14,8 +14,9 @@ use job_bodies::{Action, Plan};
 use std::alloc::{AllocError, Global};
 use written_machine::Parent;
 
-/// The factor by which the loss of a choice is multiplied. Then the key of the choice is added. The
-/// factor is greater than every key, so the keys decide only among choices with equal losses.
+/// The factor by which a walk multiplies the loss of a choice, before it adds the key of the
+/// choice. The walk makes the choice with the least result. The factor is greater than every key,
+/// so the keys decide only among choices with equal losses.
 const FOR_A_LOSS: u64 = 10_000_000_000_000;
 
 /// The violation in which a list of events ends. Every violation except `StuckNow` is *permanent*.
@@ -38,7 +39,7 @@ pub(crate) struct Rules {
     /// Among choices with equal losses, it makes the one with the least key. In a walk without a
     /// vector, all losses are 0.
     pub(crate) keys: Vec<u64>,
-    /// The maximum number of clients that move.
+    /// The maximum number of clients that take part in the walk. All other clients never act.
     pub(crate) max_active_clients: usize,
     /// The maximum number of states that the walk visits, including the initial state.
     pub(crate) max_states: usize,
@@ -82,7 +83,8 @@ pub(crate) struct Walk<'a> {
     /// list.
     pub(crate) rejected: Vec<usize>,
     /// Whether an actor has stopped since this flag was last cleared. An actor stops at a get that
-    /// must wait, and a client also stops at the end of its body.
+    /// must wait, and a client that does not repeat also stops at the end of its body. After a
+    /// stop, jobs may wait only for each other, so the search checks for this.
     pub(crate) has_blocked: bool,
 }
 
@@ -207,7 +209,7 @@ impl<'a> Walk<'a> {
                 if let Some(begun) = self.begun.get_mut(kind) {
                     *begun = begun.saturating_add(1);
                 }
-                self.settle(client)?;
+                self.run_to_next_choice(client)?;
                 self.submit_of(client)
             }
             Some(Choice::Take(class)) => self.take(class),
@@ -318,11 +320,11 @@ impl<'a> Walk<'a> {
         if outcome == StepOutcome::Refused {
             return Ok(WalkStep::Refused);
         }
-        self.settle(actor)?;
+        self.run_to_next_choice(actor)?;
         match outcome {
             StepOutcome::Rejected(_) => Ok(WalkStep::Rejected),
             StepOutcome::Created { job, started: true } => {
-                self.settle(Parent::Job(job))?;
+                self.run_to_next_choice(Parent::Job(job))?;
                 Ok(WalkStep::Advanced)
             }
             _ => Ok(WalkStep::Advanced),
@@ -332,7 +334,7 @@ impl<'a> Walk<'a> {
     /// Performs the actor's steps up to its next submit, a get that must wait, or its end. At a
     /// submit, adds the actor to those that are ready for this submit. If a job ends while its
     /// parent waits for this job, continues with the steps of the parent.
-    pub(crate) fn settle(&mut self, actor: Parent) -> Result<(), AllocError> {
+    pub(crate) fn run_to_next_choice(&mut self, actor: Parent) -> Result<(), AllocError> {
         let mut actor = actor;
         for _ in 0..u64::MAX {
             let Some((position, action)) = self.machine.point(actor) else {

@@ -106,8 +106,8 @@ fn is_length(text: &str) -> bool {
 /// length, such as `work 0`. The text must not be a valid action. Returns `None` if
 ///
 /// - the first word of the text is not `work`, or there is no second word,
-/// - the text has wrong spaces, or
-/// - the text looks like several actions.
+/// - the text has a tab, two spaces in sequence, or a space at its start or end, or
+/// - the text looks like several actions, such as `work 1, work 2`.
 pub(crate) fn range_of_work(text: &str) -> Option<NumberRange> {
     let words = words_of(text);
     if words.verb == "work"
@@ -157,8 +157,11 @@ fn is_spaced(text: &str) -> bool {
     !bytes.is_empty() && last == b' '
 }
 
-/// Returns whether the text looks like several actions. Such a text has more than two words, and a
-/// comma, a semicolon or a second verb.
+/// Returns whether the text looks like several actions, such as `work 1, work 2`. Such a text has
+/// more than two words, and meets one of these conditions:
+///
+/// - It has a comma or a semicolon.
+/// - The first word is `work`, `submit` or `get`, and so is a word between the first and the last.
 fn has_several_actions(words: Words<'_>, text: &str) -> bool {
     words.count > 2 && (has_separator(text) || has_two_verbs(words, text))
 }
@@ -222,8 +225,8 @@ fn submit_form(alloc: Global, class: &str) -> Result<String, AllocError> {
     format!(in alloc; "write submit {class}, or submit {class} as NAME if its result is needed")
 }
 
-/// Returns the message for a text whose first word is not `work`, `submit` or `get`. `verb` is the
-/// first word of the text, and `first` is the second one.
+/// Returns the message for a text whose first word, `verb`, is not `work`, `submit` or `get`.
+/// `first` is the word after `verb`.
 fn verb_error(alloc: Global, verb: &str, first: &str) -> Result<String, AllocError> {
     match verb {
         "execute" | "invoke" | "start" | "schedule" => submit_form(alloc, first),

@@ -23,7 +23,7 @@ struct Slot<'a> {
 
 /// The result of [`mark_as_got`], which records that an action gets a job.
 #[derive(Clone, Copy)]
-enum Marked {
+enum MarkResult {
     /// The action gets the job, which no earlier action got.
     Now,
     /// An earlier action got the job. The field is the index of that action.
@@ -197,25 +197,25 @@ fn check_get<'a>(
     slots: &mut Vec<Slot<'a>>,
 ) -> Result<(), AllocError> {
     match mark_as_got(slots, name, checked.action) {
-        Marked::Now => Ok(()),
-        Marked::Before(action) => report_got(collector, checked, name, action),
-        Marked::Missing => report_missing(collector, checked, name, slots),
+        MarkResult::Now => Ok(()),
+        MarkResult::Before(action) => report_got(collector, checked, name, action),
+        MarkResult::Missing => report_missing(collector, checked, name, slots),
     }
 }
 
 /// Records that an action gets the job with this name. `action` is the index of the action. Changes
 /// nothing if no job was submitted under the name, or if an earlier action got the job. The result
 /// says which of these three cases applies.
-fn mark_as_got(slots: &mut [Slot<'_>], name: &str, action: usize) -> Marked {
-    let mut marked = Marked::Missing;
+fn mark_as_got(slots: &mut [Slot<'_>], name: &str, action: usize) -> MarkResult {
+    let mut marked = MarkResult::Missing;
     for slot in slots.iter_mut() {
         if slot.name == name {
             match slot.got {
                 None => {
                     slot.got = Some(action);
-                    return Marked::Now;
+                    return MarkResult::Now;
                 }
-                Some(before) => marked = Marked::Before(before),
+                Some(before) => marked = MarkResult::Before(before),
             }
         }
     }

@@ -24,8 +24,8 @@ pub(crate) fn words_of_circle(
     Ok(words)
 }
 
-/// Returns `between` if the class submits itself through the classes in this list, in this order.
-/// Otherwise returns an empty list.
+/// Returns `between` if the class submits itself through these classes, in this order. Otherwise
+/// returns an empty list. So a message lists only submits that the plan has.
 fn checked_circle<'a>(plan: &Plan, class: usize, between: &'a [usize]) -> &'a [usize]
     ensures { 0 < length result.now → IsTrue (spec.submits_through plan.now class result.now class) }
 {

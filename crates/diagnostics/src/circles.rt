@@ -7,8 +7,8 @@ use std::alloc::{AllocError, Global};
 /// possibly through other classes, back to the same class.
 #[derive(Drop)]
 struct CircleSearch {
-    /// The submitter of each class, or `None` if the search has not found the class. The search
-    /// finds a class in the body of the class's submitter.
+    /// For each class, the class in whose body the search first found a submit of this class, or
+    /// `None` if the search has found no such submit.
     submitters: Vec<Option<usize>>,
     /// The classes that were found, in the order in which they were found.
     found: Vec<usize>,
@@ -57,8 +57,8 @@ impl CircleSearch {
         Ok(())
     }
 
-    /// Returns the submitter of the class, or `None` if the search has not found the class. The
-    /// search finds a class in the body of the class's submitter.
+    /// Returns the class in whose body the search first found a submit of `class`. Returns `None`
+    /// if the search has found no such submit.
     fn submitter_of(&self, class: usize) -> Option<usize> {
         self.submitters.get(class).copied().flatten()
     }
@@ -79,9 +79,8 @@ pub(crate) fn classes_between(
     Ok(between)
 }
 
-/// Appends the classes through which the class submits itself, in reverse order: first the
-/// submitter of `class`, then the submitter of that submitter, and so on.
-/// [`CircleSearch::submitter_of`] returns these submitters.
+/// Appends the classes through which the class submits itself, in reverse order. The first one
+/// submits `class`, and each further one submits the one before it.
 fn push_submitters(
     between: &mut Vec<usize>,
     search: &CircleSearch,

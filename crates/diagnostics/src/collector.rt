@@ -6,7 +6,7 @@ use crate::diagnostic::Diagnostic;
 use job_bodies::PlanFault;
 use std::alloc::{AllocError, Global};
 
-/// The maximum number of faults besides the one that the plan parser reports.
+/// The maximum number of faults that are listed besides the one that the plan parser reports.
 const MAX_OTHERS: usize = 99;
 
 /// The faults that were found so far: the fault that the plan parser reports, the first 99 other

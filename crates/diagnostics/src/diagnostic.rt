@@ -17,7 +17,8 @@ pub struct NumberRange {
 /// A diagnostic for one fault.
 #[derive(Drop)]
 pub struct Diagnostic {
-    /// The number of the fault, and its entry and action. Other commands print these.
+    /// The number of the fault, and the entry and action that have it. Commands other than `ask`
+    /// print only this.
     pub fault: PlanFault,
     /// The place of the fault in the text.
     pub place: TextPlace,

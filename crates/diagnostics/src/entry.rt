@@ -72,7 +72,7 @@ impl<'a> PlacedEntry<'a> {
 
     /// Returns the kind and the name of the entry for messages, such as `pool db`. If the entry has
     /// no name, returns `this` and the kind, such as `this pool`.
-    pub(crate) fn who(&self, alloc: Global) -> Result<String, AllocError> {
+    pub(crate) fn kind_and_name(&self, alloc: Global) -> Result<String, AllocError> {
         let list = list_of(self.part);
         match self.text("name") {
             Some(name) => format!(in alloc; "{list} {name}"),
@@ -134,7 +134,7 @@ impl<'a> PlacedEntry<'a> {
         words: &str,
         range: Option<NumberRange>,
     ) -> Result<(), AllocError> {
-        let who = self.who(collector.alloc)?;
+        let who = self.kind_and_name(collector.alloc)?;
         let what = format!(in collector.alloc; "{who}: {words}")?;
         let fault = PlanFault::at_entry(self.part, self.index, number);
         collector.push(Diagnostic {
@@ -158,7 +158,7 @@ impl<'a> PlacedEntry<'a> {
         words: &str,
         range: Option<NumberRange>,
     ) -> Result<(), AllocError> {
-        let who = self.who(collector.alloc)?;
+        let who = self.kind_and_name(collector.alloc)?;
         let what = format!(in collector.alloc; "{who}, action {action} \"{text}\": {words}")?;
         let fault = PlanFault::at_action(self.part, self.index, action, number);
         collector.push(Diagnostic {

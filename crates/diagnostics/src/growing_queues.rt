@@ -84,7 +84,8 @@ fn push_client(
     }
 }
 
-/// Appends a lint for each action of the body for which [`fills_queue`] returns true.
+/// Appends a lint for each submit of the body to a pool with an unbounded queue, if the body has no
+/// get of the submitted job.
 fn push_body(
     found: &mut Vec<Lint>,
     plan: &Plan,

@@ -15,9 +15,9 @@ pub(crate) fn zero_hint(key: &str) -> &'static str
     }
 }
 
-/// Returns the end of the message for a string in place of a number. If the key is `max` or `queue`
-/// and `has_no_limit` is true, the end asks whether `unbounded` was meant. Otherwise the end is
-/// empty.
+/// Returns the end of the message for a string in place of a number. `has_no_limit` says whether
+/// the string means that a size has no limit, such as `unlimited`. If it does, and the key is `max`
+/// or `queue`, the end asks whether `unbounded` was meant. Otherwise the end is empty.
 pub(crate) fn no_limit_hint(key: &str, has_no_limit: bool) -> &'static str
     ensures { result.now ≡ spec.no_limit_hint key.now has_no_limit }
 {
@@ -34,8 +34,8 @@ fn can_be_unbounded(key: &str) -> bool
     matches!(key, "max" | "queue")
 }
 
-/// Returns whether a word says that a size has no limit. `letters` is the word in lowercase,
-/// without other characters than letters and digits.
+/// Returns whether a word, such as `unlimited`, says that a size has no limit. `letters` has only
+/// the letters and digits of the word, in lowercase.
 pub(crate) fn names_no_limit(letters: &str) -> bool
     ensures { result ≡ spec.names_no_limit letters.now }
 {
@@ -45,9 +45,13 @@ pub(crate) fn names_no_limit(letters: &str) -> bool
     )
 }
 
-/// Returns the end of the message for a number that is larger than every valid one. The end says to
-/// write `unbounded`, if the key is `queue`, or if it is `max` and `has_no_limit` is true, since the
-/// queue has no limit. Otherwise the end is empty.
+/// Returns the end of the message for a number that is larger than every valid one. `has_no_limit`
+/// says whether the queue of the pool has no limit. The end says to write `unbounded` in two cases:
+///
+/// - The key is `queue`.
+/// - The key is `max`, and the queue has no limit.
+///
+/// Otherwise the end is empty.
 pub(crate) fn large_hint(key: &str, has_no_limit: bool) -> &'static str
     ensures { result.now ≡ spec.large_hint key.now has_no_limit }
 {
@@ -115,7 +119,6 @@ pub(crate) fn word_hint(key: &str) -> Option<&'static str>
     }
 }
 
-/// Returns whether the line ends with a semicolon.
 pub(crate) fn ends_with_semicolon(line: &str) -> bool
     ensures { result ≡ spec.ends_with_semicolon line.now }
 {

@@ -1,6 +1,6 @@
 //! Hints about keys that a plan does not have, such as those of Java and Spring. Each hint is the
-//! end of a message. `letters` is the result of [`letters_of`](crate::letters::letters_of) for the
-//! key, so one word stands for all spellings of a key.
+//! end of a message. The parameter `letters` has only the letters and digits of the key, in
+//! lowercase, so `coreSize` and `core-size` get the same hint.
 
 ghost use Rattle.std.specs.Prelude.{◌≡◌, option_map};
 ghost use Rattle.diagnostics.specs.KeyHints as spec;
@@ -8,7 +8,8 @@ ghost use Rattle.diagnostics.specs.KeyHints as spec;
 use job_bodies::Part;
 
 /// Returns the hint for a key that an entry of this kind cannot have. For `Part::Text`, returns the
-/// hint for a key at the top level. Returns `None` if the key is not known.
+/// hint for a key at the top level. `letters` is the result of
+/// [`letters_of`](crate::letters::letters_of) for the key. Returns `None` if there is no hint.
 pub(crate) fn key_hint(part: Part, letters: &str) -> Option<&'static str>
     ensures { option_map (λ hint. hint.now) result ≡ spec.key_hint part letters.now }
 {

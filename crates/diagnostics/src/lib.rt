@@ -1,10 +1,12 @@
 //! Diagnostics and lints for the text of a plan. A diagnostic says where a fault is, what is wrong
 //! and how to fix it. A lint warns of a part of a valid plan that is probably a mistake.
 //!
-//! The first diagnostic is for the fault that the plan parser reports. The warnings are exactly the
-//! lints of the plan. Each diagnostic and each warning is printed on a line of its own. A message
-//! about a class that submits itself can list submits. The plan has each of these submits. The
-//! contracts promise nothing else about messages and places.
+//! The contracts promise these facts, and nothing else about messages and places:
+//!
+//! - The first diagnostic is for the fault that the plan parser reports.
+//! - There is a warning for each lint of the plan, and there are no other warnings.
+//! - Each diagnostic and each warning is printed on a line of its own.
+//! - If the message about a class that submits itself lists submits, the plan has these submits.
 #![tactic(auto)]
 
 mod actions;

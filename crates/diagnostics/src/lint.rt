@@ -10,15 +10,17 @@ use job_bodies::Part;
 /// client kinds and actions by their numbers, which begin at 0.
 #[derive(Clone, Copy)]
 pub enum Lint {
-    /// A certificate accepts the plan that [`at_core`](crate::at_core) returns, which has lowered
-    /// maximums. The checks of the plan do not search for this certificate. The caller of the
-    /// checks states that the certificate exists.
+    /// The plan would be SAFE with some maximums lowered to the core sizes of their pools. A
+    /// certificate accepts the plan with these lowered maximums, which [`at_core`](crate::at_core)
+    /// returns. This crate does not search for the certificate: the caller of
+    /// [`warnings_of`](crate::warnings_of) says whether there is one.
     SafeAtCore,
     /// This class submits itself, directly or through other classes.
     SubmitsItself(usize),
     /// The body of a class or client kind has a submit without a get, and repeating clients cause
-    /// such submits without limit. The fields are the kind of entry (class or client kind), the
-    /// number of the entry, and the number of the action.
+    /// such submits without limit. The job goes to a pool that must not reject jobs and has a
+    /// bounded queue. The fields are the kind of entry (class or client kind), the number of the
+    /// entry, and the number of the action.
     NeverGot(Part, usize, usize),
     /// The core threads of this pool may time out, and the last thread of the pool can wait at a get
     /// until another job of the pool ends.
@@ -57,23 +59,23 @@ pub enum Lint {
     /// Such a pool has one core thread, and a bounded queue with a capacity below this number. The
     /// plan does not allow such a pool to reject jobs.
     Crowd(usize),
-    /// The body of a class or client kind has a `work` with a length of at least 50 units. This
-    /// length is also a size of a pool or the count of a client kind. The fields are the kind of
-    /// entry (class or client kind), the number of the entry, the number of the action, and the
-    /// length.
+    /// The length of a `work` is a duration, but looks like a number of threads or jobs. The length
+    /// is at least 50 units, and equals a size of a pool or the count of a client kind. The fields
+    /// are the kind of entry (class or client kind), the number of the entry, the number of the
+    /// action, and the length.
     WorkLikeASize(Part, usize, usize, u32),
-    /// The body of a class or client kind submits a job while a future is open, and the pool of the
-    /// job may reject it. A future is open if the submit is between another submit and the get of
-    /// that other submit. The fields are the kind of entry (class or client kind), the number of
-    /// the entry, and the number of the action.
+    /// The body of a class or client kind submits a job while the future of an earlier job is open,
+    /// and the pool of the new job may reject it. The future is open if the get of the earlier job
+    /// comes after the new submit. The fields are the kind of entry (class or client kind), the
+    /// number of the entry, and the number of the action.
     OpenFuture(Part, usize, usize),
     /// The body of a class or client kind submits a job to a pool with an unbounded queue and has
     /// no get of this job. Repeating clients cause this submit again and again, so the queue may
     /// grow without limit. The fields are the kind of entry (class or client kind), the number of
     /// the entry, and the number of the action.
     QueueMayGrow(Part, usize, usize),
-    /// A given certificate does not accept the plan. The checks of the plan never report this lint.
-    /// The caller that reports it provides the message.
+    /// A certificate was given with the plan, but does not accept the plan. This crate never
+    /// reports this lint. A caller that reports it writes the message too.
     StaleCertificate,
 }
 
@@ -85,7 +87,7 @@ pub fn is_note(lint: Lint) -> bool
     matches!(lint, Lint::RunInCaller(_) | Lint::OpenFuture(_, _, _))
 }
 
-/// Returns whether at least one of these is a warning instead of a note.
+/// Returns whether the list has a warning that is not a note.
 pub fn has_warning(warnings: &[Warning]) -> bool
     ensures { result ≡ spec.has_warning warnings.now }
 {

@@ -8,12 +8,12 @@ ghost use Rattle.diagnostics.specs.Lints as spec;
 use crate::open_futures::has_open_future;
 use job_bodies::{Action, Class, Client, Plan, Pool, has_get_of};
 
-/// The number by which [`is_far_above`] divides the capacity of a queue. The capacity is far above
-/// a number of jobs if the quotient exceeds that number of jobs.
+/// The number by which [`is_far_above`] divides the capacity of a queue, before it compares the
+/// result with a number of jobs.
 const FAR_ABOVE: u64 = 10;
 
 /// The least length of a `work`, in units, that can look like a size. For a shorter length,
-/// [`looks_like_a_size`] returns `false` without a look at the sizes and counts of the plan.
+/// [`looks_like_a_size`] always returns `false`.
 const LIKE_A_SIZE: u32 = 50;
 
 /// Returns whether clients submit the class with this number, directly or through other jobs.
@@ -211,7 +211,7 @@ fn submits_to_small_alone(plan: &Plan, count: u64, body: &[Action]) -> bool
     body.iter().all(|action| is_for_small(plan, count, *action))
 }
 
-/// Returns whether the action is no submit, or submits a job to a pool that is small for `count`
+/// Returns whether the action is not a submit, or submits a job to a pool that is small for `count`
 /// clients (see [`is_small`]).
 fn is_for_small(plan: &Plan, count: u64, action: Action) -> bool
     ensures { result ≡ spec.is_for_small plan.now count action }

@@ -115,7 +115,7 @@ fn lint_of_cause(cause: Cause) -> Lint
 }
 
 /// Appends the lints of the pools, classes and client kinds. If the plan has no clients, or if its
-/// clients submit nothing, appends only one lint, which says this.
+/// clients submit nothing, appends only the lint that reports this.
 fn push_plan(
     found: &mut Vec<Lint>,
     plan: &Plan,
@@ -331,8 +331,9 @@ fn push_client(
     push_body(found, plan, needed, Part::Client, number, &client.body)
 }
 
-/// Appends a lint for each `work` of the body for which [`looks_like_a_size`] returns `true`. Also
-/// appends a lint for each submit of the body for which [`leaves_a_future`] returns `true`.
+/// Appends a lint for each `work` of the body whose length looks like a size of the plan (see
+/// [`looks_like_a_size`]). Also appends a lint for each submit whose job may be rejected while a
+/// future is open (see [`leaves_a_future`]).
 fn push_body(
     found: &mut Vec<Lint>,
     plan: &Plan,
@@ -381,7 +382,6 @@ fn push_action(
     }
 }
 
-/// Appends the lint if `is_there` is true.
 pub(crate) fn push_if(found: &mut Vec<Lint>, is_there: bool, lint: Lint) -> Result<(), AllocError>
     ensures { OnOk result (found.new.items ≡ found.old.items ++ spec.only_if is_there lint) }
 {

@@ -11,8 +11,9 @@ pub(crate) struct ListNames<'a> {
     /// The kind of the entries.
     part: Part,
     names: Vec<&'a str>,
-    /// Whether the list has no other names. If this is false, another fault may hide a name: the
-    /// fault of an entry without a valid name, or the fault of a list.
+    /// Whether `names` certainly has all names of the list. Names may be missing if the list is not
+    /// an array, or if an entry is not a table or has no valid name. They may also be missing if
+    /// the plan has an unknown key at the top level, such as `pools`.
     is_complete: bool,
 }
 
@@ -50,13 +51,13 @@ impl<'a> ListNames<'a> {
     /// suggests what to write instead.
     pub(crate) fn unknown(&self, alloc: Global, name: &str) -> Result<String, AllocError> {
         let list = list_of(self.part);
-        let right = self.right(alloc, name)?;
+        let right = self.unknown_name_hint(alloc, name)?;
         format!(in alloc; "unknown {list} {name}{right}")
     }
 
     /// Returns the end of the message for a name that no entry has. It is empty if the names are
     /// not complete.
-    fn right(&self, alloc: Global, name: &str) -> Result<String, AllocError> {
+    fn unknown_name_hint(&self, alloc: Global, name: &str) -> Result<String, AllocError> {
         if !self.is_complete {
             return String::from_str(alloc, "");
         }

@@ -82,8 +82,8 @@ fn likely_cause(
     }
 }
 
-/// Returns the end of the message for a get of `name`. Each earlier submit of the body has a name,
-/// and none of these names is similar to `name`. `names` has these names.
+/// Returns the end of the message for a get of `name`. `names` has the names of the earlier
+/// submits. Each of these submits must have a name, and none of the names may be similar to `name`.
 ///
 /// - If there are earlier submits, the end lists their names.
 /// - Otherwise the end says which submit to write. If a later submit has no `as`, the end also

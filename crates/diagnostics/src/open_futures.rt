@@ -13,8 +13,8 @@ pub fn has_open_future(body: &[Action], position: usize) -> bool
     body.iter().enumerate().any(|(number, action)| is_get_around(position, number, *action))
 }
 
-/// Returns whether `action` is a get after `position`, and the job of this get was submitted before
-/// `position`. `number` is the position of `action` itself.
+/// Returns whether `action` comes after `position` and gets a job that was submitted before
+/// `position`. `number` is the index of `action` in the body.
 pub(crate) fn is_get_around(position: usize, number: usize, action: Action) -> bool
     ensures { result ≡ spec.is_get_around position number action }
 {

@@ -41,8 +41,8 @@ pub fn faults_of(alloc: Global, text: &[u8], fault: PlanFault) -> Result<Faults,
 }
 
 /// Returns the diagnostic for the fault that the plan parser reports. `found` is the diagnostic
-/// that the checks found for this fault. If it is `None`, the message is the rule that the plan
-/// violates, and the place is the beginning of the text.
+/// that the checks found for this fault. If `found` is `None`, the message is the rule that the
+/// plan violates, and the place is the beginning of the text.
 fn first_of(
     alloc: Global,
     fault: PlanFault,
@@ -131,8 +131,8 @@ fn check_table(
 ///
 /// # Errors
 ///
-/// Returns [`AllocError`] if memory runs out. An error without a place also means that memory ran
-/// out.
+/// Returns [`AllocError`] if memory runs out, here or in the TOML parser. If `error` has no place
+/// in the text, memory ran out in the TOML parser.
 fn check_error(
     collector: &mut FaultCollector,
     text: &str,

@@ -6,8 +6,9 @@ pub(crate) fn key_of(line: &str) -> Option<&str> {
     Some(key.trim())
 }
 
-/// Returns the first line with this key in the entry of the line `error`. Returns `None` if no line
-/// of the entry before `error` has the key.
+/// Returns the number of the first line that defines this key in the same entry as line `error`.
+/// Lines are counted from 1. Returns `None` if no line before `error` defines the key in this
+/// entry.
 pub(crate) fn earlier_line(text: &str, key: &str, error: usize) -> Option<usize> {
     let mut number = 0usize;
     let mut found = None;

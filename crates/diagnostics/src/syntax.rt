@@ -168,8 +168,12 @@ pub(crate) fn line_of(text: &str, place: TextPlace) -> &str {
     ""
 }
 
-/// Returns a hint if the line has a common mistake: it begins with `//`, is the separator `%%`, has
-/// curly double quotes, or has an odd number of plain double quotes.
+/// Returns a hint if the line has one of these common mistakes:
+///
+/// - It begins with `//`.
+/// - It is `%%`, which separates a plan from a second text.
+/// - It has curly double quotes.
+/// - It has an odd number of plain double quotes.
 fn character_hint(line: &str) -> Option<&'static str> {
     let line = line.trim();
     if line.starts_with("//") {
@@ -190,8 +194,8 @@ fn character_hint(line: &str) -> Option<&'static str> {
     None
 }
 
-/// Returns a hint for one of these mistakes, or `None`: a wrong header of an entry, a semicolon at
-/// the end of the line, or a value that is not TOML.
+/// Returns a hint if the line has one of these mistakes: a wrong header of an entry, a semicolon at
+/// the end of the line, or a value that is not TOML. Otherwise returns `None`.
 fn entry_hint(line: &str) -> Option<&'static str> {
     if let Some(hint) = bracket_hint(line) {
         return Some(hint);
@@ -202,9 +206,9 @@ fn entry_hint(line: &str) -> Option<&'static str> {
     value_hint(line)
 }
 
-/// Returns a hint if the line is the header of an entry, such as `[pool]` or `[[pool]]`. A header
-/// with one pair of brackets is a fault. A header with two pairs is a fault if an earlier line
-/// defines its list in another way.
+/// Returns a hint if the line with the error is the header of an entry. For `[pool]`, the hint says
+/// to write two pairs of brackets. For `[[pool]]`, it says that an earlier line defines `pool` in
+/// another way, such as `[pool]`.
 fn bracket_hint(line: &str) -> Option<&'static str> {
     match line.split('#').next().unwrap_or("").trim() {
         "[pool]" | "[class]" | "[client]" => {

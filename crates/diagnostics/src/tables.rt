@@ -287,7 +287,7 @@ fn names_of<'a>(
     ListNames::of(alloc, part, entries, is_complete)
 }
 
-/// Returns whether a plan can have each key at the top level.
+/// Returns whether all top-level keys of the document are keys that a plan can have.
 fn has_known_keys(document: &Table) -> bool {
     for key in document.keys() {
         if !has_key(Part::Text, key.as_str()) {

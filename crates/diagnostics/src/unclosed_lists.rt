@@ -1,4 +1,4 @@
-//! Lists that are not closed.
+//! The search for a list whose `]` is missing.
 
 /// The list that is open at the end of a line, if there is one. A list is open if its last `]` has
 /// not been reached.
@@ -27,8 +27,8 @@ pub(crate) fn unclosed_list(text: &str, error: usize) -> Option<usize> {
     start_of(open, error, number.saturating_add(1))
 }
 
-/// Returns the line at which the open list begins. Returns `None` if no list is open. Also returns
-/// `None` if the line `error` is before the first line of the list or after the line `end`.
+/// Returns the number of the line in which the list that is still open begins. Returns `None` if no
+/// list is open, or if line number `error` is not within the list, which ends at line number `end`.
 fn start_of(open: OpenList, error: usize, end: usize) -> Option<usize> {
     if open.depth > 0 && (open.start..=end).contains(&error) {
         Some(open.start)

@@ -34,8 +34,8 @@ pub(crate) fn place_of(places: &Places<'_>, plan: &Plan, lint: Lint) -> TextPlac
     }
 }
 
-/// Returns the place of the first maximum that [`at_core`](crate::at_core) lowers. Returns the
-/// beginning of the text if there is none.
+/// Returns the place of the first maximum that [`at_core`](crate::at_core) lowers to the core size,
+/// in a pool with a bounded queue. Returns the beginning of the text if there is none.
 fn first_max_place(places: &Places<'_>, plan: &Plan) -> TextPlace {
     match plan.pools().iter().position(|pool| grows_if_full(pool)) {
         Some(pool) => value_place(places, Part::Pool, pool, "max"),

@@ -12,9 +12,9 @@ use job_bodies::{Action, Part, Plan, Pool};
 use plan_text::TextPlace;
 use std::alloc::{AllocError, Global};
 
-/// Returns the lint's message: what was found in the plan, and what this means for the answer.
-/// `place` is the lint's place in the plan's text. If the plan does not have the entry that the
-/// lint names, the message can be empty.
+/// Returns the lint's message: what was found in the plan, and what this means for the program's
+/// answer, such as SAFE. `place` is the lint's place in the plan's text. If the plan does not have
+/// the entry that the lint names, the message can be empty.
 pub(crate) fn words_of(
     alloc: Global,
     text: &[u8],
@@ -77,8 +77,9 @@ fn words_of_core(alloc: Global, plan: &Plan) -> Result<String, AllocError> {
     Ok(words)
 }
 
-/// Appends the name and the maximum of each pool for which [`grows_if_full`] returns true.
-/// [`at_core`](crate::at_core) lowers these maximums. `count` is the number of these pools.
+/// Appends the name and the maximum of each pool with a bounded queue, core threads that never time
+/// out, and a maximum above its core size. [`at_core`](crate::at_core) lowers these maximums to the
+/// core sizes. `count` is the number of these pools.
 fn push_maxes(words: &mut String, plan: &Plan, count: usize) -> Result<(), AllocError> {
     let mut number = 0usize;
     for pool in plan.pools() {

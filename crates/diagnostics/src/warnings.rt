@@ -23,7 +23,8 @@ pub struct Warning {
     pub lint: Lint,
     /// The place in the plan's text to which the lint refers.
     pub place: TextPlace,
-    /// A message that says what was found in the plan, and what it means for the answer.
+    /// A message that says what was found in the plan, and what this means for the program's
+    /// answer, such as SAFE.
     pub what: String,
 }
 
@@ -35,8 +36,8 @@ pub struct Warning {
 ///   this number is not known.
 /// - `is_safe_at_core` says whether a certificate accepts the plan that [`at_core`] returns.
 ///
-/// Each message is a single line. A message about a class that submits itself can list submits. The
-/// plan has each of these submits. The contract promises nothing else about places and messages.
+/// Each message is a single line. If the message about a class that submits itself lists submits,
+/// the plan has these submits. The contract promises nothing else about places and messages.
 ///
 /// [`at_core`]: crate::at_core
 ///

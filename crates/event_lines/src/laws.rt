@@ -6,7 +6,8 @@ ghost use Rattle.event_lines.specs.Laws.{EventLinesAreCanonical};
 /// list of lines. The text parses as this list if and only if both of these conditions hold:
 ///
 /// - Each line of the list is valid.
-/// - The text is the canonical text of the list. The newline after the last line may be missing.
+/// - The text has the spelling of each line, in order, and a newline after each line. The newline
+///   after the last line may be missing.
 pub fn event_lines_are_canonical()
     ensures { EventLinesAreCanonical }
 {}

@@ -1,5 +1,7 @@
-//! The input and output lines of a replay. An input line has an event or a question, such as
-//! `client 0`, `take p` or `stuck 0 1`. An output line has the result, such as `1: started job 0`.
+//! The input and output lines of a replay, which performs events on a plan one after another. An
+//! input line has an event, such as `client 0` or `take p`, or a question. The question `stuck 0 1`
+//! asks whether jobs 0 and 1 wait only for each other. An output line has the result, such as
+//! `1: started job 0`.
 //!
 //! [`EventLines`] parses the input line by line. The functions for the output append one line at a
 //! time. Each output line begins with the number of the input line to which it replies.

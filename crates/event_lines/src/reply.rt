@@ -89,9 +89,10 @@ fn push_named(text: &mut String, words: &str, name: &str) -> Result<(), AllocErr
     text.push_str(name)
 }
 
-/// Appends the last line of a replay, such as `refusals 0, unfinished 2`: the number of refused
-/// submits and the number of unfinished jobs. If `rejected` is `Some`, the line also has this
-/// number of rejected submits, such as `refusals 0, rejected 3, unfinished 2`.
+/// Appends the last line of a replay, such as `refusals 0, unfinished 2`. It has the number of
+/// refused submits and the number of unfinished jobs. If `rejected` is `Some`, the line also has
+/// this number of rejected submits, such as `refusals 0, rejected 3, unfinished 2`. A pool without
+/// room for a job rejects the submit if the plan allows this, and otherwise refuses the submit.
 ///
 /// # Errors
 ///

@@ -1,4 +1,4 @@
-//! The nodes of a graph that are on a circle: a path from such a node leads back to it.
+//! The nodes of a graph that are on a circle (a cycle): a path from such a node leads back to it.
 
 ghost use Rattle.std.specs.Prelude.{◌≤◌, ◌<◌, ◌≡◌, ◌↔◌, ℕ, true, IfOk, IfSome, IfNone, length};
 ghost use Rattle.graphs.specs.Graph as spec;
@@ -9,8 +9,9 @@ use crate::node_set::NodeSet;
 use std::alloc::{AllocError, Global};
 
 impl Graph {
-    /// Returns the first node that is on a circle. Skips the nodes with numbers below `first`.
-    /// Returns `None` if no other node is on a circle.
+    /// Returns the first node that is on a circle, and whose number is at least `first`. A circle
+    /// is a path that leads from a node back to the same node. Returns `None` if there is no such
+    /// node.
     ///
     /// # Errors
     ///

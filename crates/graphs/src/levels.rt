@@ -1,4 +1,5 @@
-//! The levels of the nodes of a graph.
+//! The levels of the nodes of a graph. In a graph without circles (cycles), the level of a node is
+//! the number of edges of the longest path that starts at the node.
 
 ghost use Rattle.std.specs.Prelude.{◌≡◌, ◌≤◌, ◌<◌, ◌^◌, ℕ, IfOk, length, map, slice_index};
 ghost use Rattle.graphs.specs.Levels as spec;
@@ -17,8 +18,8 @@ fn number_at(numbers: &[u64], place: usize) -> u64
     }
 }
 
-/// Returns the least level that is above the levels of these nodes, or 0 if there are no nodes.
-/// `levels` has the level of each node of the graph.
+/// Returns 1 more than the greatest level of these nodes, or 0 if there are no nodes. `levels` has
+/// the level of each node of the graph.
 fn level_above(levels: &[u64], nodes: &[usize]) -> u64
     requires { (node : ℕ) → slice_index levels.now node < 2 ^ 32 }
     ensures { result ≡ spec.level_above levels.now nodes.now }
@@ -30,8 +31,8 @@ fn level_above(levels: &[u64], nodes: &[usize]) -> u64
     highest
 }
 
-/// Returns a new level for each node: the least level that is above the old levels of its
-/// successors. `levels` has the old levels.
+/// Returns the levels after one more round of [`Graph::levels`]. The new level of a node is 1 more
+/// than the greatest level of its successors in `levels`, or 0 if it has no successors.
 fn next_levels(alloc: Global, graph: &Graph, levels: &[u64]) -> Result<Vec<u64>, AllocError>
     requires { (node : ℕ) → slice_index levels.now node < 2 ^ 32 }
     ensures { IfOk result (λ next. next.items ≡ map (spec.level_above levels.now) graph.now) }
@@ -45,7 +46,8 @@ fn next_levels(alloc: Global, graph: &Graph, levels: &[u64]) -> Result<Vec<u64>,
 
 impl Graph {
     /// Returns the level of each node: 0 if it has no successors, and otherwise 1 more than the
-    /// greatest level of its successors. The result is meaningful only if no node is on a circle.
+    /// greatest level of its successors. The result is meaningful only if no node is on a circle (a
+    /// cycle).
     ///
     /// # Errors
     ///

@@ -70,7 +70,8 @@ impl NodeSet {
         Ok(())
     }
 
-    /// Adds the successors of one pending node. Does nothing if no node is pending.
+    /// Adds the successors of one pending node. A node is pending if it is in the set, and its
+    /// successors were not added yet. Does nothing if no node is pending.
     fn follow(&mut self, graph: &Graph) -> Result<(), AllocError>
         requires closed { IsClosed graph.now }
         requires as_many { length self.old.is_found.items ≡ length graph.now }

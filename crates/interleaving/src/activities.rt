@@ -48,8 +48,9 @@ impl PoolActivity {
 impl World {
     ghost use Rattle.interleaving.specs.OfPlan.{IsReachableView};
 
-    /// Returns the activity of the members in each pool, by pool number. Counts a member only once
-    /// if it occurs more than once in the list. Ignores a number whose job is not live.
+    /// Returns, for each pool, how many of the jobs in `members` run there, and whether one is
+    /// queued there. The index of an element is the number of the pool. Counts a job only once if
+    /// it occurs more than once in the list. Ignores a number whose job is not live.
     pub(crate) fn activities(&self, plan: &Plan, members: &Members<'_>) -> [PoolActivity; MAX_POOLS]
         requires of_plan { IsReachableView plan.now self.now.view }
         requires well_formed { IsWellFormed plan.now }

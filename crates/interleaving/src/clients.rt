@@ -1,4 +1,4 @@
-//! The clients of a world.
+//! The states of the clients of a plan.
 
 ghost use Rattle.std.specs.Prelude.{◌≡◌, ◌≤◌, ◌<◌, length, All, Some, IfOk, OnOk, OnErr, is_some, slice_get, slice_set, nat_eq, if◌then◌else◌, ◌==◌, ℕ};
 ghost use Rattle.std.specs.List.{flat_map, enumerate_from};

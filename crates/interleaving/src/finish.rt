@@ -1,4 +1,4 @@
-//! The end of a body.
+//! The step at the end of a body: a job finishes, or a client starts its body again.
 
 ghost use Rattle.std.specs.Prelude.{◌≡◌, ◌≢◌, ◌<◌, true, false, length, slice_get, Some};
 ghost use Rattle.written_machine.specs.State.{pool_of};

@@ -1,4 +1,4 @@
-//! The get action.
+//! The get action, in which an actor gets the result of a done job.
 
 ghost use Rattle.std.specs.Prelude.{◌≡◌, ◌+◌, ◌<◌, ◌^◌, true};
 ghost use Rattle.interleaving.specs.Clients.{IsClientAt};

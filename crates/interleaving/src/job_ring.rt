@@ -165,7 +165,7 @@ impl JobRing {
         Ok(())
     }
 
-    /// Appends the entry `place` of a new job. [`reserve`](JobRing::reserve) must have reserved
+    /// Appends a new job with the data `place`. [`reserve`](JobRing::reserve) must have reserved
     /// memory for it.
     pub(crate) fn push(&mut self, place: JobEntry)
         requires { 0 < self.old.room }

@@ -25,20 +25,23 @@ pub fn steps_commute()
     ensures { StepsCommute }
 {}
 
-/// States that a state and its live view have the same number of unfinished jobs.
+/// States that a state and its live view have the same number of unfinished jobs. The live view has
+/// only the jobs that are unfinished or that a get may still return.
 pub fn unfinished_jobs_are_live()
     ensures { UnfinishedJobsAreLive }
 {}
 
-/// States that a live view determines the waiting sets. A waiting set is a non-empty set of jobs
+/// States that a live view determines the waiting sets. The live view of a state has only the jobs
+/// that are unfinished or that a get may still return. A waiting set is a non-empty set of jobs
 /// that wait only for each other. In every reachable state of a well-formed plan, the live view and
 /// the state have the same waiting sets.
 pub fn waiting_sets_are_seen()
     ensures { WaitingSetsAreSeen }
 {}
 
-/// States that no event makes a dead job live again. A dead job is a job that was created and is no
-/// longer live. This holds in every reachable state of a well-formed plan.
+/// States that no event makes a dead job live again. A job is live while it is unfinished or a get
+/// may still return it. Afterwards it is dead. The law holds in every reachable state of a
+/// well-formed plan.
 pub fn dead_jobs_stay_dead()
     ensures { DeadJobsStayDead }
 {}

@@ -1,4 +1,5 @@
-//! The live jobs of a world, by number and by creator.
+//! The live jobs of a plan, by number and by creator. A job is live while it is queued or running,
+//! and while it is done and its parent may still get it.
 
 ghost use Rattle.std.specs.Prelude.{◌≡◌, ◌≢◌, ℕ, ◌+◌, ◌<◌, ◌≤◌, ◌^◌, [], ◌∷◌, ◌++◌, length, map, count_by, is_some, slice_set, IsSome, IfSome, true, false, None, Some, OnOk};
 ghost use Rattle.written_machine.specs.declared.parent.Parent.TheVariants.{Job};
@@ -128,10 +129,10 @@ impl LiveJobs {
         self.kept.reserve()
     }
 
-    /// Adds the new job `job`. Removes the job `latest` if two conditions hold: it is done, and the
-    /// same submit of the same actor created both jobs. No get can return the removed job any more.
-    /// Every other live job of this submit must be unfinished. [`LiveJobs::reserve_for`] must have
-    /// reserved memory.
+    /// Adds the new job `job`, which a submit of an actor creates. If the same submit of this actor
+    /// created the job `latest`, and that job is done, removes it. No get can return the removed
+    /// job any more. Every other live job of this submit must be unfinished.
+    /// [`LiveJobs::reserve_for`] must have reserved memory.
     pub fn create(&mut self, latest: Option<usize>, job: JobView)
         requires room { 0 < room_for self.old.room job.parent }
         requires parent { WasMade self.old.jobs job.parent }

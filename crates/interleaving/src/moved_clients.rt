@@ -1,4 +1,4 @@
-//! The clients that have moved, by number.
+//! The states of the clients that have left the start of their body at least once, by number.
 
 ghost use Rattle.std.specs.Prelude.{◌≡◌, ◌<◌, ℕ, None, Some, false, OnOk, is_some, nat_eq, if◌then◌else◌, ◌==◌};
 ghost use Rattle.std.specs.Option.{option_map};
@@ -65,8 +65,8 @@ impl MovedClients {
         self.others.reserve(1)
     }
 
-    /// If the client with this number has moved before, moves it to this position of its body and
-    /// returns `true`. Otherwise changes nothing and returns `false`.
+    /// Moves the client with this number to this position of its body, and returns `true`. Changes
+    /// nothing and returns `false` if the client has not moved before.
     pub(crate) fn move_again(&mut self, number: usize, position: usize) -> bool
         ensures is_among { result ≡ is_some (moved_at self.old number) }
         ensures moves { (q : ℕ)

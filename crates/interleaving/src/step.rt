@@ -1,4 +1,4 @@
-//! One event of a world.
+//! The effect of one event on the world of a plan.
 
 ghost use Rattle.std.specs.Prelude.{◌≡◌, ◌+◌, ◌<◌, ◌^◌, true, IfOk, OnOk, OnErr};
 ghost use Rattle.job_bodies.specs.WellFormed.{IsWellFormed};

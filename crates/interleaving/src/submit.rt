@@ -1,4 +1,4 @@
-//! The submit action.
+//! The submit action, in which an actor offers a job to a pool.
 
 ghost use Rattle.std.specs.Prelude.{◌≡◌, ◌+◌, ◌<◌, ◌^◌, length, true, None, IfOk, OnErr};
 ghost use Rattle.written_machine.specs.State.{pool_of};

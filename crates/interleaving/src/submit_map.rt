@@ -1,4 +1,5 @@
-//! A map from submit calls to job numbers.
+//! A map from submit calls to job numbers. A submit call consists of the number of an actor and the
+//! position of a submit in the actor's body.
 
 ghost use Rattle.std.specs.Prelude.{◌≡◌, ◌≤◌, ◌<◌, ℕ, Option, [], None, Some, OnOk, if◌then◌else◌};
 ghost use Rattle.std.specs.HashMap.{spare};

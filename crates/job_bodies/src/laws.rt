@@ -1,4 +1,5 @@
-//! A law about the limits, as the contract of an empty function.
+//! A law about the limits of plans, certificates, texts, searches and runs. The law is the contract
+//! of a function with an empty body.
 
 ghost use Rattle.job_bodies.specs.Limits.{PlanLimitsAreStated, TextLimitsAreStated, RunLimitsAreStated};
 

@@ -1,8 +1,8 @@
 //! The limits of plans, certificates, texts, searches and runs. Parsers, checks and messages share
 //! them.
 //!
-//! A *witness* is a list of events after which a plan refuses a job, or after which some jobs wait
-//! only for each other. A *run* executes a plan on real threads.
+//! A *counterexample* is a list of events after which a plan refuses a job, or after which some
+//! jobs wait only for each other. A *run* executes a plan on real threads.
 
 ghost use Rattle.std.specs.Prelude.{◌≡◌};
 ghost use Rattle.job_bodies.specs.WellFormed.{is_within};
@@ -54,20 +54,21 @@ pub const MAX_RECORDED_ROUNDS: u64 = 1_000_000_001;
 pub const MAX_WORKERS: u64 = 64;
 /// The default number of threads of a search or a check.
 pub const DEFAULT_WORKERS: u64 = 4;
-/// The maximum number of states that a search for a witness may visit. The minimum is 1.
+/// The maximum number of states that a search for a counterexample may visit. The minimum is 1.
 pub const MAX_STATES: u64 = 10_000_000;
-/// The default number of states that a search for a witness may visit.
+/// The default number of states that a search for a counterexample may visit.
 pub const DEFAULT_STATES: u64 = 100_000;
 
-/// The maximum number of rounds of each repeating client in a run. A round is one pass of the
-/// client through its body. The minimum is 1.
+/// The maximum number of rounds of each repeating client, when a plan is executed on real threads.
+/// A round is one pass of the client through its body. The minimum is 1.
 pub const MAX_ROUNDS: u64 = 1_000_000;
-/// The maximum number of clients of a run.
+/// The maximum number of clients of a plan that is executed on real threads.
 pub const MAX_RUN_CLIENTS: u64 = 64;
-/// The maximum number of threads that all pools of a run may have together.
+/// The maximum number of threads that all pools may have together, when a plan is executed on real
+/// threads.
 pub const MAX_RUN_CARRIERS: u64 = 64;
-/// The maximum number of events of a run. The number of events is computed from the plan before the
-/// run starts.
+/// The maximum number of events, when a plan is executed on real threads. The number of events is
+/// computed from the plan before the execution starts.
 pub const MAX_RUN_EVENTS: u64 = 1_000_000;
 
 /// Returns true if `n` is from `low` to `high`, both included.

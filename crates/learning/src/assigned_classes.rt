@@ -1,19 +1,19 @@
-//! The classes assigned to jobs. A pass classifies each actor: it assigns a class to a job, and a
-//! client kind to a round.
+//! The classes that a pass over a recording assigns to jobs. To classify an actor means to search
+//! for the class of a job, or for the client kind of a round.
 
 use conformance::PathStep;
 use recordings::RecordedStep;
 use std::alloc::{AllocError, Global};
 use std::collections::{HashMap, HashSet};
 
-/// The classes that were assigned to classified jobs. A job is removed when its submitter is
-/// classified.
+/// A map from classified jobs to their classes. It has a job until the job's submitter is
+/// classified, because classifying the submitter requires the class of the job.
 #[derive(Drop)]
 pub(crate) struct AssignedClasses {
     /// The class of each job, by job number. The class is `None` if no class was found for the job.
     jobs: HashMap<usize, Option<usize>>,
-    /// The refused jobs that are not yet classified. A refused job is not part of its submitter's
-    /// path.
+    /// The refused jobs that are not yet classified. The class of a refused job is never stored,
+    /// because the path of its submitter does not include the job.
     refused: HashSet<usize>,
 }
 

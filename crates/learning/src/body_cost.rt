@@ -1,4 +1,5 @@
-//! The comparison of bodies by their cost.
+//! The cost of a body. If the same paths match several bodies, the body with the lowest cost is
+//! chosen.
 
 use job_bodies::Action;
 

@@ -13,8 +13,8 @@ pub(crate) const CANDIDATES: usize = 8;
 /// The options of [`candidate`]. Different options can result in different bodies.
 #[derive(Clone, Copy)]
 pub(crate) struct Choices {
-    /// True if the candidate keeps two groups of jobs apart: the jobs that their paths get, and the
-    /// jobs that their paths never get. Jobs of different groups then have different submits.
+    /// True if a submit of the candidate is matched either only with jobs that their paths get, or
+    /// only with jobs that their paths never get. If false, a submit can be matched with both.
     pub(crate) marks_gets: bool,
     /// True if the submits of the paths are merged from the last path to the first. If it is false,
     /// they are merged from the first path to the last.
@@ -91,11 +91,11 @@ fn body_with_gets(
     Ok(body)
 }
 
-/// Appends the gets that come directly after the submit with the number `time`. The gets are in the
-/// order in which the body submits their jobs.
+/// Appends the gets that the body makes directly after its submit number `time`, counted from 0.
+/// The gets are in the order in which the body submits their jobs.
 ///
-/// - `submits` has the index in the body of each submit so far.
-/// - `times` has the time of each job, as in [`body_with_gets`].
+/// - `submits` has, for each job so far, the index of its submit in the body.
+/// - `times` has, for each job, the number of the submit after which the body gets it.
 fn push_gets(
     body: &mut Vec<Action>,
     submits: &[usize],

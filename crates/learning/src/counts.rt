@@ -1,4 +1,5 @@
-//! Counters for the rounds of each client kind.
+//! Counters for the rounds of each client kind. A round is what a client does from the beginning of
+//! its body to the end.
 
 ghost use Rattle.std.specs.Prelude.{◌≡◌, ◌++◌, ◌∷◌, [], ℕ, List, Some, true, false, length, slice_get, OnOk, IfOk, IfErr, IsTrue};
 ghost use Rattle.conformance.specs.Family.{IsOfFamily};
@@ -57,8 +58,9 @@ impl KindCount {
 ///
 /// # Errors
 ///
-/// - [`LearnError::InferenceLimit`] if a round has no kind. Also if the kind of a round has a name
-///   outside the family of the round's label ([`is_of_family`]).
+/// - [`LearnError::InferenceLimit`] if a round has no kind. Also if the name of a round's kind is
+///   neither the round's label nor the label followed by `_` and a number ([`is_of_family`]). The
+///   label is the name in the `begin` line of the round.
 /// - [`LearnError::Memory`] if memory runs out.
 pub(crate) fn kind_counts(
     alloc: Global,

@@ -21,8 +21,8 @@ use conformance::{ActorKind, PathMatch, PathState, PathStep, match_path};
 use job_bodies::{Action, MAX_ACTIONS};
 use std::alloc::{AllocError, Global};
 
-/// Returns a body that all paths match. The paths belong to actors of the kind `kind`. The result
-/// is found in these steps:
+/// Returns a body that all paths match. `body` is the current body. `kind` says whether the paths
+/// are those of jobs or of rounds. The result is found in these steps:
 ///
 /// - If `body` is valid in a plan and all paths match it, the result is `body`.
 /// - Otherwise, if `body` has `work`, the result is `None`.
@@ -35,8 +35,8 @@ use std::alloc::{AllocError, Global};
 /// this class that are open at the same time. The best candidate has the lowest cost. Among
 /// candidates of the same cost, it has the fewest actions.
 ///
-/// Returns `None` if no body with at most [`MAX_ACTIONS`] actions is found. After the first step,
-/// no body is found if a path has one of these faults:
+/// Returns `None` if no body with at most [`MAX_ACTIONS`] actions is found. No new body is found if
+/// a path has one of these faults:
 ///
 /// - The job of a submit cannot belong to any class.
 /// - A get names no earlier submit.
@@ -182,8 +182,8 @@ fn covers(
     Ok(true)
 }
 
-/// Returns true if the path matches the body. Returns false if it does not match, or if the match
-/// is undecided.
+/// Returns true if the path matches the body. Returns false if the path does not match, or if
+/// [`match_path`] cannot decide whether it matches.
 fn is_path_of(
     alloc: Global,
     kind: ActorKind,

@@ -18,8 +18,8 @@ use std::alloc::Global;
 /// change in the first pass, and every actor matches a body in the second.
 const MAX_PASSES: usize = 600;
 
-/// Changes the bodies until every actor in the part of the recording matches a body. Returns the
-/// client kind of each round, by round number.
+/// Changes the bodies of `draft` until every actor in `part` matches one of them. Returns the
+/// client kind of each round in `part`, by round number.
 ///
 /// # Errors
 ///
@@ -29,8 +29,8 @@ const MAX_PASSES: usize = 600;
 /// - An actor still matches no body after a pass that changed no body, or after [`MAX_PASSES`]
 ///   passes.
 /// - The actors need more classes or client kinds than a plan may have.
-/// - A name would be too long.
-/// - The draft does not form a valid plan.
+/// - The name of a new class or client kind would be too long.
+/// - `draft` and `pools` do not form a valid plan.
 pub(crate) fn cover_all(
     alloc: Global,
     part: RecordingPart<'_>,

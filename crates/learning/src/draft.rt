@@ -208,8 +208,8 @@ fn class_of(alloc: Global, entry: &Entry) -> Result<Class, AllocError>
     })
 }
 
-/// Returns a client kind with the name and the body of an entry, and with this `count` and
-/// `repeat`.
+/// Returns a client kind for a plan, with the name and the body of `entry`. `count` is the number
+/// of its clients. `repeat` says whether they start the body again after the last action.
 ///
 /// # Errors
 ///

@@ -1,10 +1,11 @@
-//! The actors that have ended and are not yet classified.
+//! The ended actors during a pass over a recording.
 
 use recordings::{Line, RecordedActor};
 use std::alloc::{AllocError, Global};
 use std::collections::HashSet;
 
-/// A set of actors that have ended and are not yet classified.
+/// The actors that have ended but are not yet classified: the pass has not yet searched for their
+/// classes or client kinds. The pass uses this set to find out whether a path is complete.
 #[derive(Drop)]
 pub(crate) struct EndedActors {
     jobs: HashSet<usize>,

@@ -36,8 +36,8 @@ pub(crate) struct Entries {
     /// The kind of the actors that follow the bodies: jobs for classes, and rounds for client
     /// kinds.
     pub(crate) kind: ActorKind,
-    /// The maximum number of entries that a plan may have. If there are more, `beyond` is the
-    /// reason to report.
+    /// The maximum number of classes or client kinds of a plan. If a recording needs more,
+    /// [`add`](Entries::add) fails with the reason `beyond`.
     limit: usize,
     beyond: InferenceLimit,
     pub(crate) alloc: Global,

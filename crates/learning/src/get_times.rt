@@ -12,7 +12,8 @@ use std::alloc::{AllocError, Global};
 /// - If `is_late` is true, each path is matched with the last possible submits of the body, and
 ///   otherwise with the first possible ones.
 ///
-/// If the body gets its jobs at these times, it always has at least as many open jobs as each path.
+/// A job is open from its submit to its get. With these times, the body always has at least as many
+/// open jobs as each path that is matched with it.
 ///
 /// # Errors
 ///
@@ -98,6 +99,9 @@ fn mark(made: &mut [bool], index: usize) {
 /// - `None` if the path submits the job and never gets it.
 /// - The number of the job's own submit if the path does not submit the job.
 /// - Otherwise, the number of the last matched submit before the path's get of the job.
+///
+/// If several jobs in `common` are equal, their times are sorted in ascending order, with `None`
+/// last.
 fn times_of_path(
     alloc: Global,
     common: &[PathJob],

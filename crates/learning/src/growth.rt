@@ -62,9 +62,9 @@ impl Entries {
     /// the path and the entry's earlier paths match it. If this is possible for no entry, adds an
     /// entry for this path alone.
     ///
-    /// Skips the classes that are marked in `reachable`, because the path leads to jobs of these
-    /// classes (see [`reachable_classes`]). If the path belonged to such a class, a job of the
-    /// class would lead to further jobs of the same class, without end.
+    /// Skips the classes that are marked in `reachable`. The path submits jobs of these classes,
+    /// directly or through the bodies of other jobs (see [`reachable_classes`]). If the path
+    /// belonged to such a class, jobs of the class would cause further jobs of it without end.
     ///
     /// Returns the assignment, or `None` in these cases:
     ///

@@ -17,8 +17,8 @@ pub enum InferenceLimit {
     Kinds,
     /// A class or client kind would need a name that is too long.
     Names,
-    /// Too many rounds of one client kind: more of them are open at the same time than a plan may
-    /// have clients.
+    /// Too many rounds of one client kind are open at the same time. The kind would need a client
+    /// for each of them, and a plan may not have that many clients of a kind.
     Rounds,
     /// No bodies were found for the paths of some jobs or rounds. This is also the reason in these
     /// cases:
@@ -27,7 +27,7 @@ pub enum InferenceLimit {
     ///   client kinds.
     /// - The pools, classes and client kinds do not form a valid plan.
     Paths,
-    /// A text of the plan that would be too long.
+    /// The text of the plan would be too long.
     Text,
 }
 

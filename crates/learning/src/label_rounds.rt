@@ -25,11 +25,11 @@ use support::IdMap;
 #[derive(Drop)]
 pub(crate) struct LabelRounds {
     labels: Vec<String>,
-    /// The number of the label of each open round, by round number.
+    /// The index in `labels` of each open round's label, by round number.
     open_labels: IdMap<usize>,
     /// The number of rounds that have begun.
     begun: usize,
-    /// The counters for the rounds of each label, by label number. Only the first
+    /// The counters for the rounds of each label, in the order of `labels`. Only the first
     /// `MAX_CLIENT_KINDS` labels have counters.
     pub(crate) counts: Vec<KindCount>,
     alloc: Global,
@@ -158,8 +158,8 @@ impl LabelRounds {
         Ok(())
     }
 
-    /// Returns true if each label has exactly one client kind, and the entries are these kinds in
-    /// the order of the labels.
+    /// Returns true if `entries` consists of exactly one client kind for each label, in the order
+    /// of the labels. The counters of the labels are then also the counters of the kinds.
     pub(crate) fn are_of(&self, entries: &[Entry]) -> bool
         ensures { IsTrue result → names_of entries.now ≡ labels_of self.now }
     {

@@ -2,8 +2,8 @@
 
 ghost use Rattle.learning.specs.Pools.{LearnedPoolsAreNormal};
 
-/// States that a learned pool with an unbounded queue is like a pool that is read from the text of
-/// a plan. Two sizes, which have no effect, are the same:
+/// States that a learned pool with an unbounded queue has the same sizes as if it were read from
+/// the text of a plan. Two sizes have these values in both cases, because they have no effect:
 ///
 /// - The queue capacity is 1,000,000.
 /// - The maximum is the core size, unless core threads may time out.

@@ -1,5 +1,6 @@
-//! Derivation of a plan from a recording. An actor is a recorded job or round, and its path is its
-//! submits and gets. `conformance::match_path` defines which paths match a body.
+//! Derivation of a plan from a recording. An actor is a recorded job or a recorded round. A round
+//! is what a client does from the beginning of its body to the end. The submits and gets of an
+//! actor are its path. `conformance::match_path` defines which paths match a body.
 //!
 //! [`learn`] infers a body for each class and client kind from the recorded paths. It does not
 //! compare the plan with the whole recording: the caller must do so.

@@ -38,7 +38,7 @@ pub(crate) struct Pass {
 /// cases:
 ///
 /// - A job that the actor submitted has no class.
-/// - The match of the actor is undecided.
+/// - For some body, it is unknown whether the actor's path matches it.
 /// - The actor has not ended, and the recording continues after the part.
 /// - The actor has not ended, and a path of an ended actor changed a body in this pass.
 ///
@@ -74,7 +74,7 @@ pub(crate) fn run_pass(
     Ok(pass)
 }
 
-/// The classifier of a pass, and the actors that it classified at the current line.
+/// An [`ActorClassifier`], and the actors that it classified at the current line.
 #[derive(Drop)]
 struct PassClassifier {
     classes: ActorClassifier,

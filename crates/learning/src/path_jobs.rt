@@ -4,8 +4,8 @@ use conformance::PathStep;
 use job_bodies::MAX_ACTIONS;
 use std::alloc::{AllocError, Global};
 
-/// The maximum length of a path that can match a body. Each submit of the path is matched with a
-/// different submit of the body, and each submit has at most one get.
+/// The maximum length of a path that can match a body. Such a path has at most one submit for each
+/// action of the body, and at most one get for each submit.
 const MAX_STEPS: usize = 2 * MAX_ACTIONS;
 
 /// A job of a path, without its position in the path. Equal jobs of different paths can be matched

@@ -18,8 +18,8 @@ use std::alloc::{AllocError, Global};
 ///
 /// - The capacity of an unbounded queue is the largest size of a plan.
 /// - If the queue is unbounded and core threads never time out, the maximum is the core size.
-/// - If the queue is unbounded and core threads may time out, the pool can have no maximum. It has
-///   none if the recorded maximum is above the largest size of a plan.
+/// - If the queue is unbounded and core threads may time out, a maximum above the largest size of a
+///   plan is not clamped. Instead, the pool has no maximum, which is written as [`MAX_THREADS`].
 /// - `prestart` is true if all core threads were prestarted and there is at least one.
 /// - `may_reject` is true if the queue is a `SynchronousQueue`, because a plan requires this.
 ///

@@ -23,7 +23,7 @@ pub(crate) fn common_supersequence(
             if jobs.len() > MAX_ACTIONS {
                 return Ok(None);
             }
-            common = merged(alloc, &common, &jobs)?;
+            common = shortest_supersequence(alloc, &common, &jobs)?;
             if common.len() > MAX_ACTIONS {
                 return Ok(None);
             }
@@ -58,7 +58,7 @@ fn is_subsequence(jobs: &[PathJob], of: &[PathJob]) -> bool {
 
 /// Returns a shortest common supersequence of two lists. If the next job can be taken from either
 /// list, it is taken from the first list.
-fn merged(
+fn shortest_supersequence(
     alloc: Global,
     first: &[PathJob],
     second: &[PathJob],
@@ -95,12 +95,13 @@ fn push_from(jobs: &mut Vec<PathJob>, more: &[PathJob], index: usize) -> Result<
 /// Returns true if the merged list can continue with the next job of the first list and still be a
 /// shortest common supersequence.
 ///
-/// To decide this, compares two possible next jobs: that of the first list, and that of the second
-/// list. After each of them, the jobs that remain in the two lists have a longest common
-/// subsequence. The result is true if this subsequence is at least as long after the job of the
-/// first list as after that of the second list.
+/// The next job is taken from one of the two lists. The merged list is shortest if the jobs that
+/// then remain in the lists have the longest possible common subsequence. The result is true if
+/// this subsequence is not shorter after taking from the first list than after taking from the
+/// second list.
 ///
-/// - `left` and `other_left` are the numbers of jobs that remain in the two lists.
+/// - `left` is the number of jobs that remain in the first list, and `other_left` the number that
+///   remain in the second list.
 /// - `lengths` is the table that [`common_lengths`] returns.
 fn continues_first(lengths: &[Vec<usize>], left: usize, other_left: usize) -> bool {
     length_at(lengths, left.saturating_sub(1), other_left)

@@ -59,8 +59,9 @@ impl Levels {
     }
 
     /// Gives `level` to each class that has no level yet and submits only classes of lower levels.
-    /// Appends these classes to the order. `known` has a number for each class: this many actions
-    /// at the start of the class's body need no further check. Updates these numbers.
+    /// Appends these classes to the order. For each class, `known` has the number of actions at the
+    /// start of its body that need no further check. These actions submit only classes of lower
+    /// levels. Updates these numbers.
     fn add_level(&mut self, plan: &Plan, level: u64, known: &mut [usize]) -> Result<(), AllocError>
         ensures { vec_len self.new.of_classes ≡ vec_len self.old.of_classes }
     {

@@ -1,7 +1,8 @@
 //! The search for a vector with a small total. The [`Target`] determines the pool, the kind of the
-//! vector and the limit of its total. A *loan* gives each worker of one pool a weight. This pool is
-//! then a *lender*, and its queued jobs can weigh less. A [`Sketch`] has the parts of a vector that
-//! determine its total.
+//! vector and the limit of its total. At first, workers weigh 0. A *loan* gives each worker of one
+//! pool a weight. A worker that takes a queued job adds its weight to the weight of the job. So the
+//! queued jobs of this pool can weigh less, and the total can become smaller. A [`Sketch`] has the
+//! weights that determine the total.
 
 ghost use Rattle.std.specs.Prelude.{◌≡◌, ◌<◌, ◌≤◌, length, IfOk, IfSome, IsTrue, vec_len};
 ghost use Rattle.weights.specs.Vector.{vector_fits};
@@ -17,7 +18,8 @@ use job_bodies::Plan;
 use std::alloc::{AllocError, Global};
 use weights::Vector;
 
-/// The maximum number of loans for one vector. This limit bounds the time of a search.
+/// The maximum number of loans in one search. A loan changes the weight of the workers of one pool.
+/// This limit bounds the time of a search.
 const MAX_LOANS: usize = 256;
 
 /// A loan: a new weight for each worker of one pool. The fields are the pool, the weight, and the
@@ -29,12 +31,13 @@ pub(crate) struct Loan {
     pub(crate) place: usize,
 }
 
-/// The result of all loans: the weight of a worker of each pool, and the sketch for these weights.
+/// The result of [`minimize_total`]: the weight of a worker of each pool, and the sketch for these
+/// weights.
 #[derive(Drop)]
 pub(crate) struct Loans {
     pub(crate) workers: Vec<u64>,
-    /// The pools whose workers got weight by a loan, even if a later loan set this weight to 0
-    /// again.
+    /// The pools whose workers had weight at some point in the search, even if a later loan set
+    /// this weight to 0 again. The maximums of these pools affect the result.
     pub(crate) lenders: Vec<usize>,
     pub(crate) sketch: Sketch,
 }
@@ -122,13 +125,14 @@ pub(crate) fn lightest_vector(
     vector_of(alloc, plan, target, workers, &sketch)
 }
 
-/// Returns the next loan, or `None` if no loan helps. Uses [`relieving_loan`] if there is an
-/// overweight class, and [`best_loan`] otherwise. A class is *overweight* if it is never submitted
-/// and has a weight above `MAX_WEIGHT`.
+/// Returns the next loan, or `None` if no loan helps. A loan gives the workers of one pool a new
+/// weight. If there is an *overweight* class, uses [`relieving_loan`] to make fewer classes
+/// overweight. Otherwise, uses [`best_loan`] to make the total smaller. A class is overweight if it
+/// is never submitted and has a weight above `MAX_WEIGHT`.
 ///
 /// - `workers` has the current weights of workers. They are the same after the call, unless memory
 ///   runs out.
-/// - `place` is the index of the sketch for these weights.
+/// - `place` is the index in the cache of the sketch for these weights.
 fn next_loan(
     sketch_cache: &mut SketchCache,
     workers: &mut [u64],
@@ -148,8 +152,8 @@ fn next_loan(
 }
 
 /// Returns the loan that gives the smallest total, or `None` if no loan makes the total smaller. A
-/// loan gives each worker of its pool the weight that [`peak`] returns. Classes that are never
-/// submitted are ignored, because a loan for their jobs does not change the total.
+/// loan gives each worker of one pool the weight that [`peak`] returns. Ignores classes that are
+/// never submitted, because their jobs do not count towards the total.
 ///
 /// `workers` and `place` are as in [`next_loan`].
 fn best_loan(

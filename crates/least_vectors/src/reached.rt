@@ -1,6 +1,8 @@
-//! The reaches of classes. A job depends on its own pool, and on the pools of all jobs that it
-//! gets, directly or through other jobs. The reach of a class is the greatest rank of the pools on
-//! which its jobs depend.
+//! The reaches of classes. A certificate gives a rank to each pool and a reach to each class. These
+//! numbers decide which gets are counted. A counted get can block a thread that other jobs need.
+//!
+//! A job depends on its own pool, and on the pools of all jobs that it gets, directly or through
+//! other jobs. The reach of a class is the greatest rank of the pools on which its jobs depend.
 
 ghost use Rattle.std.specs.Prelude.{◌≡◌, IfOk, length, vec_len};
 
@@ -35,7 +37,8 @@ pub fn reach(
     Ok(reach)
 }
 
-/// Returns the reach of the class. `reach` must have the reaches of all classes of lower levels.
+/// Returns the reach of the class. `reach` must have the reach of each class whose jobs this class
+/// gets.
 fn reach_of(reach: &[u64], ranks: &[u64], class: &Class) -> u64 {
     let mut reached = number_at(ranks, class.pool);
     for action in &class.body {

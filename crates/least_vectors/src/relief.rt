@@ -1,7 +1,7 @@
 //! Loans for classes that are never submitted and have a weight above `MAX_WEIGHT`. The jobs of
 //! such a class do not count towards the total, but their weights in the vector must still be at
-//! most `MAX_WEIGHT`. A loan gives the workers of a pool weight, so that the queued jobs of the
-//! pool can weigh less.
+//! most `MAX_WEIGHT`. A loan gives the workers of a pool weight. A worker adds its weight to the
+//! queued job that it takes, so the queued jobs of the pool can weigh less.
 
 ghost use Rattle.std.specs.Prelude.{◌≡◌, ◌<◌, ◌≤◌, IfOk, IfSome, vec_len, length};
 
@@ -14,14 +14,14 @@ use std::alloc::AllocError;
 /// The number of steps in which bisection finds one weight from 0 to [`MAX_SIZE`].
 const HALVINGS: usize = 20;
 
-/// Returns the loan that leaves the fewest *overweight* classes. A class is overweight if it is
-/// never submitted and has a weight above `MAX_WEIGHT`. Returns `None` if no loan makes the number
-/// of overweight classes smaller. If several loans leave the fewest, returns the loan after which
-/// all workers together weigh least.
+/// Returns the loan that leaves the fewest *overweight* classes. A loan gives the workers of one
+/// pool a new weight. A class is overweight if it is never submitted and has a weight above
+/// `MAX_WEIGHT`. Returns `None` if no loan makes the number of overweight classes smaller. If
+/// several loans leave the fewest, returns the loan after which all workers together weigh least.
 ///
 /// - `workers` has the current weights of workers. They are the same after the call, unless memory
 ///   runs out.
-/// - `place` is the index of the sketch for these weights.
+/// - `place` is the index in the cache of the sketch for these weights.
 pub(crate) fn relieving_loan(
     sketch_cache: &mut SketchCache,
     workers: &mut [u64],

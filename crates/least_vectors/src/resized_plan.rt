@@ -37,14 +37,16 @@ pub struct VectorSummary {
 /// vector.
 #[derive(Clone, Copy)]
 pub enum Kind<'a> {
-    /// A standing vector. The workers of each pool may have weight.
+    /// A standing vector, which bounds the number of queued jobs of the pool. The workers of each
+    /// pool may have weight.
     Standing,
-    /// A lifetime vector. No workers have weight.
+    /// A lifetime vector, which bounds the number of all jobs that are ever submitted to the pool.
+    /// No workers have weight.
     Lifetime,
     /// A blocked vector of a pool with the rank `rank`. It bounds the number of the pool's jobs
     /// that wait at certain gets. These gets wait for jobs of classes with a reach of at least
-    /// `rank`. The workers of this pool weigh 0. If each of them weighed at least 1, the total
-    /// would be at least the core size. But the total must be less than the core size.
+    /// `rank`. The workers of this pool weigh 0. Otherwise, the total would be at least the core
+    /// size, but it must be less.
     Blocked {
         /// The reach of each class. A job of the class depends on its own pool, and on the pools of
         /// all jobs that it gets, directly or through other jobs. The reach is the greatest rank of

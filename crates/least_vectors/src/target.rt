@@ -29,8 +29,8 @@ pub(crate) enum WeightRequirement<'a> {
     Everywhere,
 }
 
-/// The pools that are *lenders*. The workers of a lender may have weight, so that the queued jobs
-/// of this pool can weigh less.
+/// The pools whose workers may have weight. These pools are called *lenders*. A worker adds its
+/// weight to the queued job that it takes, so the queued jobs of a lender can weigh less.
 #[derive(Clone, Copy, PartialEq, Eq)]
 pub(crate) enum Lenders {
     /// All pools.
@@ -94,9 +94,8 @@ impl<'a> Target<'a> {
         }
     }
 
-    /// Returns the target with no lenders if its limit is 0, and the unchanged target otherwise.
-    /// With a limit of 0, no worker may have weight, because any weight of a worker makes the total
-    /// positive.
+    /// Returns the target without weights of workers if its limit is 0, and the unchanged target
+    /// otherwise. Any weight of a worker makes the total positive, which a limit of 0 forbids.
     pub(crate) fn without_useless_loans(self) -> Target<'a> {
         if self.limit > 0 {
             return self;

@@ -8,8 +8,8 @@ pub(crate) struct Weight {
     /// The least weight at this position. It depends on the weight that the actor has at the end of
     /// the body, which was passed to [`Weight::at_end`].
     pub(crate) number: u64,
-    /// The greatest increase of the end weight that does not increase the weight at this position.
-    /// The end weight is the weight at the end of the body.
+    /// How much the weight at the end of the body may increase while the weight at this position
+    /// stays the same.
     pub(crate) slack: u64,
 }
 
@@ -43,8 +43,9 @@ impl Weight {
         }
     }
 
-    /// Returns the weight before a get, given this weight after the get. `back` is the weight that
-    /// the get gives to the actor. The result is 0 if `back` is larger than this weight.
+    /// Returns the weight before an event that gives the weight `back` to the actor, given this
+    /// weight after the event. The event is a get, or the start of a job by a worker that has
+    /// weight. The result is 0 if `back` is larger than this weight.
     pub(crate) fn less(self, back: u64) -> Weight
         ensures { result.number ≤ self.number }
     {

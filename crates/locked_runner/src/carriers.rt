@@ -6,13 +6,14 @@ ghost use Rattle.locked_runner.specs.Carriers as spec;
 use job_bodies::Pool;
 
 /// Returns the number of threads that a run has for the pool. This number is the core size of the
-/// pool in two cases, and otherwise its maximum. The two cases are:
+/// pool in the two cases below, and otherwise its maximum.
 ///
 /// - The queue is unbounded, and core threads never time out. The pool then starts no thread above
 ///   its core size.
 /// - The pool has no maximum, so its queue is also unbounded. A submit then starts no thread above
-///   the core size. In Java, the pool may start a thread above the core size, but only to replace
-///   another thread.
+///   the core size. In Java, such a pool may start a thread above the core size, but only to
+///   replace another thread. A run replaces no thread, because its worker threads end only with the
+///   run.
 pub(crate) fn carriers(pool: &Pool) -> u64
     ensures { result ≡ spec.carriers pool.now }
 {

@@ -1,4 +1,5 @@
-//! The world of a certified plan, as a machine.
+//! The state machine of a certified plan. A state of the machine is a *world*: the pools, the
+//! clients and the live jobs of the plan, and the number of refused submits.
 
 ghost use Rattle.std.specs.Prelude.{IsTrue};
 ghost use Rattle.job_bodies.specs.WellFormed.{IsWellFormed};
@@ -30,8 +31,8 @@ impl<'a> CertifiedWorld<'a> {
     }
 }
 
-/// A world, which is a state of the machine, with the outcome of its last event. The outcome shows
-/// which job, if any, the event started, queued or took from a queue.
+/// A state of the machine: a world, and the outcome of the last event. The outcome shows which job,
+/// if any, the event started, queued or took from a queue.
 #[derive(Drop)]
 pub struct TracedWorld {
     pub world: ViewedWorld,

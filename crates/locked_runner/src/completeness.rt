@@ -15,8 +15,8 @@ use job_bodies::{Client, Plan};
 use std::alloc::{AllocError, Global};
 
 /// Returns `true` if a run is complete. In a complete run, no job is unfinished, and each client
-/// has performed all events of its rounds and is at the end of its body. `world` is the world after
-/// the history.
+/// has performed all events of its rounds and is at the end of its body. `world` is the state after
+/// the events of `history`.
 ///
 /// # Errors
 ///

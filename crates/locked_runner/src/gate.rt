@@ -1,4 +1,4 @@
-//! The interface to the code that does the declared work of a run.
+//! The interface to the code that does the work of a run's `work` actions.
 
 /// A client or a job of a run.
 #[derive(Clone, Copy, PartialEq, Eq)]
@@ -11,10 +11,10 @@ pub enum Actor {
 #[derive(Clone, Copy, PartialEq, Eq)]
 pub struct GateFault;
 
-/// The code that does the declared work of a run. Many threads call it at the same time, and none
-/// of them holds the lock of the machine during a call.
+/// The code that does the work of a run's `work` actions. Many threads may call it at the same
+/// time. A calling thread does not hold the lock of the plan's machine.
 pub trait Gate: Sync {
-    /// Performs this number of units of work of the actor.
+    /// Performs `units` units of work for the actor.
     ///
     /// # Errors
     ///

@@ -1,20 +1,21 @@
 //! Laws of three *quantities* of a run: the numbers of its jobs, its units of work and its events.
 //! Each law is the contract of a function with an empty body.
 //!
-//! The laws assume conditions on the ranks of a certificate. These conditions are the *rows* of the
-//! ranks.
+//! The ranks of a certificate are numbers that it gives to pools and classes. One of them is the
+//! level of a class, which must be above the levels of the classes that it submits. The laws assume
+//! that the conditions on the ranks hold.
 
 ghost use Rattle.locked_runner.specs.RunNumbers.{TotalsAddUp, NumbersAreOfThePlan};
 
-/// States how quantities add up if the rows of the ranks hold. A quantity is a number of jobs, of
-/// units of work or of events. The total quantity of a job is its own quantity plus the total
-/// quantities of the jobs that its body submits.
+/// States that the total quantity of a job is its own quantity plus the total quantities of the
+/// jobs that its body submits. A quantity is a number of jobs, of units of work or of events. The
+/// law assumes that the certificate's conditions on its ranks hold.
 pub fn totals_add_up()
     ensures { TotalsAddUp }
 {}
 
-/// States that the numbers of jobs, units of work and events of a run do not depend on the
-/// certificate. They are the same for all ranks whose rows hold.
+/// States that the numbers of jobs and units of work of a run do not depend on the certificate, and
+/// neither does the bound of its events. They are the same for any ranks whose conditions hold.
 pub fn numbers_are_of_the_plan()
     ensures { NumbersAreOfThePlan }
 {}

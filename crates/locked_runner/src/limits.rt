@@ -21,8 +21,9 @@ pub enum RunLimit {
     Events,
 }
 
-/// Returns the limit to report for a plan that exceeds a limit of a run. This is the first limit
-/// that the plan exceeds, in the order of the variants of [`RunLimit`].
+/// Returns the first limit that a run of the plan exceeds, in the order of the variants of
+/// [`RunLimit`]. The result is meaningful only if the run exceeds a limit. If it exceeds no other
+/// limit, the result is [`RunLimit::Events`].
 pub fn limit_of(plan: &Plan) -> RunLimit
     ensures { result ≡ spec.limit_of plan.now }
 {

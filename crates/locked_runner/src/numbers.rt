@@ -19,7 +19,8 @@ pub struct RunNumbers {
     /// The units of work of clients and jobs.
     pub units: u64,
     /// An upper bound of the number of events. For each job, it includes an event that takes the
-    /// job from the queue. A job that starts on a new thread has no such event.
+    /// job from the queue. A job that starts on a new thread has no such event, so the number of
+    /// events can be smaller.
     pub events: u64,
 }
 
@@ -27,8 +28,9 @@ pub struct RunNumbers {
 /// times. With 0 rounds, a repeating client contributes nothing.
 ///
 /// The jobs that clients submit are generation 0, the jobs that these jobs submit are generation 1,
-/// and so on. The numbers include all generations up to the greatest level in `ranks`. If the rows
-/// (the conditions) of the ranks hold, no job is in a later generation.
+/// and so on. The numbers include all generations up to the greatest level of a class in `ranks`.
+/// In a valid certificate, the level of a class is above the level of each class that it submits.
+/// No job is then in a later generation.
 ///
 /// # Errors
 ///
@@ -65,8 +67,8 @@ enum Measure {
     Events,
 }
 
-/// Returns the quantity of one job of the class, without the jobs that it causes. `measure` selects
-/// the quantity. The events of a job are its actions, a take from the queue and its end.
+/// Returns the quantity of one job of the class, without the jobs that this job submits. `measure`
+/// selects the quantity. The events of a job are its actions, a take from the queue and its end.
 fn own_quantity(measure: Measure, class: &Class) -> u64
     ensures { result ≡ capped (spec.own_quantity measure class.now) }
 {
@@ -78,7 +80,8 @@ fn own_quantity(measure: Measure, class: &Class) -> u64
 }
 
 /// Returns the quantity that `measure` selects, summed over all jobs of a run. These are the jobs
-/// that clients submit in all their rounds, and all jobs that those jobs cause.
+/// that clients submit in all their rounds, and the jobs that those jobs submit, directly or
+/// through other jobs.
 fn by_jobs(
     alloc: Global,
     plan: &Plan,
@@ -93,8 +96,8 @@ fn by_jobs(
     Ok(submitted_by_all(plan, rounds, &numbers))
 }
 
-/// Returns a sum over all submits of all clients in all their rounds. Each submit adds the number
-/// that `numbers` has for the submitted class.
+/// Returns the total quantity of the jobs that the clients submit in all their rounds. `numbers`
+/// has, for each class, the total quantity of one job of the class.
 fn submitted_by_all(plan: &Plan, rounds: u64, numbers: &[u64]) -> u64
     ensures { (f : ℕ → ℕ)
         → spec.AreCapped plan.now f numbers.now
@@ -175,8 +178,8 @@ fn units_in(body: &[Action]) -> u64
     total
 }
 
-/// Returns a sum over all submits of the body. Each submit adds the number that `numbers` has for
-/// the submitted class, or 0 if `numbers` has none.
+/// Returns the sum of the quantities of the jobs that the body submits. `numbers` has, for each
+/// class, the quantity of one job of the class. A class without a number adds 0.
 fn submitted(body: &[Action], numbers: &[u64]) -> u64
     ensures { result ≡ capped (spec.submitted (slice_index numbers.now) body.now) }
 {
@@ -189,9 +192,9 @@ fn submitted(body: &[Action], numbers: &[u64]) -> u64
     total
 }
 
-/// Returns one number for each class. The number is the quantity of one job of the class, plus the
-/// quantities of all jobs that this job causes, directly or through other jobs. `measure` selects
-/// the quantity.
+/// Returns, for each class, the total quantity of one job of the class. The total includes the job
+/// itself and all jobs that it submits, directly or through other jobs. `measure` selects the
+/// quantity.
 fn total_quantity(
     alloc: Global,
     plan: &Plan,
@@ -224,10 +227,10 @@ fn greatest(levels: &[u64]) -> u64
     greatest
 }
 
-/// Extends the quantities in `numbers` by one generation of jobs. The result has one number for
-/// each class. The number is the quantity of one job of the class, plus the quantities of the jobs
-/// that this job causes. The result includes one more generation of caused jobs than `numbers`. If
-/// `numbers` is empty, the result includes no caused jobs. `measure` selects the quantity.
+/// Extends the quantities in `numbers` by one generation of jobs, and returns the result. `numbers`
+/// and the result have, for each class, the quantity of one job and of the jobs that it submits.
+/// The result includes one more generation of submitted jobs than `numbers`. If `numbers` is empty,
+/// the result includes no submitted jobs. `measure` selects the quantity.
 fn add_generation(
     alloc: Global,
     plan: &Plan,

@@ -105,7 +105,6 @@ fn is_same_event(a: Event, b: Event) -> bool
     }
 }
 
-/// Returns `true` if `found` is `Some(owner)`.
 fn is_owned_by(found: Option<Owner>, owner: Owner) -> bool
     ensures { IsTrue result ↔ (found ≡ Some owner) }
 {

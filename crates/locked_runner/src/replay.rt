@@ -1,4 +1,4 @@
-//! The replay of a history in a new world.
+//! The replay of a history from the initial state of the plan.
 
 ghost use Rattle.std.specs.Prelude.{◌≡◌, ◌<◌, ◌+◌, ◌↔◌, [], ℕ, IfOk, OnErr, IsTrue, Some, List, length, take, false};
 ghost use Rattle.written_machine.specs.declared.event.Event.{Event};
@@ -15,7 +15,7 @@ use std::alloc::{AllocError, Global};
 /// The replayed part of a history, without a copy of its events.
 #[derive(Drop)]
 pub(crate) struct Replay {
-    /// The world after the replayed events.
+    /// The state after the replayed events.
     pub(crate) world: ViewedWorld,
     /// For each replayed event, the pool of the job that performed the event, or 0 if no job
     /// performed it. This pool and the event determine the owner of the event.
@@ -26,13 +26,12 @@ pub(crate) struct Replay {
     pub(crate) ended_for_memory: bool,
 }
 
-/// Replays the history in a new world of the plan. Stops before the first event that is not
+/// Replays the history from the initial state of the plan. Stops before the first event that is not
 /// possible, or for which there is not enough memory.
 ///
 /// # Errors
 ///
-/// Returns `AllocError` if memory runs out before the first event, when the new world and the list
-/// of pools are created.
+/// Returns `AllocError` if there is not enough memory for the initial state or the list of pools.
 pub(crate) fn replay_history(
     alloc: Global,
     plan: &Plan,
@@ -115,8 +114,8 @@ impl Replay {
     }
 }
 
-/// Returns `units` plus the units of work of the outcome. `units` and the result are `None` if the
-/// number exceeds `u64::MAX`.
+/// Returns `units` plus the units of work of the outcome. Returns `None` if `units` is `None` or
+/// the sum exceeds `u64::MAX`.
 fn with_work(units: Option<u64>, outcome: Outcome) -> Option<u64>
     ensures { (n : ℕ) → IsCounted n units → IsCounted (n + worked (Some outcome)) result }
 {
@@ -127,7 +126,7 @@ fn with_work(units: Option<u64>, outcome: Outcome) -> Option<u64>
 }
 
 /// Returns `true` if `units` is `Some(wanted)`.
-pub(crate) fn are_as_many(units: Option<u64>, wanted: u64) -> bool
+pub(crate) fn equals_count(units: Option<u64>, wanted: u64) -> bool
     ensures { (n : ℕ) → IsCounted n units → (IsTrue result ↔ (n ≡ wanted)) }
 {
     match units {

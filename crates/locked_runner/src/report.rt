@@ -16,7 +16,7 @@ pub struct RunReport {
     pub jobs: u64,
     /// The units of work done by clients and jobs.
     pub units: u64,
-    /// The number of refused submits. It is always 0.
+    /// The number of refused submits. It is always 0, because the certificate accepts the plan.
     pub refused: u64,
     /// All events of the run, in the order in which they happened.
     pub history: Vec<Event>,
@@ -35,8 +35,7 @@ impl Model for RunReport {
 }
 
 /// The reason why a run is not complete. `events` is the length of a legal prefix of the history. A
-/// prefix is legal if each of its events was possible. `number` is one of these faults of
-/// `support`:
+/// prefix is legal if each of its events was possible. `number` is one of these fault numbers:
 ///
 /// - 20: memory ran out, or a thread could not be started.
 /// - 40: the run exceeds a limit, and no thread was started.
@@ -69,12 +68,12 @@ impl RunFault {
 pub enum ThreadFault {
     /// Memory ran out, or a thread could not be started.
     Memory,
-    /// A call of the gate returned an error.
+    /// A call of the [`Gate`](crate::Gate) returned an error.
     Gate,
 }
 
 impl ThreadFault {
-    /// Returns the number of the fault, which `support` defines.
+    /// Returns the number that identifies this fault: [`MEMORY`] or [`GATE`].
     pub fn number(self) -> u8
         ensures { result ≡ number_of self }
     {

@@ -12,7 +12,7 @@ use crate::completeness::is_complete;
 use crate::numbers::RunNumbers;
 use crate::owner::{kinds_of, lists_of};
 use crate::receipts::{each_once, lists_fit};
-use crate::replay::{Replay, are_as_many, replay_history};
+use crate::replay::{Replay, equals_count, replay_history};
 use crate::{RunFault, RunReport, ThreadResults, ViewedWorld, reached_worlds_refuse_nothing};
 use cert_check::Certified;
 use job_bodies::Plan;
@@ -207,7 +207,7 @@ fn is_run(
     if world.made() as u64 != numbers.jobs {
         return Ok(false);
     }
-    if !are_as_many(replay.units, numbers.units) {
+    if !equals_count(replay.units, numbers.units) {
         return Ok(false);
     }
     if !is_complete(alloc, plan, kinds, world, rounds, &results.history)? {

@@ -10,16 +10,17 @@ use std::alloc::{AllocError, Global};
 use std::collections::VecDeque;
 use std::sync::{Condvar, Mutex, MutexGuard, Wait};
 
-/// The state that the threads of a run share: the machine under its lock, the hand-off queues and
-/// the progress of the run. A thread accesses the hand-off queues and the progress only while it
-/// holds the machine's lock.
+/// The state that the threads of a run share: the plan's machine under its lock, the hand-off
+/// queues and the progress of the run. A hand-off queue passes the jobs that a submit started to
+/// the worker threads of a pool. A thread accesses the hand-off queues and the progress only while
+/// it holds the machine's lock.
 ///
-/// A thread whose actor is at a get waits on the machine's own condition variable. A worker thread
-/// without a job waits on the condition variable of its pool's hand-off queue. Only the end of a
-/// job can unblock a get, and only a submit can give a job to a waiting worker thread. So no other
-/// event wakes a thread.
+/// A thread whose actor is at a get waits on the condition variable of the machine's lock. A worker
+/// thread without a job waits on the condition variable of its pool's hand-off queue. Only the end
+/// of a job can unblock a get, and only a submit can give a job to a waiting worker thread. So no
+/// other event wakes a thread.
 #[derive(Drop)]
-pub(crate) struct Shared<'a> {
+pub(crate) struct SharedState<'a> {
     pub(crate) plan: &'a Plan,
     machine: Locked<CertifiedWorld<'a>>,
     handoffs: Vec<HandoffQueue>,
@@ -34,7 +35,7 @@ struct HandoffQueue {
     job_ready: Condvar,
 }
 
-/// A held lock of the machine.
+/// A guard that holds the lock of the machine.
 type MachineGuard<'a, 'b> = MutexGuard<'b, Held<CertifiedWorld<'a>>>;
 
 /// The threads to wake after an event.
@@ -57,7 +58,7 @@ pub(crate) struct Work {
     pub(crate) taken: Option<Receipt<Event>>,
 }
 
-impl<'a> Shared<'a> {
+impl<'a> SharedState<'a> {
     /// Creates the shared state of a run with `clients` clients, before the first event.
     ///
     /// # Errors
@@ -68,7 +69,7 @@ impl<'a> Shared<'a> {
         plan: &'a Plan,
         held: Held<CertifiedWorld<'a>>,
         clients: usize,
-    ) -> Result<Shared<'a>, AllocError> {
+    ) -> Result<SharedState<'a>, AllocError> {
         let mut handoffs = Vec::with_capacity(alloc, plan.pools().len())?;
         for pool in plan.pools() {
             let threads = carriers(pool) as usize;
@@ -77,7 +78,7 @@ impl<'a> Shared<'a> {
                 job_ready: Condvar::new(),
             })?;
         }
-        Ok(Shared {
+        Ok(SharedState {
             plan,
             machine: Locked::new(held),
             handoffs,
@@ -88,7 +89,7 @@ impl<'a> Shared<'a> {
     /// Returns the history, and the reported fault with the lowest number. The fault is `None` if
     /// no thread reported one.
     pub(crate) fn into_history(self) -> (Vec<Event>, Option<ThreadFault>) {
-        let Shared {
+        let SharedState {
             machine,
             progress,
             ..
@@ -159,8 +160,8 @@ impl<'a> Shared<'a> {
         None
     }
 
-    /// Releases the lock and returns `work`. If `work` is `None`, because the job was not found,
-    /// also stops the run.
+    /// Releases the lock and returns `work`. Also stops the run if `work` is `None`, which means
+    /// that the thread's job was not found.
     fn check_work<R: Wait>(
         &self,
         rt: &R,
@@ -234,8 +235,8 @@ impl<'a> Shared<'a> {
         }
     }
 
-    /// Puts the started job into its pool's hand-off queue, and returns the threads to wake. Stops
-    /// the run if the job's pool is not found or if memory runs out.
+    /// Puts a job into its pool's hand-off queue, from which a worker thread takes it, and returns
+    /// the threads to wake. Stops the run if the job's pool is not found or if memory runs out.
     fn hand_off<R: Wait>(&self, rt: &R, guard: &MachineGuard<'a, '_>, job: usize) -> Wakeup {
         let Some(pool) = self.pool_of(guard, job) else {
             return self.end_without_worker(rt);

@@ -1,6 +1,6 @@
 //! The threads of a run.
 
-use crate::shared::Shared;
+use crate::shared::SharedState;
 use crate::threads::Runner;
 use crate::{
     CertifiedWorld, CompactReceipt, Gate, Owner, ThreadFault, ThreadResults, kinds_of, lists_of,
@@ -34,7 +34,7 @@ pub(crate) fn run_threads<R: Threads + Wait + Sync, G: Gate>(
     let owners = lists_of(alloc, plan, &kinds)?;
     let held = Held::new(alloc, CertifiedWorld::new(certified))?;
     let mut receipts = Vec::with_capacity(alloc, owners.len())?;
-    let shared = Shared::new(alloc, plan, held, kinds.len())?;
+    let shared = SharedState::new(alloc, plan, held, kinds.len())?;
     let state = &shared;
     let kinds = kinds.as_slice();
     let all = owners.as_slice();
@@ -79,7 +79,7 @@ pub(crate) fn run_threads<R: Threads + Wait + Sync, G: Gate>(
 fn run_one<R: Wait, G: Gate>(
     rt: &R,
     alloc: Global,
-    shared: &Shared<'_>,
+    shared: &SharedState<'_>,
     gate: &G,
     kinds: &[usize],
     owner: Owner,

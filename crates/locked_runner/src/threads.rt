@@ -1,6 +1,6 @@
 //! The work of each thread of a run.
 
-use crate::shared::Shared;
+use crate::shared::SharedState;
 use crate::{Actor, CompactReceipt, Gate, ThreadFault};
 use held_machines::Receipt;
 use interleaving::Event;
@@ -19,7 +19,7 @@ const FIRST_ROOM: usize = 16_384;
 #[derive(Drop)]
 pub(crate) struct Runner<'a, 'b, R, G> {
     pub(crate) rt: &'b R,
-    pub(crate) shared: &'b Shared<'a>,
+    pub(crate) shared: &'b SharedState<'a>,
     pub(crate) gate: &'b G,
     pub(crate) receipts: Vec<CompactReceipt>,
 }
@@ -33,7 +33,7 @@ impl<'a, 'b, R: Wait, G: Gate> Runner<'a, 'b, R, G> {
     pub(crate) fn new(
         alloc: Global,
         rt: &'b R,
-        shared: &'b Shared<'a>,
+        shared: &'b SharedState<'a>,
         gate: &'b G,
     ) -> Result<Runner<'a, 'b, R, G>, AllocError> {
         Ok(Runner {

@@ -1,5 +1,5 @@
-//! A world whose contracts mention only its live view. The *live view* of a world is its live jobs,
-//! pools and clients, and its number of refused submits.
+//! A wrapper of a [`World`] with simpler contracts. They mention only the live jobs, the pools and
+//! the clients of the world, and its number of refused submits.
 
 ghost use Rattle.std.specs.Prelude.{◌≡◌, IfOk, OnErr};
 ghost use Rattle.job_bodies.specs.WellFormed.{IsWellFormed};
@@ -13,9 +13,10 @@ use job_bodies::Plan;
 use std::alloc::{AllocError, Global};
 use std::marker::Model;
 
-/// A world whose contracts mention only its live jobs, pools and clients, and its number of refused
-/// submits. A [`World`] also has a number of places for live jobs. The contracts do not mention
-/// this number, because a state of the plan's machine does not determine the number of places.
+/// A [`World`] whose contracts mention only its live jobs, pools and clients, and its number of
+/// refused submits. A `World` also has *places* in memory for live jobs, some of which can be free.
+/// The contracts do not mention the number of places, because the state of the plan does not
+/// determine it.
 #[derive(Drop)]
 pub struct ViewedWorld {
     world: World,
@@ -33,7 +34,7 @@ impl ViewedWorld {
     ghost use Rattle.interleaving.specs.OfPlan.{IsReachableView};
     ghost use Rattle.interleaving.specs.Answers.{AnswersIn};
 
-    /// Creates the plan's world before its first event.
+    /// Creates the world in the initial state of the plan.
     ///
     /// # Errors
     ///
@@ -46,7 +47,8 @@ impl ViewedWorld {
         })
     }
 
-    /// Returns the [`World`] itself, whose contracts also mention its places for live jobs.
+    /// Returns the wrapped [`World`], whose contracts also mention its number of places for live
+    /// jobs.
     pub fn world(&self) -> &World
         ensures { result.now.view ≡ self.now }
     {

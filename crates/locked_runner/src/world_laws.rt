@@ -1,5 +1,4 @@
-//! Laws of the worlds of certified plans, for every history. The *live view* of a state is its live
-//! jobs, pools and clients, and its number of refused submits.
+//! Laws of the states that certified plans reach, for every history: no submit is refused.
 
 ghost use Rattle.std.specs.Prelude.{◌≡◌, List};
 ghost use Rattle.written_machine.specs.declared.event.Event.{Event};
@@ -12,7 +11,8 @@ use held_machines::Held;
 /// States that the machine in `held` has refused no submit, and refuses none in its next event. In
 /// detail:
 ///
-/// - The history leads to a state whose live view is the world in `held`.
+/// - The history leads to a state with the live jobs, the pools, the clients and the number of
+///   refused submits of the world in `held`.
 /// - No submit of the history was refused.
 /// - No event that is possible next is a refused submit.
 pub fn held_worlds_refuse_nothing(held: &Held<CertifiedWorld<'_>>)

@@ -22,8 +22,9 @@ use std::alloc::Global;
 use support::number::{BAD_ACTION, NO_SUCH_CLASS, SLOT_EMPTY, SLOT_OPEN};
 use support::{ReadError, read_each};
 
-/// The position of an action in a plan. The action is at index `action` of a body. The body belongs
-/// to the entry at `index` in a list: the classes or the client kinds, as `part` says.
+/// The position of an action in a plan. `part` says whether the body is that of a class or of a
+/// client kind. `index` is the number of this class or client kind, and `action` is the index of
+/// the action in the body.
 #[derive(Clone, Copy)]
 struct ActionPlace {
     part: Part,

@@ -1,4 +1,5 @@
-//! A law of the grammar of actions, as the contract of an empty function.
+//! A proof that each valid action has exactly one spelling. The function here does nothing: its
+//! contract states what is proved.
 
 ghost use Rattle.std.specs.Prelude.{◌≡◌, ◌↔◌, ℕ, List, Some};
 ghost use Rattle.plan_text.specs.ParsedActions.{ParsedAction, parse_action, spelling, IsValidParsedAction};

@@ -1,4 +1,4 @@
-//! The names of a list, with their indices.
+//! The names of pools, classes or client kinds, with a search for the index of a name.
 
 ghost use Rattle.std.specs.Prelude.{◌≡◌, ◌++◌, ◌∷◌, [], List, ℕ, map, not, length, if◌then◌else◌, position, IfOk};
 ghost use Rattle.std.specs.List.{list_any};
@@ -8,7 +8,8 @@ use indexmap::IndexSet;
 use std::alloc::{AllocError, Global};
 use std::marker::Model;
 
-/// The distinct names of a list, in order, with a hash table that finds the index of a name.
+/// A list of distinct names, in the order in which they were added, with a hash table that finds
+/// the index of a name.
 #[derive(Drop)]
 pub struct Names<'a> {
     names: IndexSet<&'a str>,

@@ -10,7 +10,6 @@ use std::alloc::{AllocError, Global};
 pub(crate) struct Key {
     pub(crate) start: usize,
     pub(crate) end: usize,
-    /// The offset of the key's value.
     pub(crate) value: usize,
     /// The offset of each element of an array, or of each key of an inline table. If the array or
     /// inline table is empty or ends with a comma, the offset of its closing bracket is added at

@@ -7,12 +7,13 @@ use std::alloc::{AllocError, Global};
 
 /// An index of the positions of the parts of a plan in its text.
 ///
-/// Any text has an index. But the index may lack a part if the text is not TOML, or if its entries
-/// do not have the headers `[[pool]]`, `[[class]]` and `[[client]]`. The methods return `None` for
-/// such a part, and the caller then uses the position of a larger part.
+/// An index can be built for any text, even if the text is not a plan. The index can lack a part if
+/// the text is not TOML, or if an entry does not have the header `[[pool]]`, `[[class]]` or
+/// `[[client]]`. The methods return `None` for a part that the index lacks. The caller can then use
+/// the position of a larger part, such as that of the entry instead of a key.
 ///
-/// The contracts do not say at which byte a part begins. Only the contract of [`place_at`] says
-/// what the line and the column of a byte are.
+/// The contracts do not say at which byte a part begins. They only say, at [`place_at`], which line
+/// and column a byte has.
 #[derive(Drop)]
 pub struct Places<'a> {
     text: &'a [u8],

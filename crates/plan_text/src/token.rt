@@ -3,8 +3,8 @@
 /// The kind of a token.
 #[derive(Clone, Copy, PartialEq, Eq)]
 pub(crate) enum Kind {
-    /// A token of none of the kinds below, such as a number or a key without quotes. It ends before
-    /// white space, a quote, a `#` or a mark.
+    /// A number, a key without quotes, or any other token that is not of the kinds below. The token
+    /// ends before white space, a quote, `#` or one of `[ ] { } = , .`
     Word,
     /// A string, including its quotes. A single-line string without a closing quote ends at the end
     /// of its line.

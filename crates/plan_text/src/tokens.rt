@@ -8,7 +8,7 @@ use std::alloc::{AllocError, Global};
 enum OpenToken {
     Nothing,
     Comment,
-    /// A word that began at this offset.
+    /// A token of the kind [`Kind::Word`] that began at this offset.
     Word(usize),
     /// A single-line string.
     Line(Text),

@@ -20,8 +20,9 @@ use std::alloc::{AllocError, Global};
 /// - The parsed `queue` is 1,000,000.
 /// - If core threads may not time out, the parsed maximum is the core size.
 ///
-/// An unbounded queue is written as `queue = "unbounded"`. The `max` of a pool is written as a
-/// number, or as `max = "unbounded"` if the pool has no maximum of its own.
+/// An unbounded queue is written as `queue = "unbounded"`. The `max` of a pool is written as
+/// `max = "unbounded"` if the queue is unbounded, core threads may time out, and the maximum is
+/// [`MAX_THREADS`](job_bodies::MAX_THREADS). Otherwise it is written as a number.
 ///
 /// A submit fills a slot if the body has a get of this submit. The slot is named `s`, followed by
 /// the position of the submit in its body. Other submits fill no slot.

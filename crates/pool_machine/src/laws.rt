@@ -55,8 +55,8 @@ pub fn load_is_offered()
 /// - The pool refuses a job if its queue is bounded and full, and it has its maximum of threads.
 /// - [`PoolState::take`](crate::PoolState::take) fails if no worker is idle or the queue is empty.
 /// - [`PoolState::retire`](crate::PoolState::retire) fails if no worker is idle, or if the pool
-///   needs its threads. It also fails if the queue is bounded with capacity 0, and each idle worker
-///   has a job in the queue.
+///   needs its threads. It also fails if the queue has capacity 0, and each idle worker was already
+///   handed a job.
 ///
 /// The pool needs its threads in these cases:
 ///

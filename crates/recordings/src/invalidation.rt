@@ -9,10 +9,10 @@ ghost use Rattle.recordings.specs.Invalidations.{keyword_of};
 use crate::RecordedActor;
 use std::fmt;
 
-/// An event that invalidates a SAFE answer: after its line, the answer no longer applies to the
-/// recording.
+/// A recorded event that invalidates a SAFE answer. The answer does not apply to the lines after
+/// the line of the event.
 ///
-/// The event formats as a short phrase without the line number, such as `job 4 was refused`.
+/// The displayed text is a short phrase without the line number, such as `job 4 was refused`.
 #[derive(Clone, Copy, PartialEq, Eq)]
 pub enum InvalidatingEvent {
     /// A pool refused the job that this actor submitted.
@@ -27,7 +27,8 @@ pub enum InvalidatingEvent {
     AnyInvoked { actor: RecordedActor },
     /// `shutdownNow` took the job out of its queue.
     Removed { job: usize },
-    /// The job threw an exception that ended the thread.
+    /// The job threw an exception. If a thread of the pool ran the job, the exception also ended
+    /// this thread.
     Threw { job: usize },
     /// A pool ran jobs that no line of the recording reports. `jobs` is the number of these jobs.
     Unseen { jobs: usize },

@@ -19,8 +19,9 @@ use std::collections::BTreeMap;
 /// A list of the invalidating events in the lines read so far. The list has each event that may be
 /// the first of its type in the recording.
 ///
-/// A get that timed out or was interrupted is *pending* until the next line of its actor. That line
-/// can discard the event. For each type, the list has at least these events:
+/// A get that timed out or was interrupted is *pending* until the next line of its actor. If that
+/// line reports a further get of the same job, the list discards the event. For each type, the list
+/// has at least these events:
 ///
 /// - The first event that is not pending.
 /// - All pending events before that event.
@@ -75,8 +76,8 @@ impl InvalidationList {
         }
     }
 
-    /// Returns the first event of each type, in the order of the lines. A pending event counts too,
-    /// although a later line may discard it.
+    /// Returns the first event of each type, in the order of the lines. A get that timed out or was
+    /// interrupted counts until a later line discards it.
     ///
     /// # Errors
     ///
@@ -201,7 +202,7 @@ fn firsts_of(
     Ok(firsts)
 }
 
-/// Appends the invalidation, unless the list has an event of the same type.
+/// Appends `invalidation`, unless the list already has one whose event is of the same type.
 fn push_new_type(
     invalidations: &mut Vec<Invalidation>,
     invalidation: Invalidation,

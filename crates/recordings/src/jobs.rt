@@ -13,8 +13,9 @@ use support::IdMap;
 pub(crate) struct JobState {
     started: bool,
     cancelled: bool,
-    /// The job that the last line of this job submits. `refused` lines are ignored. `None` if the
-    /// last line is not a submit, or if there is no such line yet.
+    /// The last job that this job submitted, or `None` if it has submitted none. It is also `None`
+    /// after another line of this job, except a line that a pool refused the last job. A recording
+    /// may report a refusal only directly after the submit, and this field is used to check that.
     last_submit: Option<usize>,
 }
 
@@ -64,11 +65,11 @@ impl Jobs {
         job < self.submitted && self.get(job).is_none_or(|state| state.cancelled)
     }
 
-    /// Returns the job that the last line of `job` submits. Ignores `refused` lines. Returns `None`
-    /// in these cases:
+    /// Returns the last job that `job` submitted. Returns `None` in these cases:
     ///
-    /// - The last line is not a submit, or there is no such line yet.
-    /// - `job` was not submitted, or it is done.
+    /// - `job` has submitted no job.
+    /// - After the submit, `job` has a further line that is not a `refused` line.
+    /// - `job` was not submitted itself, or it is done.
     pub(crate) fn last_submit(&self, job: usize) -> Option<usize>
         ensures { result ≡ last_submit_in (job_at self.now job) }
     {
@@ -123,8 +124,8 @@ impl Jobs {
         }
     }
 
-    /// Stores the job that the last line of `job` submits, or `None` if that line is not a submit.
-    /// Does nothing if `job` is done.
+    /// Sets the value that [`last_submit`](Jobs::last_submit) returns for `job`. Does nothing if
+    /// `job` was not submitted or is done.
     pub(crate) fn set_last_submit(&mut self, job: usize, last_submit: Option<usize>)
         ensures submitted { self.new.submitted ≡ self.old.submitted }
         ensures unfinished { (j : ℕ)

@@ -34,8 +34,11 @@ pub(crate) fn actor_of(line: &Line<'_>) -> Option<RecordedActor>
     }
 }
 
-/// Returns the job that the line names, such as job 5 in `round 2 got 5`. Ignores the actor of the
-/// line, and the job of a submit. Returns `None` if the line names no other job.
+/// Returns the job that the line names, such as job 5 in `round 2 got 5` and in `job 5 start`.
+/// Returns `None` in these cases:
+///
+/// - The line is a submit, whose job has no earlier line.
+/// - The line names no job except its actor.
 pub(crate) fn job_of(line: &Line<'_>) -> Option<usize>
     ensures { result ≡ spec.job_of (line_view line.now) }
 {
@@ -51,8 +54,8 @@ pub(crate) fn job_of(line: &Line<'_>) -> Option<usize>
     }
 }
 
-/// Returns the pool that the line names, or `None` if it names no pool. Also returns `None` for a
-/// `pool` line.
+/// Returns the pool that needs an earlier `pool` line, because this line names it. Returns `None`
+/// if the line names no pool or is a `pool` line itself.
 pub(crate) fn pool_of<'a>(line: &Line<'a>) -> Option<&'a str>
     ensures { option_map (λ pool. pool.now) result ≡ spec.pool_of (line_view line.now) }
 {

@@ -32,10 +32,6 @@ impl<'a> Model for RecordingLines<'a> {
 
 impl<'a> RecordingLines<'a> {
     /// Creates an iterator over the lines of a text. Ignores the text after the last newline.
-    ///
-    /// In a well-formed line, each number is at most
-    /// [`MAX_LINE_NUMBER`](job_bodies::MAX_LINE_NUMBER) and has no leading zero, and each name
-    /// follows the rules for names in plans.
     pub fn new(text: &'a [u8]) -> RecordingLines<'a>
         ensures lines { result ≡ lines_read text.now }
         ensures few { length result ≤ length text.now }
@@ -47,8 +43,13 @@ impl<'a> RecordingLines<'a> {
     ///
     /// # Errors
     ///
-    /// Returns [`BadLine`] if the next line has none of the forms in `docs/RECORDING.md`. The
-    /// iterator then continues with the line after it.
+    /// Returns [`BadLine`] if the next line has none of the forms in `docs/RECORDING.md`. This
+    /// includes a line with one of these faults:
+    ///
+    /// - A number is above [`MAX_LINE_NUMBER`](job_bodies::MAX_LINE_NUMBER) or has a leading zero.
+    /// - A name is not valid in plans.
+    ///
+    /// The iterator then continues with the line after the bad line.
     #[inline(always)]
     pub fn next(&mut self) -> Option<Result<Line<'a>, BadLine>>
         ensures { MatchOption result ((self.old ≡ []) × (self.new ≡ []))

@@ -80,7 +80,7 @@ impl Paths {
         self.apply_line(line)
     }
 
-    /// Returns the path of the actor, or `None` if it is not live.
+    /// Returns the path of the actor, or `None` if the actor is not live.
     pub fn path(&self, actor: RecordedActor) -> Option<&[RecordedStep]>
         ensures { (before : List RecordedLine)
             → IsPathsOf self.now before

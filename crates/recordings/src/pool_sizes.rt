@@ -12,7 +12,7 @@ use line_words::split_space;
 /// counts as unbounded.
 ///
 /// A `LinkedBlockingQueue` that is created without a capacity has the capacity 2,147,483,647. A
-/// recorder writes each number above [`MAX_LINE_NUMBER`] as `MAX_LINE_NUMBER`.
+/// recorder writes [`MAX_LINE_NUMBER`] instead, because no number in a line may be larger.
 pub const UNBOUNDED_CAPACITY: usize = MAX_LINE_NUMBER;
 
 /// The settings of a pool in a `pool` line. If a value is above

@@ -50,7 +50,8 @@ pub enum Line<'a> {
     JobEnds {
         job: usize,
     },
-    /// The job is done: it threw an exception, which also ended the thread.
+    /// The job is done: it threw an exception. If a thread of the pool ran the job, the exception
+    /// also ended this thread.
     JobThrew {
         job: usize,
     },

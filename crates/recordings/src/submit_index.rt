@@ -51,11 +51,11 @@ impl SubmitIndex {
         }
     }
 
-    /// Appends an entry for the submit of `job` at index `place` of the path.
+    /// Appends an entry for the submit of `job` at position `place` of the path.
     ///
     /// # Errors
     ///
-    /// Returns `AllocError` if memory runs out. The index is then unchanged.
+    /// Returns `AllocError` if memory runs out. The entries are then unchanged.
     pub(crate) fn push(&mut self, job: usize, place: usize) -> Result<(), AllocError>
         requires { spec.IsOrdered self.old }
         ensures entries { OnOk result

@@ -1,6 +1,8 @@
 //! The failing conditions of a certificate, as notes. Each note belongs to a section: the ranks, or
-//! one vector of a pool. The *bound* of a pool is its standing or lifetime vector, which bounds its
-//! queue. A pool that may reject jobs or has an unbounded queue can have no bound.
+//! one vector of a pool. The ranks determine which gets can block a thread that other jobs need. A
+//! vector has one weight for each actor position and worker. The *bound* of a pool is its standing
+//! or lifetime vector, which bounds its queue. A pool that may reject jobs or has an unbounded
+//! queue can have no bound.
 
 ghost use Rattle.std.specs.Prelude.{◌≡◌, ◌<◌, ◌++◌, IsTrue, IfOk, OnOk, filter, length};
 ghost use Rattle.weights.specs.Bound.{bound_vector, bound_rows};
@@ -20,7 +22,8 @@ use job_bodies::Plan;
 use std::alloc::{AllocError, Global};
 use weights::{Bound, Ranks, RanksOf, Vector, visit_blocked_rows};
 
-/// Appends the failing conditions of the ranks to the notes.
+/// Appends the failing conditions of the certificate's ranks to the notes. The ranks determine
+/// which gets can block a thread that other jobs need.
 pub(crate) fn push_rank_notes(
     alloc: Global,
     notes: &mut Vec<Note>,
@@ -36,7 +39,7 @@ pub(crate) fn push_rank_notes(
     found.push_notes(notes, Section::Ranks)
 }
 
-/// Returns the section for the notes of the pool's bound: standing or lifetime.
+/// Returns the section for the notes of the pool's bound, which is a standing or a lifetime vector.
 fn section_of(pool: usize, bound: &Bound) -> Section
     ensures { result ≡ bound_section pool bound.now }
 {
@@ -83,7 +86,8 @@ fn push_bound_notes(
     }
 }
 
-/// Appends the failing conditions of the pool's blocked vector to the notes.
+/// Appends the failing conditions of the pool's blocked vector to the notes. This vector limits how
+/// many jobs of the pool wait where they can block a thread that other jobs need.
 fn push_blocked_notes(
     alloc: Global,
     notes: &mut Vec<Note>,

@@ -55,7 +55,6 @@ impl RowVisitor for FailingRows {
     }
 }
 
-/// Appends the rows to the notes, as notes of this section.
 fn push_section_notes(
     notes: &mut Vec<Note>,
     section: Section,
@@ -69,7 +68,6 @@ fn push_section_notes(
     Ok(())
 }
 
-/// Returns the row as a note of this section.
 fn note(section: Section, row: Row) -> Note
     ensures { result ≡ spec.note section row }
 {

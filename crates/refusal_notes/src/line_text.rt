@@ -12,7 +12,6 @@ use std::alloc::{AllocError, Global};
 use support::push_number;
 use weights::{Place, Rule};
 
-/// Returns the name of the rule, such as `B2`.
 fn rule_name(rule: Rule) -> &'static str
     ensures { result.now ≡ spec.rule_text rule }
 {

@@ -11,9 +11,9 @@ use std::alloc::{AllocError, Global};
 /// The kind of an annotation, which SARIF calls a rule.
 #[derive(Clone, Copy)]
 pub(crate) enum Rule {
-    /// A fault with this number.
+    /// A fault. The field is the number of the fault's kind, such as 13.
     Fault(u8),
-    /// The faults that are left out, because at most 100 are reported.
+    /// The number of the faults that are omitted, because at most 100 are listed.
     MoreFaults,
     /// The warning that the plan has this lint.
     Warning(Lint),

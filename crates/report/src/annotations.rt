@@ -1,6 +1,6 @@
 //! The annotations of an answer. An annotation is a remark about the plan's file, or about a place
 //! in it. If the plan's text has faults, the annotations are about these faults. Otherwise they are
-//! about the warnings and the finding.
+//! about the plan's warnings and the finding: SAFE, NOT SAFE or NOT DECIDED.
 
 ghost use Rattle.std.specs.Prelude.{◌≡◌, ◌∷◌, ◌++◌, [], IfOk, string_bytes};
 ghost use Rattle.report.specs.Annotations.{Adds, remarks_in};
@@ -234,8 +234,8 @@ fn push_warning(
     push(alloc, found, rule, &warning.what, Some(warning.place))
 }
 
-/// Appends the annotations of the answer NOT SAFE. The first annotation has the first line of
-/// `description`, which is the text that describes the witness. The others are those of
+/// Appends the annotations of the answer NOT SAFE. The message of the first annotation is the first
+/// line of `description`, the text about the counterexample. The other annotations are those of
 /// [`push_sizes_found`].
 fn push_not_safe(
     alloc: Global,
@@ -264,9 +264,8 @@ fn first_line(text: &str) -> &str
     }
 }
 
-/// Returns the place of a pool's name in the plan. The pool is the one that refuses the last
-/// submit. Returns `None` if the witness does not end with a refused submit, or if the place is not
-/// known.
+/// Returns the place of a pool's name in the plan's text: the pool that refuses the last submit of
+/// the counterexample. Returns `None` if no submit is refused, or if the place is not known.
 fn ending_place(places: &PlanPlaces, ending: &Ending) -> Option<TextPlace>
     ensures { result ≡ spec.ending_place places.now ending.now }
 {

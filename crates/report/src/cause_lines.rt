@@ -1,4 +1,4 @@
-//! The lines that say why no sizes were found.
+//! The lines that say why the search found no sizes that make the plan safe.
 
 ghost use Rattle.support.specs.Pushed.{Pushes};
 ghost use Rattle.report.specs.Cause as spec;

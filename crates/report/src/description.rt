@@ -1,5 +1,5 @@
-//! The description of a witness as text. A witness is a list of events after which a submit is
-//! refused or jobs wait only for each other.
+//! The description of a witness as text. A witness is a counterexample: a list of events after
+//! which a submit is refused or jobs wait only for each other.
 
 ghost use Rattle.std.specs.Prelude.{◌≡◌, ◌++◌, ◌∷◌, [], IfOk, string_bytes};
 ghost use Rattle.support.specs.Pushed.{Pushes};
@@ -13,8 +13,8 @@ use counterexample::{Ending, Reason, Witness};
 use job_bodies::Plan;
 use std::alloc::{AllocError, Global};
 
-/// Returns the description of a witness. A witness is a list of events after which a submit is
-/// refused or jobs wait only for each other.
+/// Returns the description of a witness. A witness is a counterexample: a list of events after
+/// which a submit is refused or jobs wait only for each other.
 ///
 /// The first line has the form `refused by db, after 7 events of 2 clients`. The next lines show
 /// the events and the pools. If jobs wait only for each other, further lines show what each of
@@ -41,7 +41,7 @@ pub fn describe(alloc: Global, plan: &Plan, witness: &Witness) -> Result<String,
     Ok(text)
 }
 
-/// Appends the first line: the ending of the witness, the number of its events, and the number of
+/// Appends the first line: how the counterexample ends, the number of its events, and the number of
 /// clients that act in them.
 fn push_head(
     text: &mut String,
@@ -85,8 +85,8 @@ fn push_stuck(text: &mut String, how: &str, members: &[usize]) -> Result<(), All
     write!(text, "{how}{jobs} jobs wait only for each other")
 }
 
-/// Appends the last line, which says why the jobs wait permanently or what may end their wait.
-/// Appends nothing if the witness ends with a refused submit.
+/// Appends the last line. It says why jobs wait only for each other permanently, or what may end
+/// their wait. Appends nothing if the counterexample ends with a refused submit.
 fn push_why(text: &mut String, plan: &Plan, ending: &Ending) -> Result<(), AllocError>
     ensures { Pushes result text.old text.new (spec.why_text plan.now ending.now) }
 {
@@ -113,7 +113,7 @@ fn push_at_core(text: &mut String, timeouts: bool) -> Result<(), AllocError>
     )
 }
 
-/// Appends `front`, then `rest`, and then a newline.
+/// Appends a line that consists of `front` and `rest`.
 fn push_two_parts(text: &mut String, front: &str, rest: &str) -> Result<(), AllocError>
     ensures { Pushes result text.old text.new (front.now ++ (rest.now ++ 10 ∷ [])) }
 {
@@ -139,16 +139,15 @@ fn has_timeouts(plan: &Plan) -> bool
     plan.pools().iter().any(|pool| pool.core_timeout)
 }
 
-/// Returns the words that say why a pool starts no thread, although it has fewer threads than its
-/// maximum. `timeouts` says whether core threads may time out.
+/// Returns the words that say why a pool with fewer threads than its maximum starts no thread.
+/// `timeouts` says whether core threads may time out.
 ///
 /// - If core threads never time out, the words say that the pool never starts a thread above its
 ///   core size.
 /// - If core threads may time out, the words say that the pool has at least as many threads as its
-///   core size, and that its queue is never full. The reason for this difference is that such a
-///   pool can start a thread in two cases: while it has fewer threads than its core size, and in
-///   place of a thread that timed out. In the second case, the new thread can be above the core
-///   size.
+///   core size, and that its queue is never full. A pool with fewer threads can start one for a
+///   job. A pool can also start a thread in place of one that timed out, and this thread can be
+///   above the core size.
 #[tactic(auto, unfolding(crate::specs::Description::at_core_words))]
 fn at_core_words(timeouts: bool) -> &'static str
     ensures { result.now ≡ spec.at_core_words timeouts }
@@ -160,8 +159,9 @@ fn at_core_words(timeouts: bool) -> &'static str
     }
 }
 
-/// Returns the words for the thread whose start may end a wait: `a thread above core`. If core
-/// threads may time out, this thread can be a core thread, so the words are `another thread`.
+/// Returns the words for the thread that may end a wait when it starts. If core threads may time
+/// out, this can be any thread, so the words are `another thread`. Otherwise the words are
+/// `a thread above core`.
 fn started_words(timeouts: bool) -> &'static str
     ensures { result.now ≡ spec.started_words timeouts }
 {

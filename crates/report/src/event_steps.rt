@@ -1,5 +1,6 @@
-//! The events of a witness: the actor of each event, and what this actor does. A witness is a list
-//! of events after which a submit is refused or jobs wait only for each other.
+//! The events of a witness: the actor of each event, and what this actor does. A witness is a
+//! counterexample: a list of events after which a submit is refused or jobs wait only for each
+//! other.
 
 ghost use Rattle.std.specs.Prelude.{◌≡◌, IfOk};
 ghost use Rattle.job_bodies.specs.WellFormed.{IsWellFormed};
@@ -141,7 +142,7 @@ fn actor_of(kinds: &Clients, world: &World, event: Event) -> Actor
     }
 }
 
-/// Returns the class index of the job with this number. Returns 0 if the job is not live.
+/// Returns the class index of the job with this number, or 0 if `world` does not have the job.
 fn class_of(world: &World, number: usize) -> usize
     ensures { result ≡ performed.class_seen world.now.view number }
 {

@@ -1,5 +1,5 @@
-//! The finding about a plan: whether it is safe, and the certificate or the witness that shows it.
-//! An answer is written from a finding.
+//! The finding about a plan: whether the plan is safe, and the certificate or counterexample that
+//! shows it. An answer about a plan is written from its finding.
 
 use cert_text::Cert;
 use counterexample::Witness;
@@ -12,10 +12,10 @@ pub enum PlanFinding {
     /// element for each pool: the number of events after which the pool rejects a job. The element
     /// is `None` if no rejection was found. Elements at the end can be missing.
     Safe(Cert, Vec<Option<u64>>),
-    /// A witness shows that the plan is not safe. The fields are the witness and the result of the
-    /// search for other sizes.
+    /// A counterexample shows that the plan is not safe. The fields are this counterexample and the
+    /// result of the search for other sizes.
     NotSafe(Witness, SizesFound),
-    /// Neither a certificate nor a witness was found, so the declared sizes may or may not be safe.
-    /// The field is the result of the search for other sizes.
+    /// Neither a certificate nor a counterexample was found, so the declared sizes may or may not
+    /// be safe. The field is the result of the search for other sizes.
     NotDecided(SizesFound),
 }

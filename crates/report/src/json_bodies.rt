@@ -12,9 +12,9 @@ use plan_text::TextPlace;
 use serde_json::Value;
 use std::alloc::{AllocError, Global};
 
-/// Converts a body to a JSON list of its actions. `index` is the index of the class or client kind
-/// that has this body. For the body of a class, `places` has the places of all classes. For the
-/// body of a client kind, `places` has the places of all client kinds.
+/// Converts a body to a JSON list of its actions. The body belongs to a class or to a client kind,
+/// whose index is `index`. `places` has the places of all classes, or of all client kinds, in the
+/// plan's text.
 pub(crate) fn body_value(
     alloc: Global,
     plan: &Plan,
@@ -84,9 +84,8 @@ fn action_value(
     }
 }
 
-/// Returns the slot of a submit as a JSON value. The slot is the number `submit`, which is the
-/// position of the submit in its body. The get of the submitted job has the same slot. If the body
-/// has no such get, the value is null.
+/// Returns the slot of a submit as a JSON value: the position of the submit in its body. The get of
+/// its job has the same slot. The value is null if the body does not get the job.
 fn slot_value(body: &[Action], submit: usize) -> Value
     ensures { view result ≡ spec.slot_data body.now submit }
 {

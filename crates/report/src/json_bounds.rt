@@ -1,7 +1,7 @@
 //! Two members of a pool's JSON object: the bound of its queue, and the maximum number of its core
-//! threads that wait. The bound is the total of a vector, and is split into shares. The share of a
-//! client kind is the weight of all its clients. The share of a pool is the weight of all its
-//! threads.
+//! threads that wait. The bound is the total of a vector, which has one weight for each actor
+//! position and worker. The total is split into shares. The share of a client kind is the weight of
+//! all its clients. The share of a pool is the weight of all its threads.
 
 ghost use Rattle.std.specs.Prelude.{◌≡◌, ◌++◌, IfOk, IsTrue, OnOk, map};
 ghost use Rattle.serde_json.specs.View.{view};
@@ -141,10 +141,10 @@ fn push_share(
 ///
 /// - `most` is the maximum number of core threads that wait at counted gets at once. A counted get
 ///   can block a thread that other jobs need.
-/// - `left` is the least number of threads that the pool has while a job is queued, minus `most`.
-///   It is never below 0.
+/// - `left` is the number of threads that remain for other jobs: the least number of threads while
+///   a job is queued, minus `most`. It is never below 0.
 ///
-/// The value is null if `blocked` is a vector that does not fit the plan.
+/// The value is null if the vector `blocked`, whose total is `most`, does not fit the plan.
 #[tactic(auto, unfolding(crate::specs::JsonPools::waiting_data))]
 pub(crate) fn blocked_value(
     alloc: Global,

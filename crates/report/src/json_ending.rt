@@ -1,6 +1,7 @@
 //! The ending of a witness as JSON. It has the pool that refuses a submit, or the jobs that wait
 //! only for each other. For each of these jobs, it also says what the job waits for. A witness is a
-//! list of events after which a submit is refused or jobs wait only for each other.
+//! counterexample: a list of events after which a submit is refused or jobs wait only for each
+//! other.
 
 ghost use Rattle.std.specs.Prelude.{◌≡◌, ◌++◌, ◌∷◌, [], map, flat_map, IfOk, OnOk, slice_get};
 ghost use Rattle.serde_json.specs.View.{view};
@@ -21,8 +22,8 @@ use job_bodies::{Action, Plan};
 use serde_json::Value;
 use std::alloc::{AllocError, Global};
 
-/// Converts the ending of a witness to JSON: the pool that refuses a submit, or the jobs that wait
-/// only for each other. `world` is the world after the events of the witness.
+/// Converts the ending of a counterexample to JSON: the pool that refuses a submit, or the jobs
+/// that wait only for each other. `world` is the state after the events of the counterexample.
 #[tactic(auto, unfolding(crate::specs::JsonEnding::ending_parts))]
 pub(crate) fn ending_value(
     alloc: Global,
@@ -44,8 +45,8 @@ pub(crate) fn ending_value(
         .done()
 }
 
-/// Returns the numbers of the jobs that wait only for each other after the last event. The list is
-/// empty if the witness ends with a refused submit.
+/// Returns the numbers of the jobs that wait only for each other at the end of a counterexample.
+/// The list is empty if the counterexample ends with a refused submit.
 pub(crate) fn members_of(ending: &Ending) -> &[usize]
     ensures { result.now ≡ stuck_members ending.now }
 {
@@ -76,7 +77,7 @@ fn refusing_pool(alloc: Global, plan: &Plan, ending: &Ending) -> Result<Value, A
 }
 
 /// Returns, for each job in `members`, a JSON value that says what the job waits for. Skips jobs
-/// that are done or not live.
+/// that are done or not in `world`.
 fn wait_values(
     alloc: Global,
     plan: &Plan,
@@ -95,7 +96,7 @@ fn wait_values(
 }
 
 /// Appends a JSON value that says what the job with this number waits for. Appends nothing if the
-/// job is done or not live.
+/// job is done or not in `world`.
 fn push_wait(
     values: &mut Vec<Value>,
     alloc: Global,
@@ -177,9 +178,9 @@ pub(crate) fn action_at(plan: &Plan, class: usize, position: usize) -> Option<Ac
     }
 }
 
-/// Returns the number of the awaited job, in a list of one element. The waiting job has the number
-/// `number` and waits at this action. The list is empty if the action is not a get, or if the
-/// awaited job is not live.
+/// Returns the number of the job that is awaited, in a list of one element. The waiting job has the
+/// number `number`, and `action` is its current action. The list is empty if the action is not a
+/// get, or if the awaited job is not in `world`.
 fn awaited(
     alloc: Global,
     world: &World,
@@ -197,9 +198,9 @@ fn awaited(
     Ok(jobs)
 }
 
-/// Returns the number of the live job that a submit created. The submit is at the position `submit`
-/// in the body of the job with the number `number`. If several live jobs match, returns the number
-/// of the latest one. Returns `None` if no live job matches.
+/// Returns the number of the job that a submit created. The submit is at the position `submit` in
+/// the body of the job with the number `number`. If `world` has several jobs of this submit,
+/// returns the number of the latest one. Returns `None` if `world` has no job of this submit.
 pub(crate) fn child_of(world: &World, number: usize, submit: usize) -> Option<usize>
     ensures { result ≡ live_child world.now.view.jobs (parent.Job number) submit }
 {

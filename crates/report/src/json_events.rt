@@ -1,5 +1,5 @@
-//! The events of a witness as JSON. A witness is a list of events after which a submit is refused
-//! or jobs wait only for each other.
+//! The events of a witness as JSON. A witness is a counterexample: a list of events after which a
+//! submit is refused or jobs wait only for each other.
 //!
 //! Consecutive similar steps form a run, and each run is one JSON object. Steps are similar if
 //!
@@ -94,7 +94,7 @@ fn push_runs(
     push_run(values, alloc, plan, places, run, steps)
 }
 
-/// Returns whether the step extends the open run.
+/// Returns whether the step extends `run`, which is a run of similar steps.
 fn follows(run: OpenRun, step: EventStep) -> bool
     ensures { result ≡ runs.follows run.first run.times step }
 {
@@ -143,8 +143,8 @@ fn is_sum(total: usize, number: usize, times: usize) -> bool
     number <= total && total - number == times
 }
 
-/// Appends the JSON object of a run of similar steps. `steps` has all steps of the witness up to
-/// and including the last step of the run.
+/// Appends the JSON object of a run of similar steps. `steps` has all steps of the counterexample
+/// up to and including the last step of the run.
 fn push_run(
     values: &mut Vec<Value>,
     alloc: Global,

@@ -41,8 +41,8 @@ pub(crate) fn finding_parts(
     })
 }
 
-/// Converts the assumptions of the answer to a JSON list. The list is empty if the answer is not
-/// SAFE.
+/// Converts the assumptions on which the answer SAFE depends to a JSON list. The list is empty if
+/// the answer is not SAFE.
 fn assumptions_value(alloc: Global, finding: &PlanFinding) -> Result<Value, AllocError>
     ensures { IfOk result (λ value. view value ≡ spec.assumptions_data finding.now) }
 {

@@ -1,4 +1,4 @@
-//! JSON on one line.
+//! The text of a JSON value, on one line.
 
 ghost use Rattle.std.specs.Prelude.{IfOk, string_bytes};
 ghost use Rattle.serde_json.specs.View.{view};

@@ -1,4 +1,5 @@
-//! The places of a plan's entries, and lines and columns as JSON.
+//! Places in a plan's text. This module looks up the place of an entry, such as a class, and
+//! converts lines and columns to JSON.
 
 ghost use Rattle.std.specs.Prelude.{◌≡◌};
 ghost use Rattle.serde_json.specs.View.{view};

@@ -22,9 +22,9 @@ use job_bodies::{Plan, Pool};
 use serde_json::Value;
 use std::alloc::{AllocError, Global};
 
-/// Converts the pools of a plan to JSON. `parts` has the certificate's part for each pool. For each
-/// pool, `rejections` has the number of events after which this pool rejects a job, or `None` if
-/// the number is not known. Both lists are empty if no certificate accepts the plan.
+/// Converts the pools of a plan to JSON. `parts` has the vectors of the certificate for each pool.
+/// For each pool, `rejections` has the number of events after which this pool rejects a job, or
+/// `None` if the number is not known. Both lists are empty if no certificate accepts the plan.
 pub(crate) fn pools_value(
     alloc: Global,
     plan: &Plan,

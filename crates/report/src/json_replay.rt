@@ -1,5 +1,6 @@
 //! The event lines of a witness as a JSON list. The command `replay` reads lines of this form. A
-//! witness is a list of events after which a submit is refused or jobs wait only for each other.
+//! witness is a counterexample: a list of events after which a submit is refused or jobs wait only
+//! for each other.
 
 ghost use Rattle.std.specs.Prelude.{◌≡◌, ◌++◌, ◌∷◌, map, flat_map, codes, decimal, string_bytes, IfOk, OnOk};
 ghost use Rattle.serde_json.specs.View.{view};
@@ -19,9 +20,9 @@ use serde_json::Value;
 use std::alloc::{AllocError, Global};
 use support::push_number;
 
-/// Converts the event lines of a witness to a JSON list. The list has one line for each event. If
-/// jobs wait only for each other after the events, the list also has a `stuck` line with the
-/// numbers of these jobs.
+/// Converts the events of a counterexample to a JSON list of lines, which the command `replay`
+/// reads. The list has one line for each event. If jobs wait only for each other after the events,
+/// the list also has a `stuck` line with the numbers of these jobs.
 pub(crate) fn replay_value(
     alloc: Global,
     plan: &Plan,
@@ -35,7 +36,6 @@ pub(crate) fn replay_value(
     Ok(array_value(values))
 }
 
-/// Appends the line of each event.
 fn push_events(
     values: &mut Vec<Value>,
     alloc: Global,

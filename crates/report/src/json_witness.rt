@@ -1,5 +1,6 @@
 //! A witness as JSON: how it ends, its events, and the event lines that `replay` reads. A witness
-//! is a list of events after which a submit is refused or jobs wait only for each other.
+//! is a counterexample: a list of events after which a submit is refused or jobs wait only for each
+//! other.
 
 ghost use Rattle.std.specs.Prelude.{◌≡◌, [], map, flat_map, IfOk};
 ghost use Rattle.serde_json.specs.View.{view};
@@ -23,7 +24,7 @@ use job_bodies::Plan;
 use serde_json::Value;
 use std::alloc::{AllocError, Global};
 
-/// Converts a witness to JSON. The witness shows that the plan is not safe.
+/// Converts a counterexample to JSON.
 ///
 /// # Errors
 ///
@@ -41,8 +42,8 @@ pub(crate) fn witness_value(
     parts_value(alloc, plan, places, &world, &steps, witness)
 }
 
-/// Converts a witness to JSON. `steps` has what the events of the witness did, and `world` is the
-/// world after these events.
+/// Converts a counterexample to JSON. `steps` has what its events did, and `world` is the state
+/// after these events.
 #[tactic(auto, unfolding(crate::specs::JsonWitness::witness_parts))]
 fn parts_value(
     alloc: Global,

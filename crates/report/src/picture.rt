@@ -37,9 +37,11 @@ pub fn picture_of(alloc: Global, plan: &Plan, finding: &PlanFinding) -> Result<S
 
 /// Returns the Graphviz graph of a plan.
 ///
-/// - `parts` has the certificate's part for each pool. It is empty if there is no certificate.
-/// - `ranks` has the ranks of the certificate, which decide whether a get is counted. It is `None`
-///   if there is no certificate. Counted gets are bold.
+/// - `parts` has the vectors of the certificate for each pool. It is empty if there is no
+///   certificate.
+/// - `ranks` is the part of the certificate that determines which gets are counted. It is `None` if
+///   there is no certificate. Counted gets are bold, because they can block a thread that other
+///   jobs need.
 fn graph_of(
     alloc: Global,
     plan: &Plan,
@@ -181,8 +183,8 @@ fn push_label(
     push_bound(text, plan, number, pool, part)
 }
 
-/// Appends the bound of the pool's queue. Appends nothing if `part` is `None`, because there is no
-/// certificate.
+/// Appends the bound of the pool's queue. `part` has the vectors of the certificate for this pool.
+/// Appends nothing if `part` is `None`, because there is no certificate.
 fn push_bound(
     text: &mut String,
     plan: &Plan,
@@ -199,12 +201,11 @@ fn push_bound(
     }
 }
 
-/// Appends the bound of the pool's queue. If the queue has a limited capacity and no bound, appends
-/// that the pool may reject jobs. Appends nothing if
+/// Appends the bound of the pool's queue. Appends nothing if the vector of the bound does not fit
+/// the plan. If no bound limits the jobs in the queue, the capacity decides what is appended:
 ///
-/// - the queue has an unlimited capacity and no bound,
-/// - the queue has an unlimited capacity, and the bound does not limit its jobs, or
-/// - the vector of the bound does not fit the plan.
+/// - If the capacity is limited, appends that the pool may reject jobs.
+/// - If the capacity is unlimited, appends nothing.
 fn push_bound_of(
     text: &mut String,
     plan: &Plan,

@@ -12,8 +12,8 @@ use job_bodies::{Class, Plan, Pool};
 use std::alloc::{AllocError, Global};
 use weights::{Bound, Vector};
 
-/// Returns a sufficient queue capacity for each pool of the certificate: the total of the pool's
-/// standing vector. The element is `None` if
+/// Returns a sufficient queue capacity for each pool of the certificate. It is the total of the
+/// pool's standing vector, which limits the jobs in the queue at one time. The element is `None` if
 ///
 /// - the pool has a lifetime vector or no vector,
 /// - the vector does not fit the plan,
@@ -74,12 +74,12 @@ pub fn total_of(plan: &Plan, vector: &Vector) -> Option<u64>
 }
 
 /// Returns whether the total of the bound limits the number of jobs of the pool. If the pool's
-/// queue is bounded, returns `true`, because the conditions on the bound already demand that the
-/// total limits these jobs. If the queue is unbounded, all of these must hold:
+/// queue is bounded, returns `true`: the conditions of a certificate then ensure this limit. If the
+/// queue is unbounded, all of these must hold for the vector of the bound:
 ///
 /// - The vector fits the plan.
-/// - The vector gives each job of the pool a weight of at least 1. In a standing vector, only
-///   queued jobs need this weight.
+/// - The vector gives each job of the pool a weight of at least 1. A standing vector limits only
+///   the queued jobs, so only queued jobs need this weight.
 /// - The vector gives no weight to the threads of a pool without a maximum.
 pub(crate) fn bounds_jobs(plan: &Plan, pool: usize, bound: &Bound) -> bool
     ensures { result ≡ spec.bounds_jobs plan.now pool bound.now }
@@ -98,12 +98,8 @@ pub(crate) fn is_unbounded(plan: &Plan, pool: usize) -> bool
     }
 }
 
-/// Returns whether all of these hold for the bound's vector:
-///
-/// - The vector fits the plan.
-/// - The vector gives each job of the pool a weight of at least 1. In a standing vector, only
-///   queued jobs need this weight.
-/// - The vector gives no weight to the threads of a pool without a maximum.
+/// Returns whether the bound's vector meets all conditions that [`bounds_jobs`] lists for an
+/// unbounded queue.
 fn counts_jobs(plan: &Plan, pool: usize, bound: &Bound) -> bool
     ensures { result ≡ spec.counts_jobs plan.now pool bound.now }
 {
@@ -150,17 +146,17 @@ fn counts_classes(pool: usize, bound: &Bound, classes: &[Class]) -> bool
         .all(|(number, class)| counts_if_of(pool, bound, number, class))
 }
 
-/// Returns `true` if the class does not belong to the pool, and otherwise the result of
-/// [`counts_class`]. `number` is the number of the class.
+/// Returns whether the class belongs to another pool, or its jobs have the weights that
+/// [`counts_class`] requires. `number` is the number of the class.
 fn counts_if_of(pool: usize, bound: &Bound, number: usize, class: &Class) -> bool
     ensures { result ≡ spec.counts_if_of pool bound.now (number, class.now) }
 {
     class.pool != pool || counts_class(bound, number)
 }
 
-/// Returns whether the bound's vector gives each job of the class a weight of at least 1. In a
-/// standing vector, only queued jobs need this weight. In a lifetime vector, queued, running and
-/// done jobs need it.
+/// Returns whether the bound's vector gives each job of the class a weight of at least 1. A
+/// standing vector limits the jobs in the queue, so only queued jobs need this weight. A lifetime
+/// vector limits the jobs ever submitted, so queued, running and done jobs need it.
 fn counts_class(bound: &Bound, class: usize) -> bool
     ensures { result ≡ spec.counts_class bound.now class }
 {

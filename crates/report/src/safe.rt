@@ -21,9 +21,9 @@ use job_bodies::{Plan, Pool};
 use std::alloc::{AllocError, Global};
 use weights::{Bound, Vector};
 
-/// Appends the lines of each pool for which the certificate has a part. Then appends a last line
-/// with what the certificate guarantees. For each pool, `rejections` has the number of events after
-/// which this pool rejects a job, or `None` if the number is not known.
+/// Appends the lines of each pool that is in the certificate. Then appends a last line with what
+/// the certificate guarantees. For each pool, `rejections` has the number of events after which
+/// this pool rejects a job, or `None` if the number is not known.
 pub(crate) fn push_safe(
     alloc: Global,
     text: &mut String,
@@ -86,7 +86,7 @@ fn push_pools(
     Ok(())
 }
 
-/// Appends the lines of a pool, if the certificate has a part for it.
+/// Appends the lines of a pool. Appends nothing if the pool is not in the certificate.
 fn push_pool(
     alloc: Global,
     text: &mut String,
@@ -136,8 +136,8 @@ fn push_lines(
     push_rest(alloc, text, plan, number, pool, &part.bound, &part.blocked)
 }
 
-/// Appends the remaining lines of a pool: the line of [`push_waits`], and those of
-/// [`push_pool_submits`].
+/// Appends the lines that follow the line with the pool's bound: the line of [`push_waits`], and
+/// those of [`push_pool_submits`].
 fn push_rest(
     alloc: Global,
     text: &mut String,

@@ -1,8 +1,8 @@
 //! The line about a pool's threads and queue. The line is part of the text for a plan that a
 //! certificate accepts. It has the number of threads, the bound of the queue, and the shares that
-//! client kinds and pools have in the bound. The bound is the total of a vector. The share of a
-//! client kind is the weight of all its clients. The share of a pool is the weight of all its
-//! threads.
+//! client kinds and pools have in the bound. The bound is the total of a vector, which has one
+//! weight for each actor position and worker. The share of a client kind is the weight of all its
+//! clients. The share of a pool is the weight of all its threads.
 
 ghost use Rattle.std.specs.Prelude.{◌≡◌, ◌++◌, IsTrue, OnOk, map, string_bytes};
 ghost use Rattle.support.specs.Pushed.{Pushes};
@@ -147,9 +147,9 @@ fn push_rejection(text: &mut String, rejection: Option<u64>) -> Result<(), Alloc
     }
 }
 
-/// Appends the capacity of the pool's queue, the bound of the queue, and the shares that client
-/// kinds and pools have in the bound. Appends nothing if the vector of the bound does not fit the
-/// plan.
+/// Appends the capacity of the pool's queue, how many jobs can wait in the queue at once, and how
+/// many of these each client kind and each pool can add. Appends nothing if the vector of `bound`
+/// does not fit the plan.
 fn push_bounded(
     alloc: Global,
     text: &mut String,

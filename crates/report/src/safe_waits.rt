@@ -35,8 +35,9 @@ pub(crate) fn push_waits(
 }
 
 /// Appends the maximum number of core threads that wait at counted gets at once, and the number of
-/// the other core threads. The maximum is the total of the vector `blocked`. Appends nothing if
-/// this total is 0, or if the vector does not fit the plan.
+/// the other core threads. A counted get can block a thread that other jobs need. The maximum is
+/// the total of the vector `blocked`. Appends nothing if this total is 0, or if the vector does not
+/// fit the plan.
 fn push_left(
     text: &mut String,
     plan: &Plan,
@@ -98,8 +99,8 @@ pub(crate) fn waited_names(
     Ok(names)
 }
 
-/// Appends the name of `pool` if a job of the waiting pool waits for a job of `pool`. The waiting
-/// pool has the number `number`, and `pool` has the number `other`.
+/// Appends the name of `pool` if a job of the waiting pool waits for a job of `pool`. `number` is
+/// the number of the waiting pool, and `other` is the number of `pool`.
 #[tactic(auto, using(std::proofs::lemmas::List::map_push))]
 fn push_if_waited(
     alloc: Global,

@@ -95,9 +95,9 @@ fn push_size(text: &mut String, declared: u64, fit: u64) -> Result<(), AllocErro
     }
 }
 
-/// Returns how many sizes of the pool change. If the maximum [has no effect](has_useless_max), only
-/// the core size has an effect. All changes of the pool then count as one: the result is 1 if any
-/// size changes, and otherwise 0.
+/// Returns how many sizes of the pool change. If the maximum [has no effect](has_useless_max), all
+/// changes of the pool count as one, because only the core size has an effect. The result is then 1
+/// if any size changes, and otherwise 0.
 fn pool_changes(declared: &Pool, fit: &Pool) -> u64
     ensures { result ≡ spec.pool_changes declared.now fit.now }
 {

@@ -1,5 +1,6 @@
-//! The lines of a story that show its events. A turn is a group of consecutive steps of one actor.
-//! Consecutive turns with the same text are one line.
+//! The lines of a story that show its events. A story is a text that describes a counterexample. A
+//! turn is a group of consecutive steps of one actor. Consecutive turns with the same text are one
+//! line.
 
 ghost use Rattle.std.specs.Prelude.{◌≡◌, ◌<◌, ◌≤◌, ◌+◌, ◌-◌, ◌++◌, ◌∷◌, List, length, map, flat_map, slice_get, IfOk, OnOk};
 ghost use Rattle.support.specs.Pushed.{Pushes};

@@ -1,4 +1,5 @@
-//! The lines of a story that show the state of the pools.
+//! The lines of a story that show the state of the pools. A story is a text that describes a
+//! counterexample.
 
 ghost use Rattle.std.specs.Prelude.{◌≡◌, decimal, flat_map};
 ghost use Rattle.std.specs.List.{enumerate_from};

@@ -1,5 +1,5 @@
-//! The turns of a story. A turn is a group of consecutive steps of one actor within one pass
-//! through its body.
+//! The turns of a story, which is a text that describes a counterexample. A turn is a group of
+//! consecutive steps of one actor within one pass through its body.
 
 ghost use Rattle.std.specs.Prelude.{◌≡◌, ◌<◌, ◌≤◌, ◌+◌, ◌++◌, ◌∷◌, List, length, map, codes, IfOk, OnOk};
 ghost use Rattle.support.specs.Pushed.{Pushes};
@@ -20,8 +20,8 @@ use std::alloc::{AllocError, Global};
 pub(crate) struct Turn {
     pub(crate) actor: Actor,
     pub(crate) text: String,
-    /// Whether the next step must begin a new turn. This is so in two cases: the last step of this
-    /// turn starts the client's body again, or a thread times out in this step.
+    /// Whether the next step must begin a new turn. This is so if the last step of this turn starts
+    /// the client's body again, or if a thread times out in that last step.
     pub(crate) is_ended: bool,
     /// The number of steps in this turn and in all turns before it.
     pub(crate) end: usize,
@@ -61,9 +61,9 @@ fn push_turns(
     push_turns_from(turns, alloc, plan, turn, rest, steps.len())
 }
 
-/// Appends `turn`, and then the turns of `steps`. If `steps` begins with steps that continue
-/// `turn`, these steps become part of `turn`. `all` must be at least `turn.end` plus the length of
-/// `steps`.
+/// Appends `turn` and the turns of `steps`. If `steps` begins with steps that continue `turn`,
+/// these steps become part of `turn`. `all` is the number of all steps of the story. It must be at
+/// least `turn.end` plus the length of `steps`.
 fn push_turns_from(
     turns: &mut Vec<Turn>,
     alloc: Global,
@@ -84,9 +84,9 @@ fn push_turns_from(
     Ok(())
 }
 
-/// Adds one more step, and returns the last turn. If the step continues `turn`, the last turn is
-/// `turn` with this step at its end. Otherwise appends `turn` to `turns`, and the last turn is a
-/// new one that begins with the step.
+/// Adds the step that follows `turn`, and returns the turn that ends with this step. If the step
+/// continues `turn`, the result is `turn` with the step at its end. Otherwise appends `turn` to
+/// `turns`, and returns a new turn that has only the step.
 fn after_step(
     turns: &mut Vec<Turn>,
     alloc: Global,

@@ -1,4 +1,5 @@
-//! The lines of a story that show what each waiting job waits for.
+//! The lines of a story that show what each waiting job waits for. A story is a text that describes
+//! a counterexample.
 
 ghost use Rattle.std.specs.Prelude.{◌≡◌, flat_map};
 ghost use Rattle.support.specs.Pushed.{Pushes};
@@ -59,8 +60,8 @@ fn push_each(
     Ok(())
 }
 
-/// Appends a line that says what the job with this number waits for. Appends nothing if the job
-/// waits neither in a queue nor at a get of a live job.
+/// Appends a line that says what the job with this number waits for. Appends nothing if the job is
+/// not in `world`, or waits neither in a queue nor at a get of a job in `world`.
 fn push_wait(text: &mut String, plan: &Plan, world: &World, number: usize) -> Result<(), AllocError>
     ensures { Pushes result text.old text.new (seen.wait_seen plan.now world.now.view number) }
 {
@@ -101,7 +102,7 @@ fn push_in_queue(text: &mut String, pool: &str) -> Result<(), AllocError>
 /// Appends a line that says what a job waits for at this action, such as
 /// `job 0 (report) waits for job 1 (section)`. `number` is the number of the waiting job, and
 /// `class` is the index of its class. Appends nothing if the action is not a get, or if the awaited
-/// job is not live.
+/// job is not in `world`.
 fn push_get(
     text: &mut String,
     plan: &Plan,

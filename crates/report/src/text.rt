@@ -18,8 +18,8 @@ use std::alloc::{AllocError, Global};
 /// Returns the text of the finding. The first line is the answer, and the other lines depend on it:
 ///
 /// - `SAFE`: the bound of each queue, and the shares that client kinds and pools have in the bound.
-/// - `NOT SAFE`: the description of the witness, the result of the search for other sizes, and
-///   advice.
+/// - `NOT SAFE`: the description of the counterexample, the result of the search for other sizes,
+///   and advice.
 /// - `NOT DECIDED`: the result of the search for other sizes, advice, and a line that says what was
 ///   not found.
 ///

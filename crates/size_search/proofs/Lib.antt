@@ -22,7 +22,7 @@ pub mod RaisedPlans
 pub mod LeastSizes
 pub mod SmallestPlans
 pub mod LeastMaxes
-pub mod Unfits
+pub mod FitErrors
 pub mod ReportedCores
 pub mod TotalBounds
 pub mod Loops

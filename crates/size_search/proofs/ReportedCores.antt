@@ -7,14 +7,14 @@ use Rattle.job_bodies.specs.declared.limits.TheConstants.{MAX_SIZE}
 use Rattle.job_bodies.specs.Plan.{Pool, no_pool, pool_at}
 use Rattle.cert_text.specs.Cert.{pool_cert_at, cert_fits}
 use Rattle.soundness.specs.declared.note.Note.{Note}
-use Rattle.size_search.specs.declared.unfit.Unfit.{Unfit}
-use Rattle.size_search.specs.declared.unfit.Unfit.TheVariants.{Shape, Condition, Core, Queue}
+use Rattle.size_search.specs.declared.fit_error.FitError.{FitError}
+use Rattle.size_search.specs.declared.fit_error.FitError.TheVariants.{Shape, Condition, Core, Queue}
 use Rattle.size_search.specs.Fitted.{core_needed, raised}
-use Rattle.size_search.specs.Unfit.{failing_elsewhere, first_unfit, first_tight, first_short, unfit_sizes, unfit_pool, ReportedCoresNeedLargerMaxes}
+use Rattle.size_search.specs.FitError.{failing_elsewhere, first_unfit, first_tight, first_short, unfit_sizes, unfit_pool, ReportedCoresNeedLargerMaxes}
 use Rattle.size_search.proofs.Changes.{own_max, sizes_at}
 use Rattle.size_search.proofs.RaisedPlans.{has_shape, raised-shape, raised_at}
 use Rattle.size_search.proofs.LeastMaxes.{widened_at, widened_maxes_are_least}
-use Rattle.size_search.proofs.Unfits.{tight_is_no_core, short_is_no_core, neither_is_core}
+use Rattle.size_search.proofs.FitErrors.{tight_is_no_core, short_is_no_core, neither_is_core}
 
 -- ---- a core as the reason
 
@@ -52,7 +52,7 @@ reported_at n (pool ∷ pools) reported some = at_first (unfit_pool n pool) refl
     next_place : (i : ℕ) → n + 1 + i ≡ n + suc i
     next_place i = omega arith
 
-    at_first : (found : Option Unfit) → unfit_pool n pool ≡ found → (first_unfit (enumerate_from (n + 1) pools) ≡ Some (Core reported) → IsReportedAt (n + 1) pools reported)
+    at_first : (found : Option FitError) → unfit_pool n pool ≡ found → (first_unfit (enumerate_from (n + 1) pools) ≡ Some (Core reported) → IsReportedAt (n + 1) pools reported)
         → option_or found (first_unfit (enumerate_from (n + 1) pools)) ≡ Some (Core reported) → IsReportedAt n (pool ∷ pools) reported
     at_first None none rest e =
         let later = rest e in
@@ -65,13 +65,13 @@ reported_at n (pool ∷ pools) reported some = at_first (unfit_pool n pool) refl
         record { place = 0; inside = omega arith; is_above = subst (λ (j : ℕ). IsAbove j pool reported) first_place (core_above n pool reported (is ∙ e)) }
 
 -- a core that is a reason comes from the raised sizes
-of_sizes : (fits : Bool) (found : Option Note) (sizes : Option Unfit) (reported : ℕ) → cond fits (option_or (option_map Condition found) sizes) (Some Shape) ≡ Some (Core reported) → sizes ≡ Some (Core reported)
+of_sizes : (fits : Bool) (found : Option Note) (sizes : Option FitError) (reported : ℕ) → cond fits (option_or (option_map Condition found) sizes) (Some Shape) ≡ Some (Core reported) → sizes ≡ Some (Core reported)
 of_sizes true None sizes reported some = some
 of_sizes true (Some note) sizes reported some = absurd cc
 of_sizes false found sizes reported some = absurd cc
 
 -- a core is a reason only if it is the first invalid size
-of_first : (first second : Option Unfit) (reported : ℕ) → (second ≡ Some (Core reported) → ⊥) → option_or first second ≡ Some (Core reported) → first ≡ Some (Core reported)
+of_first : (first second : Option FitError) (reported : ℕ) → (second ≡ Some (Core reported) → ⊥) → option_or first second ≡ Some (Core reported) → first ≡ Some (Core reported)
 of_first None second reported no_core some = absurd (no_core some)
 of_first (Some unfit) second reported no_core some = some
 

@@ -9,10 +9,10 @@ use Rattle.cert_text.specs.Cert.{Cert}
 use Rattle.soundness.specs.declared.note.Section.TheVariants as section
 use Rattle.soundness.specs.Conditions.{note, failing}
 use Rattle.cert_check.proofs.WorkedPlans.{a_pool, a_class, clients, asks, works, one_pool, one_pool_once, rejecting, forgetting, unbounded_queue, nested, nested_rejecting, nested_unbounded, fan_out, two_pools, weighing, pool_cert, pair_of_ones, one_of_ones, one_of_zeros, standing_cert, cert_without_bound, lifetime_cert, forgetting_cert, lends, nested_ranks, nested_cert, nested_cert_without_bound, fan_out_cert, two_pools_cert}
-use Rattle.size_search.specs.declared.unfit.Unfit.TheVariants.{Shape, Condition, Core, Queue, CoreTimeout}
+use Rattle.size_search.specs.declared.fit_error.FitError.TheVariants.{Shape, Condition, Core, Queue, CoreTimeout}
 use Rattle.size_search.specs.Fitted.{fitted, smallest}
 use Rattle.size_search.specs.Widened.{widened}
-use Rattle.size_search.specs.Unfit.{why_unfit, why_not_widened}
+use Rattle.size_search.specs.FitError.{why_unfit, why_not_widened}
 
 -- ---- queues
 

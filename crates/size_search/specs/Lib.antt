@@ -9,7 +9,7 @@ pub mod SteadyLaws
 pub mod Causes
 pub mod Fitted
 pub mod Widened
-pub mod Unfit
+pub mod FitError
 pub mod NoSizesHelp
 pub mod Sized
 pub mod Decided

@@ -1,5 +1,7 @@
-//! One attempt to find sizes. In rounds, the pools get ranks, and some cores are raised. Then the
-//! attempt computes the least sizes for the resulting certificate.
+//! One attempt to find sizes with which a certificate accepts the plan. The attempt works in
+//! rounds. A round gives a rank, which is a number in the certificate, to some pools. It may also
+//! raise the core of one pool. After the rounds, the attempt computes the least sizes for the
+//! resulting certificate.
 
 use crate::certified::cert_of;
 use crate::found::AttemptError;
@@ -29,9 +31,10 @@ pub(crate) struct Attempt {
 /// Searches for a certificate of the plan, and for the least sizes that this certificate needs. The
 /// search starts with the cores and maximums in `threads`.
 ///
-/// If no pool has a large enough core in a round, the round raises the core of one pool: the pool
-/// that needs the smallest increase. The first such round skips the `passed_over` pools with the
-/// smallest increases, and raises the core of the next pool.
+/// The search works in rounds, which [`assign_ranks`](crate::rounds::assign_ranks) explains. If a
+/// round must raise a core, it raises the core of the pool that needs the smallest increase. The
+/// first such round is an exception. It skips `passed_over` pools, in ascending order of the
+/// necessary increases, and raises the core of the next pool.
 ///
 /// # Errors
 ///

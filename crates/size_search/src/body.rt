@@ -15,8 +15,9 @@ use job_bodies::{Action, Client, Plan, has_get_of};
 use std::alloc::{AllocError, Global};
 use weights::{Vector, submitted_class};
 
-/// Returns the weight at index `place` in the row of the class, or 0 if there is no such class or
-/// index.
+/// Returns the weight at index `place` in the list of the class's weights, or 0 if there is no such
+/// class or index. The list has the weight of a queued job, the weight at each position of the
+/// body, and the weight of a done job.
 fn number_of(vector: &Vector, class: usize, place: usize) -> u64
     ensures { result ≡ slice_index (vector_spec.class_weights vector.now class) place }
 {

@@ -68,8 +68,8 @@ fn standing_bound(
 #[derive(Drop)]
 struct LeastBound {
     bound: Bound,
-    /// The number of places that the pool's queue lacks for this vector. It is 0 if the queue is
-    /// large enough.
+    /// The number by which the capacity of the pool's queue must grow for this vector. It is 0 if
+    /// the queue is large enough.
     missing: u64,
 }
 

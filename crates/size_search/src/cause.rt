@@ -13,12 +13,12 @@ pub enum Cause {
     /// get the submitted job, which goes to a pool that must not reject jobs and has a bounded
     /// queue. Repeating clients submit jobs of this class, directly or through other jobs.
     ClassNeverGets(usize, usize),
-    /// The number of a pool whose last thread can wait for another job of this pool. The core
-    /// threads of the pool may time out, so one thread can be left.
+    /// The number of a pool whose core threads may time out, so that only one thread can be left.
+    /// This last thread can wait until another job of the pool ends.
     ///
-    /// The job on this thread waits at a get until the other job ends. The wait can be direct, or
-    /// it can go through a chain of further jobs. Each job of the chain waits for the next job in
-    /// one of two ways:
+    /// The job that the last thread executes waits at a get. It waits for the other job directly,
+    /// or through a chain of jobs that ends with the other job. Each job of the chain waits for the
+    /// next job in one of two ways:
     ///
     /// - It gets the next job.
     /// - It is queued in a pool whose last thread executes a job that gets the next job.

@@ -39,12 +39,12 @@ pub fn cause_of(alloc: Global, plan: &Plan) -> Result<Option<Cause>, AllocError>
     pool_circle(alloc, plan)
 }
 
-/// Returns whether the plan's steady certificate may be unusable: possibly no sizes are enough for
-/// it. The plan must have no cause (see [`cause_of`]). The certificate may be unusable in two
-/// cases:
+/// Returns whether the plan's steady certificate (see [`steady`](crate::steady)) may be unusable:
+/// possibly no sizes are enough for it. The plan must have no cause (see [`cause_of`]). The
+/// certificate may be unusable in two cases:
 ///
 /// - A repeating client submits a job, directly or through other jobs. The job is never got, and
-///   its pool needs no bound.
+///   its pool may reject jobs or has an unbounded queue.
 /// - A class has a get, but no client submits this class, directly or through other jobs. The core
 ///   threads of the class's pool may time out.
 pub(crate) fn is_unsteady(alloc: Global, plan: &Plan) -> Result<bool, AllocError>
@@ -60,9 +60,13 @@ pub(crate) fn is_unsteady(alloc: Global, plan: &Plan) -> Result<bool, AllocError
     Ok(has_unused_get(plan, &submitted))
 }
 
-/// Returns whether a repeating client submits a job of the following kind, directly or through
-/// other jobs: the job is never got, and its pool needs no bound. [`cause_of`] must have found no
-/// cause.
+/// Returns whether some job satisfies these three conditions:
+///
+/// - A repeating client submits the job, directly or through other jobs.
+/// - The job is never got.
+/// - The pool of the job may reject jobs or has an unbounded queue.
+///
+/// The plan must have no cause (see [`cause_of`]).
 fn loses_without_bound(alloc: Global, plan: &Plan) -> Result<bool, AllocError>
     requires { IsWithoutCause plan.now }
     ensures loses { IfOk result (λ loses. loses ≡ true → LosesWithoutBound plan.now) }
@@ -112,10 +116,10 @@ fn pool_circle(alloc: Global, plan: &Plan) -> Result<Option<Cause>, AllocError>
 /// Returns whether some class satisfies these three conditions:
 ///
 /// - The class has a get.
-/// - The class is not marked in `submitted`.
+/// - No client submits the class, directly or through other jobs.
 /// - The core threads of the class's pool may time out.
 ///
-/// The marked classes must be those that clients submit, directly or through other jobs.
+/// `submitted` must mark the classes that clients submit, directly or through other jobs.
 fn has_unused_get(plan: &Plan, submitted: &[bool]) -> bool
     requires { MarksSubmitted plan.now submitted.now }
     ensures unused { result ≡ true → HasUnusedGet plan.now }
@@ -165,8 +169,10 @@ fn may_lose_threads(plan: &Plan, pool: usize) -> bool
 
 /// Searches the bodies of the repeating client kinds for the first submit of a job that the body
 /// never gets. Returns the number of the client kind and the position of the submit, or `None` if
-/// there is no such submit. If `without_bound` is `true`, considers only submits to pools that need
-/// no bound, and otherwise only submits to the other pools.
+/// there is no such submit.
+///
+/// If `without_bound` is `true`, considers only submits to pools that may reject jobs or have an
+/// unbounded queue. Otherwise considers only submits to the other pools.
 fn lost_by_clients(plan: &Plan, without_bound: bool) -> Option<(usize, usize)>
     ensures lost { IfSome result (λ found. LostByClients plan.now without_bound found.0 found.1) }
     ensures none { IfNone result ((c i : ℕ) → ¬ LostByClients plan.now without_bound c i) }
@@ -182,10 +188,12 @@ fn lost_by_clients(plan: &Plan, without_bound: bool) -> Option<(usize, usize)>
     None
 }
 
-/// Searches the bodies of the marked classes for the first submit of a job that the body never
-/// gets. Returns the number of the class and the position of the submit, or `None` if there is no
-/// such submit. The marked classes must be those that repeating clients submit, directly or through
-/// other jobs. `without_bound` is as in [`lost_by_clients`].
+/// Searches the bodies of the classes that are marked in `repeated` for the first submit of a job
+/// that the body never gets. Returns the number of the class and the position of the submit, or
+/// `None` if there is no such submit.
+///
+/// `repeated` must mark the classes that repeating clients submit, directly or through other jobs.
+/// `without_bound` is as in [`lost_by_clients`].
 fn lost_by_jobs(plan: &Plan, repeated: &[bool], without_bound: bool) -> Option<(usize, usize)>
     requires { MarksRepeated plan.now repeated.now }
     ensures lost { IfSome result (λ found. LostByJobs plan.now without_bound found.0 found.1) }
@@ -228,7 +236,8 @@ fn is_without_get(body: &[Action], position: usize) -> bool
     matches!(body[position], Action::Submit(_)) && !has_get_of(body, position)
 }
 
-/// Returns whether the submit at this position goes to a pool that needs no bound.
+/// Returns whether the submit at this position goes to a pool that needs no bound. A pool needs no
+/// bound if it may reject jobs or its queue is unbounded.
 fn goes_without_bound(plan: &Plan, body: &[Action], position: usize) -> bool
     ensures { result ≡ goes_without_bound plan.now body.now position }
 {

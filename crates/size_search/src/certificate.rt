@@ -1,8 +1,10 @@
 //! The steady certificate of a plan. One vector has two uses in it:
 //!
-//! - It is the blocked vector of every pool whose core threads never time out.
-//! - It is the standing vector of every pool that needs a bound. A pool needs none if it may reject
-//!   jobs or its queue is unbounded.
+//! - It is the blocked vector of every pool whose core threads never time out. A blocked vector
+//!   bounds the number of the pool's jobs that wait at counted gets. A counted get can block a
+//!   thread that other jobs need.
+//! - It is the standing vector of every pool that needs a bound. A standing vector bounds the
+//!   number of queued jobs. A pool needs no bound if it may reject jobs or its queue is unbounded.
 //!
 //! If the core threads of a pool may time out, its blocked vector is 0, and the ranks are such that
 //! no get of its jobs is counted.
@@ -103,7 +105,7 @@ fn zero_rows(alloc: Global, rows: &[Vec<u64>]) -> Result<Vec<Vec<u64>>, AllocErr
     Ok(made)
 }
 
-/// Returns a vector of the same shape, whose weights are 0.
+/// Returns a vector of the same shape as `vector`, in which every weight is 0.
 fn zero_vector(alloc: Global, vector: &Vector) -> Result<Vector, AllocError>
     ensures { IfOk result (λ made. made ≡ spec.zero_vector vector.now) }
 {
@@ -117,8 +119,9 @@ fn zero_vector(alloc: Global, vector: &Vector) -> Result<Vector, AllocError>
     })
 }
 
-/// Returns the blocked vector of a pool: `vector`, or zeros if no get of the pool's jobs is
-/// counted.
+/// Returns the blocked vector of a pool: a copy of `vector`, or a vector of zeros if `uncounted` is
+/// `true`. `uncounted` says that no get of the pool's jobs is counted. A counted get can block a
+/// thread that other jobs need.
 fn blocked_of(alloc: Global, vector: &Vector, uncounted: bool) -> Result<Vector, AllocError>
     ensures { IfOk result (λ blocked. blocked ≡ spec.blocked_of vector.now uncounted) }
 {
@@ -157,7 +160,8 @@ fn pools_of(alloc: Global, plan: &Plan, vector: &Vector) -> Result<Vec<PoolCert>
     Ok(pools)
 }
 
-/// Returns the ranks of the steady certificate. `levels` has the level of each class.
+/// Returns the ranks of the pools, and the reaches and levels of the classes, in the steady
+/// certificate. [`Ranks`] explains these numbers. `levels` has the level of each class.
 fn ranks_of(alloc: Global, plan: &Plan, levels: Vec<u64>) -> Result<Ranks, AllocError>
     requires { levels.items ≡ spec.steady_levels plan.now }
     ensures { IfOk result (λ ranks. ranks ≡ spec.steady_ranks plan.now) }
@@ -189,12 +193,17 @@ fn halves_of(
 /// [`MAX_WEIGHT`](job_bodies::MAX_WEIGHT). No class of the plan may submit itself, directly or
 /// through other classes.
 ///
+/// In this certificate, one vector is the blocked vector of every pool whose core threads never
+/// time out. The same vector is the standing vector of every pool that needs a bound. A pool needs
+/// no bound if it may reject jobs or its queue is unbounded. The other blocked vectors are 0.
+///
 /// With large enough sizes, this certificate accepts the plan if these conditions hold:
 ///
 /// - No repeating client submits, directly or through other jobs, a job that is never got.
-/// - No pool whose core threads may time out waits for itself.
-/// - If a class of such a pool has a get, clients submit this class, directly or through other
-///   jobs.
+/// - If the core threads of a pool may time out, its last thread cannot wait until another job of
+///   this pool ends.
+/// - If a class has a get and the core threads of its pool may time out, clients submit this class,
+///   directly or through other jobs.
 ///
 /// The queues of pools that may reject jobs need not be large.
 ///

@@ -1,4 +1,5 @@
-//! The certificate that results from the rounds of an attempt, when every pool has a rank.
+//! The certificate of an attempt to find sizes. The attempt works in rounds, in which pools get
+//! ranks. The certificate is built after the rounds, when every pool has a rank.
 
 use crate::bounds::bound_of;
 use crate::found::{AttemptError, Obstacle};
@@ -69,11 +70,12 @@ fn pool_certs(
     Ok(pools)
 }
 
-/// Returns the blocked vector of the hit's pool. The search found this vector in the round that
-/// gave the pool its rank. If the search found none, returns the pool as the obstacle.
+/// Returns the blocked vector of a pool. `hit` names the pool and the place of the vector in the
+/// cache. The search found this vector in the round that gave the pool its rank. If the search
+/// found none, returns the pool as the obstacle.
 ///
 /// The vector remains valid after that round: every other pool that had no rank yet gets the same
-/// rank or a higher one.
+/// rank or a higher one. So the same gets are [counted](weights::Counted) as in that round.
 fn blocked_of(
     alloc: Global,
     cache: &VectorCache,

@@ -12,7 +12,7 @@ ghost use Rattle.size_search.specs.NoSizesHelp.{SizesExist};
 ///
 /// - A class submits itself, directly or through other classes.
 /// - A repeating client submits a job, directly or through other jobs. The job is never got, and
-///   its pool needs a bound.
+///   its pool must not reject jobs and has a bounded queue.
 /// - The core threads of a pool may time out, and its last thread can wait until a job of the pool
 ///   ends.
 pub fn no_sizes_help()
@@ -23,10 +23,11 @@ pub fn no_sizes_help()
 /// cause. Sizes are *enough* if some certificate accepts the plan with these sizes. The causes are
 /// listed in [`no_sizes_help`]. The premises are these:
 ///
-/// - Each weight of the plan's steady certificate is at most `MAX_WEIGHT`.
+/// - Each weight of the plan's steady certificate (see [`steady`](crate::steady)) is at most
+///   `MAX_WEIGHT`.
 /// - The total of this certificate's vector is below `MAX_SIZE`.
 /// - If a repeating client submits a job to a pool that needs no bound, directly or through other
-///   jobs, the job is got.
+///   jobs, the job is got. A pool needs no bound if it may reject jobs or its queue is unbounded.
 /// - If a class has a get and the core threads of its pool may time out, clients submit this class,
 ///   directly or through other jobs.
 pub fn sizes_exist()

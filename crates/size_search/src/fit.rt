@@ -9,10 +9,10 @@ ghost use Rattle.weights.specs.Bound.{bound_vector};
 ghost use Rattle.cert_text.specs.Cert.{bound_fits, cert_fits, pool_cert_at};
 ghost use Rattle.size_search.specs.Fitted as spec;
 ghost use Rattle.size_search.specs.Widened.{HasLeastCores};
-ghost use Rattle.size_search.specs.Unfit.{failing_elsewhere, first_short, first_tight, unfit_sizes, why_unfit};
+ghost use Rattle.size_search.specs.FitError.{failing_elsewhere, first_short, first_tight, unfit_sizes, why_unfit};
 
-use crate::Unfit;
-use crate::unfit::unfit_pools;
+use crate::FitError;
+use crate::fit_error::unfit_pools;
 use cert_text::Cert;
 use job_bodies::{Plan, Pool};
 use refusal_notes::notes;
@@ -125,8 +125,8 @@ fn raised_pools(alloc: Global, plan: &Plan, cert: &Cert) -> Result<Vec<Pool>, Al
     Ok(pools)
 }
 
-/// Returns whether conditions at this place limit the total of a vector. Such a limit depends on
-/// the pool's sizes.
+/// Returns whether the place is [`Place::Total`]. The conditions at this place limit the total of a
+/// vector. The limits depend on the sizes of pools.
 fn is_total(place: Place) -> bool
     ensures { result ≡ spec.is_total place }
 {
@@ -172,9 +172,9 @@ fn is_tight(plan: &Plan, cert: &Cert, raised: &[Pool], number: usize) -> bool
     pool.queue < queue_needed(plan, &needs.bound, number, pool)
 }
 
-/// Returns [`Unfit::Queue`] with the number of the first raised pool that has a smaller queue than
+/// Returns [`FitError::Queue`] with the number of the first raised pool that has a smaller queue than
 /// the certificate needs. Returns `None` if there is no such pool.
-fn tight_queue(plan: &Plan, cert: &Cert, raised: &[Pool]) -> Option<Unfit>
+fn tight_queue(plan: &Plan, cert: &Cert, raised: &[Pool]) -> Option<FitError>
     requires well_formed { IsWellFormed plan.now }
     requires fits { IsTrue (cert_fits plan.now cert.now) }
     requires raised { raised.now ≡ (spec.raised plan.now cert.now).pools }
@@ -182,7 +182,7 @@ fn tight_queue(plan: &Plan, cert: &Cert, raised: &[Pool]) -> Option<Unfit>
 {
     for number in 0..raised.len() {
         if is_tight(plan, cert, raised, number) {
-            return Some(Unfit::Queue(number));
+            return Some(FitError::Queue(number));
         }
     }
     None
@@ -204,9 +204,9 @@ fn is_short(plan: &Plan, cert: &Cert, raised: &[Pool], number: usize) -> bool
     pool.least_threads() < core_needed(plan, &needs.blocked)
 }
 
-/// Returns [`Unfit::CoreTimeout`] with the number of the first raised pool that has fewer threads
+/// Returns [`FitError::CoreTimeout`] with the number of the first raised pool that has fewer threads
 /// than the certificate needs. Returns `None` if there is no such pool.
-fn short_pool(plan: &Plan, cert: &Cert, raised: &[Pool]) -> Option<Unfit>
+fn short_pool(plan: &Plan, cert: &Cert, raised: &[Pool]) -> Option<FitError>
     requires well_formed { IsWellFormed plan.now }
     requires fits { IsTrue (cert_fits plan.now cert.now) }
     requires raised { raised.now ≡ (spec.raised plan.now cert.now).pools }
@@ -214,7 +214,7 @@ fn short_pool(plan: &Plan, cert: &Cert, raised: &[Pool]) -> Option<Unfit>
 {
     for number in 0..raised.len() {
         if is_short(plan, cert, raised, number) {
-            return Some(Unfit::CoreTimeout(number));
+            return Some(FitError::CoreTimeout(number));
         }
     }
     None
@@ -222,7 +222,7 @@ fn short_pool(plan: &Plan, cert: &Cert, raised: &[Pool]) -> Option<Unfit>
 
 /// Returns `None` if the sizes that the certificate needs are possible, and otherwise the reason
 /// why they are not. `raised` has the plan's pools with these sizes.
-fn unfit_sizes(plan: &Plan, cert: &Cert, raised: &[Pool]) -> Option<Unfit>
+fn unfit_sizes(plan: &Plan, cert: &Cert, raised: &[Pool]) -> Option<FitError>
     requires well_formed { IsWellFormed plan.now }
     requires fits { IsTrue (cert_fits plan.now cert.now) }
     requires raised { raised.now ≡ (spec.raised plan.now cert.now).pools }
@@ -240,19 +240,19 @@ fn unfit_sizes(plan: &Plan, cert: &Cert, raised: &[Pool]) -> Option<Unfit>
 /// Returns the reason why no choice of cores and queues makes the certificate accept the plan, or
 /// `None` if some choice does. `raised` has the plan's pools with the sizes that the certificate
 /// needs.
-fn unfit(
+fn fit_error(
     alloc: Global,
     plan: &Plan,
     cert: &Cert,
     raised: &[Pool],
-) -> Result<Option<Unfit>, AllocError>
+) -> Result<Option<FitError>, AllocError>
     requires well_formed { IsWellFormed plan.now }
     requires fits { IsTrue (cert_fits plan.now cert.now) }
     requires raised { raised.now ≡ (spec.raised plan.now cert.now).pools }
     ensures { IfOk result (λ found. found ≡ why_unfit plan.now cert.now) }
 {
     match failing_elsewhere(alloc, plan, cert)? {
-        Some(note) => Ok(Some(Unfit::Condition(note))),
+        Some(note) => Ok(Some(FitError::Condition(note))),
         None => Ok(unfit_sizes(plan, cert, raised)),
     }
 }
@@ -275,7 +275,7 @@ pub fn fitted(
     alloc: Global,
     plan: Plan,
     cert: &Cert,
-) -> Result<Result<Plan, (Plan, Unfit)>, AllocError>
+) -> Result<Result<Plan, (Plan, FitError)>, AllocError>
     ensures fitted { IfOk result
         (λ answer. IfOk answer (λ fit. spec.fitted plan cert.now ≡ Some fit)) }
     ensures least { IfOk result (λ answer. IfOk answer (spec.IsLeastFit plan cert.now)) }
@@ -289,10 +289,10 @@ pub fn fitted(
     ensures back { IfOk result (λ answer. IfErr answer (λ back. back.0 ≡ plan)) }
 {
     if !cert.fits(&plan) {
-        return Ok(Err((plan, Unfit::Shape)));
+        return Ok(Err((plan, FitError::Shape)));
     }
     let pools = raised_pools(alloc, &plan, cert)?;
-    match unfit(alloc, &plan, cert, &pools)? {
+    match fit_error(alloc, &plan, cert, &pools)? {
         Some(unfit) => Ok(Err((plan, unfit))),
         None => Ok(Ok(plan.with_pools(pools))),
     }

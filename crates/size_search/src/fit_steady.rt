@@ -21,10 +21,10 @@ use cert_text::Cert;
 use job_bodies::Plan;
 use std::alloc::{AllocError, Global};
 
-/// Returns the plan with the least sizes that its steady certificate needs. Returns
-/// [`NoSizes::TooLarge`] with the pool of `obstacle` if this certificate is too large or if no
-/// sizes are enough for it. `obstacle` is the point at which the attempts to find sizes by rounds
-/// failed.
+/// Returns the plan with the least sizes that its steady certificate needs (see [`steady`]).
+/// Returns [`NoSizes::TooLarge`] if this certificate is too large, or if possibly no sizes are
+/// enough for it. This reason names the pool of `obstacle`, which is the point at which the search
+/// for sizes failed before.
 pub(crate) fn fit_steady(
     alloc: Global,
     plan: &Plan,
@@ -82,8 +82,8 @@ fn too_large(plan: &Plan, obstacle: Obstacle) -> SizesFound
     SizesFound::NotFound(NoSizes::TooLarge(obstacle.pool(plan)))
 }
 
-/// Returns the plan with the least sizes for its steady certificate, or `None` if the total of the
-/// certificate's vector is at least `MAX_SIZE`.
+/// Returns the plan with the least sizes that `cert`, its steady certificate, accepts. Returns
+/// `None` if the total of the certificate's vector is at least `MAX_SIZE`.
 fn least_steady_sizes(alloc: Global, plan: &Plan, cert: &Cert) -> Result<Option<Plan>, AllocError>
     requires steady_plan { IsSteady plan.now }
     requires well_formed { IsWellFormed plan.now }

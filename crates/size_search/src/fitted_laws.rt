@@ -3,7 +3,7 @@
 
 ghost use Rattle.size_search.specs.Fitted.{FittedSizesAreLeast, AcceptedPlansFit, LargerSizesAreAccepted, SmallestFitIsLeast};
 ghost use Rattle.size_search.specs.Widened.{WidenedMaxesAreLeast};
-ghost use Rattle.size_search.specs.Unfit.{ReportedCoresNeedLargerMaxes};
+ghost use Rattle.size_search.specs.FitError.{ReportedCoresNeedLargerMaxes};
 
 /// States that fitting gives the least cores and queues that make a certificate accept a plan.
 ///
@@ -64,11 +64,11 @@ pub fn widened_maxes_are_least()
     ensures { WidenedMaxesAreLeast }
 {}
 
-/// States that a pool's maximum is too small if the plan cannot be fitted because of this pool's
-/// core.
+/// States what it means that a plan cannot be fitted to a certificate because of a pool's core: the
+/// maximum of this pool is too small.
 ///
-/// Let the certificate accept the plan with other sizes, whose maximums are no smaller than the
-/// plan's. Then the maximum of this pool is larger than in the plan.
+/// Suppose that the certificate accepts the plan with other sizes, and that no maximum is smaller
+/// than in the plan. Then the maximum of this pool is larger than in the plan.
 pub fn reported_cores_need_larger_maxes()
     ensures { ReportedCoresNeedLargerMaxes }
 {}

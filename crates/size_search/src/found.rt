@@ -43,7 +43,7 @@ pub enum NoSizes {
 pub(crate) enum Obstacle {
     /// The pool with this number, for which no vector or no size was found.
     Pool(usize),
-    /// A point that belongs to no particular pool.
+    /// The attempt failed at no particular pool.
     Unknown,
 }
 

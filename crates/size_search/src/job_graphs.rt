@@ -1,6 +1,10 @@
-//! Two graphs of a plan. In the graph of submits, the nodes are the classes, and the successors of
-//! a class are the classes that it submits. In the graph of waits, the nodes are the classes and
-//! then the pools, and a job of a node can wait for jobs of the node's successors.
+//! Two graphs of a plan:
+//!
+//! - The graph of submits shows which classes a class submits. The nodes are the classes, and the
+//!   successors of a class are the classes that it submits.
+//! - The graph of waits shows what a job can wait for. The nodes are the classes and then the
+//!   pools. The successors of a class are its pool and the classes of the jobs that it gets. The
+//!   successors of a pool are the classes for whose jobs its last thread can wait at a get.
 
 ghost use Rattle.std.specs.Prelude.{◌≡◌, ◌<◌, ◌++◌, [], OnOk, IfOk, length};
 ghost use Rattle.std.specs.List.{enumerate_from, flat_map};
@@ -91,8 +95,8 @@ fn class_waits(alloc: Global, plan: &Plan, number: usize) -> Result<Vec<usize>, 
     Ok(nodes)
 }
 
-/// Looks at each get in the bodies of the pool's marked classes, and returns the classes of the
-/// jobs that are got.
+/// Returns the classes of the jobs that the pool's marked classes get. `marks` says for each class
+/// whether it is marked.
 fn marked_gets(
     alloc: Global,
     plan: &Plan,
@@ -115,7 +119,7 @@ fn marked_gets(
 
 /// Returns the successors of a pool in the graph of waits. If core threads of the pool may time
 /// out, the successors are the classes of the jobs that the pool's marked classes get. Otherwise
-/// there are no successors.
+/// there are no successors. `marks` says for each class whether it is marked.
 fn pool_waits(
     alloc: Global,
     plan: &Plan,
@@ -135,7 +139,7 @@ fn pool_waits(
     }
 }
 
-/// Appends the classes to the graph of waits.
+/// Appends a node for each class to the graph of waits (see [`wait_graph`]).
 fn push_classes(alloc: Global, plan: &Plan, graph: &mut Graph) -> Result<(), AllocError>
     ensures nodes { OnOk result (graph.new ≡ graph.old ++ spec.class_nodes plan.now) }
     ensures well_formed { IsWellFormed plan.now }
@@ -146,7 +150,7 @@ fn push_classes(alloc: Global, plan: &Plan, graph: &mut Graph) -> Result<(), All
     Ok(())
 }
 
-/// Appends the pools to the graph of waits.
+/// Appends a node for each pool to the graph of waits (see [`wait_graph`]).
 fn push_pools(
     alloc: Global,
     plan: &Plan,
@@ -162,7 +166,8 @@ fn push_pools(
     Ok(())
 }
 
-/// Returns the graph of waits. Its nodes are the classes and then the pools:
+/// Returns the graph of waits, which shows what a job can wait for. `marks` says for each class
+/// whether it is marked. The nodes of the graph are the classes and then the pools:
 ///
 /// - The successors of a class are its pool and the classes of the jobs that it gets.
 /// - If core threads of a pool may time out, the successors of the pool are the classes of the jobs

@@ -1,11 +1,11 @@
-//! The least sizes for a certificate.
+//! The least sizes with which a certificate accepts a plan.
 
 ghost use Rattle.std.specs.Prelude.{IfOk};
 ghost use Rattle.size_search.specs.Widened.{IsLeastWide};
 ghost use Rattle.size_search.specs.Sized.{IsSized};
 
 use crate::found::Obstacle;
-use crate::{Unfit, fitted, widened};
+use crate::{FitError, fitted, widened};
 use cert_text::Cert;
 use job_bodies::Plan;
 use std::alloc::{AllocError, Global};
@@ -33,7 +33,7 @@ pub(crate) fn least_sizes(
 /// needs. One raise can make another necessary, so the raises are repeated, at most once for each
 /// pool. If no sizes are enough, or the certificate does not have the shape of the plan, the inner
 /// error is the reason.
-fn widest(alloc: Global, plan: &Plan, cert: &Cert) -> Result<Result<Plan, Unfit>, AllocError>
+fn widest(alloc: Global, plan: &Plan, cert: &Cert) -> Result<Result<Plan, FitError>, AllocError>
     ensures { IfOk result (λ answer. IfOk answer (IsLeastWide plan.now cert.now)) }
 {
     let mut wide = match widened(alloc, plan, cert)? {
@@ -63,21 +63,20 @@ fn have_same_maxes(plan: &Plan, other: &Plan) -> bool {
 }
 
 /// Returns the obstacle for the reason why the maximums could not be raised.
-fn obstacle_of_wide(unfit: Unfit) -> Obstacle {
+fn obstacle_of_wide(unfit: FitError) -> Obstacle {
     match unfit {
-        Unfit::Core(pool) => Obstacle::Pool(pool),
-        Unfit::Shape | Unfit::Condition(_) | Unfit::Queue(_) | Unfit::CoreTimeout(_) => {
-            Obstacle::Unknown
-        }
+        FitError::Core(pool) => Obstacle::Pool(pool),
+        FitError::Shape | FitError::Condition(_) | FitError::Queue(_) | FitError::CoreTimeout(_) =>
+            { Obstacle::Unknown }
     }
 }
 
 /// Returns the obstacle for the reason why the plan with raised maximums could not be fitted. If
-/// the reason is the core of a pool, returns [`Obstacle::Unknown`], because this core need not be
-/// above `MAX_SIZE`.
-fn obstacle_of_fit(unfit: Unfit) -> Obstacle {
+/// the reason is [`FitError::Core`], returns [`Obstacle::Unknown`]. The needed core is then above the
+/// pool's maximum, but not necessarily above `MAX_SIZE`.
+fn obstacle_of_fit(unfit: FitError) -> Obstacle {
     match unfit {
-        Unfit::Queue(pool) | Unfit::CoreTimeout(pool) => Obstacle::Pool(pool),
-        Unfit::Shape | Unfit::Condition(_) | Unfit::Core(_) => Obstacle::Unknown,
+        FitError::Queue(pool) | FitError::CoreTimeout(pool) => Obstacle::Pool(pool),
+        FitError::Shape | FitError::Condition(_) | FitError::Core(_) => Obstacle::Unknown,
     }
 }

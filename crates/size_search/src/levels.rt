@@ -32,9 +32,9 @@ pub(crate) fn steady_levels(alloc: Global, plan: &Plan) -> Result<Vec<u64>, Allo
     Ok(levels)
 }
 
-/// Returns the reach of each class, and then the rank of each pool, in the steady certificate.
-/// These numbers are the levels of the graph of waits, or all 0 if there is no pool whose core
-/// threads may time out.
+/// Returns the reach of each class, and then the rank of each pool, in the steady certificate. If
+/// the core threads of some pool may time out, these numbers are the levels of the nodes of the
+/// graph of waits (see [`levels_of_waits`]). Otherwise they are all 0.
 pub(crate) fn wait_levels(alloc: Global, plan: &Plan) -> Result<Vec<u64>, AllocError>
     ensures levels { IfOk result (λ levels. levels.items ≡ spec.wait_levels plan.now) }
     ensures well_formed { IsWellFormed plan.now }
@@ -55,7 +55,9 @@ fn has_core_timeouts(plan: &Plan) -> bool
     plan.pools().iter().any(|pool| pool.core_timeout)
 }
 
-/// Returns the levels of the graph of waits in which each class is marked.
+/// Returns the level of each node of the graph of waits (see [`wait_graph`]) in which every class
+/// is marked. The level of a node is 0 if it has no successors, and otherwise 1 more than the
+/// greatest level of its successors.
 fn levels_of_waits(alloc: Global, plan: &Plan) -> Result<Vec<u64>, AllocError>
     requires { IsWellFormed plan.now }
     ensures { IfOk result (λ levels. levels.items ≡ spec.levels_of_waits plan.now) }

@@ -14,6 +14,7 @@ mod certificate;
 mod certified;
 mod existence_laws;
 mod fit;
+mod fit_error;
 mod fit_steady;
 mod fitted_laws;
 mod found;
@@ -27,7 +28,6 @@ mod search;
 mod stabilize;
 mod steady_laws;
 mod submitted;
-mod unfit;
 mod vector_cache;
 mod wide;
 
@@ -36,6 +36,7 @@ pub use causes::cause_of;
 pub use certificate::steady;
 pub use existence_laws::{no_sizes_help, sizes_exist};
 pub use fit::{fitted, smallest};
+pub use fit_error::FitError;
 pub use fitted_laws::{
     accepted_plans_fit, fitted_sizes_are_least, larger_sizes_are_accepted,
     reported_cores_need_larger_maxes, smallest_fit_is_least, widened_maxes_are_least,
@@ -44,5 +45,4 @@ pub use found::{NoSizes, SizesFound};
 pub use search::search_sizes;
 pub use steady_laws::steady_certificates_accept;
 pub use submitted::{submitted_by_clients, submitted_repeatedly};
-pub use unfit::Unfit;
 pub use wide::widened;

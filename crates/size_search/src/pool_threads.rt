@@ -30,10 +30,9 @@ impl PoolThreads {
         if self.core_timeout { 1 } else { self.core }
     }
 
-    /// Returns the amount by which `core` exceeds the current core, plus the amount by which `core`
-    /// exceeds the maximum. Each amount is 0 if `core` is not larger. If the queue is unbounded,
-    /// the second amount is left out. If core threads may time out and `core` is above 1, no size is
-    /// enough, and the result is `u64::MAX`.
+    /// Returns how much the core and the maximum must grow, in total, so that both are at least
+    /// `core`. If the queue is unbounded, the growth of the maximum does not count. If core threads
+    /// may time out and `core` is above 1, no size is enough, and the result is `u64::MAX`.
     pub(crate) fn shortfall(self, core: u64) -> u64 {
         if core <= self.least_threads() {
             0

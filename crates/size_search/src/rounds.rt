@@ -116,8 +116,9 @@ impl RankAssignment {
         Ok(())
     }
 
-    /// Returns the hits whose pools need a core of at most `MAX_SIZE`. A pool whose core threads
-    /// may time out is included only if it needs no larger core.
+    /// Returns the entries of `hits` whose pools need a core of at most `MAX_SIZE`. Each entry has
+    /// a pool and the total of its blocked vector. A pool whose core threads may time out is
+    /// included only if it needs no larger core.
     fn within_limit(&self, alloc: Global, hits: &[CacheHit]) -> Result<Vec<CacheHit>, AllocError> {
         hits.iter()
             .filter(|hit| core_for(hit) <= MAX_SIZE && self.shortfall(hit) < u64::MAX)
@@ -126,7 +127,8 @@ impl RankAssignment {
     }
 
     /// Returns the obstacle of a round that finds no candidate: for each pool without a rank, no
-    /// core up to `MAX_SIZE` is enough. The obstacle names the pool with the smallest shortfall.
+    /// core up to `MAX_SIZE` is enough. The obstacle names the pool whose core and maximum would
+    /// have to grow least, in total.
     fn obstacle_of(&self, hits: &[CacheHit]) -> Obstacle {
         match self.choice_of(hits, 0) {
             Some(hit) => Obstacle::Pool(hit.pool),
@@ -134,10 +136,10 @@ impl RankAssignment {
         }
     }
 
-    /// Returns the hit of one pool. `choice` selects the pool: it is the index of the pool, from 0,
-    /// in ascending order of the shortfalls. Returns `None` if there are not that many hits. The
+    /// Returns one entry of `hits`. Each entry has a pool and the total of its blocked vector. The
     /// shortfall of a pool is how much its core and maximum must grow, in total, for its blocked
-    /// vector.
+    /// vector. `choice` is the index of the returned entry, from 0, in ascending order of the
+    /// shortfalls. Returns `None` if there are not that many entries.
     fn choice_of(&self, hits: &[CacheHit], choice: usize) -> Option<CacheHit> {
         for hit in hits {
             let shortfall = self.shortfall(hit);
@@ -161,8 +163,8 @@ impl RankAssignment {
         }
     }
 
-    /// Returns the shortfall of the hit's pool: how much its core and maximum must grow, in total,
-    /// for the blocked vector.
+    /// Returns the shortfall of the pool of `hit`: how much its core and maximum must grow, in
+    /// total, for its blocked vector.
     fn shortfall(&self, hit: &CacheHit) -> u64 {
         match self.threads.get(hit.pool) {
             Some(pool_threads) => pool_threads.shortfall(core_for(hit)),
@@ -179,13 +181,13 @@ fn core_for(hit: &CacheHit) -> u64 {
 /// Gives each pool a rank and a blocked vector, in rounds that start with the cores and maximums in
 /// `threads`.
 ///
-/// - In each round, all pools whose cores are large enough get the number of the round as their
-///   rank.
+/// - In each round, all pools whose cores are large enough for their blocked vectors get the number
+///   of the round as their rank.
 /// - If there is no such pool, the round raises the core of one pool and gives the rank to it. This
 ///   is the pool with the smallest shortfall: the increase of its core plus the increase of its
 ///   maximum.
-/// - But the first round that raises a core skips the `passed_over` pools with the smallest
-///   shortfalls, and raises the core of the next pool.
+/// - The first round that raises a core is an exception. It skips `passed_over` pools, in ascending
+///   order of the shortfalls, and raises the core of the next pool.
 ///
 /// The core of a pool whose core threads may time out is never raised. If `lending` is `false`, no
 /// workers have weight in the vectors.
@@ -225,12 +227,13 @@ pub(crate) fn assign_ranks(
     Ok(assignment)
 }
 
-/// Repeats all rounds until no maximum grows, and returns the last assignment. The repetitions are
-/// necessary because a larger maximum can increase totals. Their number is limited. In the last
-/// possible repetition, workers have no weight, so that totals do not depend on maximums.
+/// Executes the rounds of [`assign_ranks`], repeats them until no maximum grows, and returns the
+/// last assignment. The repetitions are necessary because a larger maximum can increase totals.
+/// Their number is limited. In the last possible repetition, workers have no weight, so that totals
+/// do not depend on maximums.
 ///
-/// `passed_over` and the field `choices` of the result concern only the first execution of the
-/// rounds.
+/// `passed_over` applies only to the first execution of the rounds. The field `choices` of the
+/// result describes only this execution.
 pub(crate) fn assign_ranks_to_fixpoint(
     alloc: Global,
     cache: &mut VectorCache,

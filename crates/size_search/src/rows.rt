@@ -1,5 +1,7 @@
 //! The rows of the vector of a plan's steady certificate. A row has the weights of one class or
-//! client kind.
+//! client kind. A row depends on the rows of the classes that this class or client kind submits.
+//! The level of a class is above the levels of the classes that it submits. So the rows are
+//! computed from the lowest level to the highest.
 
 ghost use Rattle.std.specs.Prelude.{◌≡◌, ◌≤◌, ◌<◌, ◌+◌, [], IfOk, IfSome, IfNone, false, length, map, slice_set, slice_index};
 ghost use Rattle.std.specs.Bool.{OnTrue, OnFalse};
@@ -16,7 +18,6 @@ use job_bodies::Plan;
 use std::alloc::{AllocError, Global};
 use weights::{Vector, are_small};
 
-/// Replaces the row of the class with this number.
 fn put_row(jobs: &mut Vector, number: usize, row: Vec<u64>)
     requires { number < length jobs.old.classes }
     ensures { jobs.new ≡ record jobs.old { classes = slice_set jobs.old.classes number row.items } }
@@ -24,8 +25,9 @@ fn put_row(jobs: &mut Vector, number: usize, row: Vec<u64>)
     jobs.classes[number] = row;
 }
 
-/// Computes and stores the row of the class with this number, which has the level `level`. If a
-/// weight in the row is above `MAX_WEIGHT`, stores nothing and returns `false`.
+/// Computes and stores the row of one class, which has the weights of the class. `number` is the
+/// index of the class, and `level` is its level. If a weight in the row is above `MAX_WEIGHT`,
+/// stores nothing and returns `false`.
 fn set_class_row(
     alloc: Global,
     plan: &Plan,

@@ -1,4 +1,4 @@
-//! The search for sizes.
+//! The search for pool sizes with which a certificate accepts a plan.
 
 ghost use Rattle.std.specs.Prelude.{◌≡◌, IfOk, IfSome, IsTrue};
 ghost use Rattle.soundness.specs.Accepted.{accepted};
@@ -117,7 +117,8 @@ fn search_without_first(alloc: Global, plan: &Plan) -> Result<SizesFound, AllocE
     Ok(found)
 }
 
-/// Searches for sizes for a plan without a cause (see [`cause_of`]).
+/// Searches for sizes that make the plan safe. [`cause_of`] must have found no cause by which the
+/// plan is unsafe with all sizes.
 fn sizes_without_cause(alloc: Global, plan: &Plan) -> Result<SizesFound, AllocError>
     requires free { IsWithoutCause plan.now }
     requires well_formed { IsWellFormed plan.now }
@@ -192,10 +193,10 @@ fn best_from_declared(
     Ok(best)
 }
 
-/// Makes further attempts, and returns the cheapest attempt. This is `best` if no further attempt
-/// is cheaper. Each further attempt starts with the cores and maximums of the cheapest attempt so
-/// far, but resets one pool to its declared core and maximum. This pool is one of the most raised
-/// pools.
+/// Makes further attempts, and returns the attempt with the smallest sum of increases. This is
+/// `best` if no further attempt has a smaller sum. Each further attempt starts with the cores and
+/// maximums of the best attempt so far, but resets one pool to its declared core and maximum. This
+/// pool is one of the most raised pools.
 fn improved_attempt(
     alloc: Global,
     cache: &mut VectorCache,
@@ -210,9 +211,9 @@ fn improved_attempt(
     Ok(best)
 }
 
-/// Makes an attempt that starts with these cores and maximums. The first round that must raise a
-/// core skips the `passed_over` pools that need the smallest increases, and raises the core of the
-/// next pool.
+/// Makes an attempt that starts with these cores and maximums. Each round of the attempt raises a
+/// size. The first round that raises a core has several pools to choose from. Of these pools, in
+/// ascending order of the increases that they need, it skips the first `passed_over`.
 fn attempt(
     alloc: Global,
     cache: &mut VectorCache,
@@ -223,8 +224,8 @@ fn attempt(
     outcome(attempt_from(alloc, cache, threads, passed_over))
 }
 
-/// Returns the cheaper of the attempts that succeeded, or the obstacle of the first attempt if both
-/// failed.
+/// Returns the attempt with the smaller sum of increases if both attempts succeeded. Otherwise
+/// returns the attempt that succeeded, or the obstacle of the first attempt if both failed.
 fn better_attempt(
     first: Result<Attempt, Obstacle>,
     second: Result<Attempt, Obstacle>,
@@ -236,8 +237,8 @@ fn better_attempt(
     }
 }
 
-/// Returns the second attempt if it succeeded and is cheaper than the first, and otherwise the
-/// first.
+/// Returns the second attempt if it succeeded and has a smaller sum of increases than the first.
+/// Otherwise returns the first attempt.
 fn cheaper_attempt(first: Attempt, second: Result<Attempt, Obstacle>) -> Attempt {
     if let Ok(second) = second {
         if second.cost < first.cost {

@@ -91,8 +91,9 @@ fn recheck_plan(alloc: Global, plan: &Plan, fit: &Plan) -> Result<Recheck, Alloc
     })
 }
 
-/// Returns the plan with the least sizes for its steady certificate. If these sizes are too large,
-/// returns `fit` and `cert`.
+/// Returns the plan with the least sizes for its steady certificate. If no such sizes are found,
+/// returns `fit`, which is the plan with the sizes that were found before, and its certificate
+/// `cert`.
 fn or_fit_steady(
     alloc: Global,
     plan: &Plan,

@@ -10,8 +10,9 @@ use weights::submitted_class;
 /// search. All known plans need less than a quarter of this number.
 const MAX_VECTORS: usize = 32_768;
 
-/// The kind of a vector. For a blocked vector, it also has the counted gets, and whether the
-/// workers of other pools can have weight. The lightest vector of a pool depends only on these
+/// The kind of a vector, as a part of a cache key. For a blocked vector, it also says which gets
+/// are counted, and whether the workers of other pools can have weight. A counted get can block a
+/// thread that other jobs need. The vector that the search finds for a pool depends only on these
 /// values and the other fields of [`CacheKey`].
 #[derive(PartialEq, Drop)]
 enum VectorKey {
@@ -25,7 +26,7 @@ enum VectorKey {
     },
 }
 
-/// A cache key: all values that determine a pool's lightest vector.
+/// A cache key: all values that determine the vector that the search finds for a pool.
 #[derive(Drop)]
 struct CacheKey {
     vector: VectorKey,
@@ -36,7 +37,8 @@ struct CacheKey {
     enough: u64,
 }
 
-/// A cache key, and the summary of the vector that was found for this key.
+/// A cache key, and the answer of the search for this key. The answer has the total of the vector
+/// and the weights of the workers. It is `None` if the search found no vector.
 #[derive(Drop)]
 struct CacheEntry {
     key: CacheKey,
@@ -52,11 +54,12 @@ impl CacheEntry {
     }
 
     /// Returns whether a new search with these maximums would give the vector of this entry. For
-    /// each pool, the maximum must be the same as in the entry, or it must be larger and the pool's
-    /// workers must have no weight.
+    /// each pool, one of two conditions must hold:
     ///
-    /// In the second case, the larger maximum changes nothing. The workers still get no weight,
-    /// because their weight would only add more to the total.
+    /// - The maximum is the same as in the entry.
+    /// - The maximum is larger than in the entry, but the workers of the pool got no weight in the
+    ///   search for this entry. The larger maximum then changes nothing. The workers still get no
+    ///   weight, because their weight would only add more to the total.
     fn is_valid_for(&self, maxes: &[u64]) -> bool {
         self.key.maxes.iter().zip(maxes).enumerate().all(|(pool, (before, now))| before == now
             || (before < now && !self.is_lender(pool)))
@@ -81,13 +84,15 @@ struct PoolCache {
     entries: Vec<CacheEntry>,
 }
 
-/// The total of a pool's lightest vector, and the place of the vector in the cache.
+/// The result of a look-up in the cache: the total of a pool's lightest vector, and the place of
+/// the vector in the cache. The lightest vector is the one with the smallest total that the search
+/// finds.
 #[derive(Clone, Copy)]
 pub(crate) struct CacheHit {
     pub(crate) pool: usize,
-    /// The vector's total, or `u64::MAX` if there is no vector.
+    /// The vector's total, or `u64::MAX` if the pool has no vector.
     pub(crate) total: u64,
-    /// The index of the entry in the pool's cache, or `None` if there is no vector.
+    /// The index of the vector's entry in the pool's cache, or `None` if the pool has no vector.
     index: Option<usize>,
 }
 
@@ -222,7 +227,8 @@ impl PoolCache {
     }
 
     /// Returns, for each class, whether jobs of this pool have counted gets of jobs of that class.
-    /// `rank` is the rank of this pool, and `reach` has the reach of each class.
+    /// Such a get is counted if the reach of the class is at least the rank of this pool. `rank` is
+    /// this rank, and `reach` has the reach of each class.
     fn counted(&self, alloc: Global, reach: &[u64], rank: u64) -> Result<Vec<bool>, AllocError> {
         self.gets
             .iter()
@@ -237,8 +243,8 @@ impl PoolCache {
         self.entries.iter().position(|entry| entry.matches_key(key))
     }
 
-    /// Returns the cache hit for the entry at this index. The hit is empty if the entry has no
-    /// vector.
+    /// Returns the cache hit for the entry at this index. The hit has no vector if there is no such
+    /// entry, or if the search for the entry found no vector.
     fn hit(&self, pool: usize, index: usize) -> CacheHit {
         let mut hit = CacheHit::empty(pool);
         if let Some(entry) = self.entries.get(index) {

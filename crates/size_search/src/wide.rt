@@ -5,11 +5,11 @@ ghost use Rattle.job_bodies.specs.Plan.{pool_at};
 ghost use Rattle.job_bodies.specs.WellFormed.{IsWellFormed};
 ghost use Rattle.cert_text.specs.Cert.{cert_fits, pool_cert_at};
 ghost use Rattle.size_search.specs.Widened as spec;
-ghost use Rattle.size_search.specs.Unfit.{why_not_widened};
+ghost use Rattle.size_search.specs.FitError.{why_not_widened};
 
-use crate::Unfit;
+use crate::FitError;
 use crate::fit::core_needed;
-use crate::unfit::unfit_pools;
+use crate::fit_error::unfit_pools;
 use cert_text::Cert;
 use job_bodies::{Plan, Pool};
 use std::alloc::{AllocError, Global};
@@ -68,7 +68,11 @@ fn widened_pools(alloc: Global, plan: &Plan, cert: &Cert) -> Result<Vec<Pool>, A
 /// # Errors
 ///
 /// Returns [`AllocError`] if memory runs out.
-pub fn widened(alloc: Global, plan: &Plan, cert: &Cert) -> Result<Result<Plan, Unfit>, AllocError>
+pub fn widened(
+    alloc: Global,
+    plan: &Plan,
+    cert: &Cert,
+) -> Result<Result<Plan, FitError>, AllocError>
     ensures widened { IfOk result
         (λ answer. IfOk answer (λ wide. wide ≡ spec.widened plan.now cert.now)) }
     ensures room { IfOk result (λ answer. IfOk answer (spec.LeavesRoom plan.now cert.now)) }
@@ -79,7 +83,7 @@ pub fn widened(alloc: Global, plan: &Plan, cert: &Cert) -> Result<Result<Plan, U
         (λ answer. IfErr answer (λ unfit. why_not_widened plan.now cert.now ≡ Some unfit)) }
 {
     if !cert.fits(plan) {
-        return Ok(Err(Unfit::Shape));
+        return Ok(Err(FitError::Shape));
     }
     let pools = widened_pools(alloc, plan, cert)?;
     match unfit_pools(&pools) {

@@ -1,7 +1,12 @@
-//! Hints about likely mistakes in files. The hints are printed to standard error. Some hints say
-//! that a file lacks its second text, that it has a text of another kind, or that it has wrong line
-//! ends. Other hints say what to do about the fault of a file. This module also has functions that
-//! return the reason why a file could not be read or written.
+//! Hints about likely mistakes in files. The program prints the hints to standard error. A hint
+//! reports one of these mistakes:
+//!
+//! - A file lacks the text that must follow the plan.
+//! - A file has a text of another kind than the command reads.
+//! - A line of a file ends with a carriage return.
+//! - The text of a file has a fault. The hint then says what to do.
+//!
+//! This module also has functions that return the reason why a file could not be read or written.
 
 use plan_text::read_plan;
 use sizing_cli::{
@@ -21,8 +26,8 @@ const CERTIFICATE: &str = "a certificate";
 /// explains why the command found a fault in a text.
 #[derive(Clone, Copy)]
 pub(crate) enum Hint {
-    /// The file has only one text, but the command also needs a second text. The field is the name
-    /// of this second text.
+    /// The file has only one text, but the command also needs a text that follows the plan. The
+    /// field says which text, for example `the certificate`.
     MissingText(&'static str),
     /// The separator `%%` in the file is followed by a carriage return, so it does not separate two
     /// texts.
@@ -167,7 +172,8 @@ fn hint_of_first(alloc: Global, command: Command, text: &[u8], is_alone: bool) -
     }
 }
 
-/// Returns `true` if the text is neither a plan nor a bundle. Returns `false` if memory runs out.
+/// Returns `true` if the text has no line `%%` and is not a valid plan. Returns `false` if memory
+/// runs out.
 fn has_faulty_plan(alloc: Global, text: &[u8]) -> bool {
     if bundle_of(text).is_some() {
         return false;
@@ -201,11 +207,12 @@ fn hint_of_recording(text: &[u8]) -> Option<Hint> {
 }
 
 /// Returns a hint about the second file, which has the content `text`. `has_plan` says whether the
-/// first text was read from a file, which then must show no known mistake. Returns `None`
+/// arguments name a first file that could be read. The caller must have found no mistake in this
+/// file. Returns `None` in these cases:
 ///
-/// - if the second file shows no known mistake,
-/// - for `ask`, because its answer already explains the mistake, and
-/// - for commands that read only one text.
+/// - The second file shows no known mistake.
+/// - The command is `ask`. Its answer already explains the mistake.
+/// - The command reads only one text.
 fn hint_of_second(command: Command, text: &[u8], has_plan: bool) -> Option<Hint> {
     match command {
         Command::OnRecording(RecordingCommand::Conform) => hint_of_recording(text),
@@ -220,7 +227,7 @@ fn hint_of_second(command: Command, text: &[u8], has_plan: bool) -> Option<Hint>
 }
 
 /// Returns a hint about a file that the command reads as a certificate. `has_plan` says whether the
-/// plan is known to have no fault, so that the certificate has one.
+/// plan is known to have no fault. If so, the fault is in the certificate.
 fn hint_of_certificate(text: &[u8], has_plan: bool) -> Option<Hint> {
     if let Some(hint) = hint_of_misplaced(text, CERTIFICATE) {
         return Some(hint);
@@ -292,8 +299,9 @@ fn ends_with_return(text: &[u8]) -> bool {
     }
 }
 
-/// Returns the name of the command's second text. Returns `None` if the command needs only one
-/// text. Also returns `None` for `ask`.
+/// Returns the name of the text that must follow the plan, for example `the certificate`. Returns
+/// `None` if the command needs no such text. Also returns `None` for `ask`, whose certificate is
+/// optional.
 fn second_text(command: Command) -> Option<&'static str> {
     match command {
         Command::Sequential(ReviewCommand::Replay) => Some("the events"),

@@ -27,7 +27,7 @@ fn main(rt: HostRuntime) -> ExitCode {
     let mut parts: Vec<&str> = Vec::new(rt.alloc());
     for word in &words {
         if parts.push(word.as_str()).is_err() {
-            return ended(&rt, &CliError::from(AllocError));
+            return report_error(&rt, &CliError::from(AllocError));
         }
     }
     let mut source = StdSource::new(rt.stdin());
@@ -41,7 +41,7 @@ fn main(rt: HostRuntime) -> ExitCode {
             ExitCode::from(status.code())
         }
         Err(fault) if asks_for_version(&fault) => print_version(&rt),
-        Err(fault) => ended(&rt, &fault),
+        Err(fault) => report_error(&rt, &fault),
     }
 }
 
@@ -106,7 +106,7 @@ fn asks_for_version(fault: &CliError<'_>) -> bool {
 fn print_version(rt: &(impl Print + Eprint + Files)) -> ExitCode {
     match println!(rt; "sizing {VERSION}") {
         Ok(()) => ExitCode::SUCCESS,
-        Err(_) => ended(
+        Err(_) => report_error(
             rt,
             &CliError::Serve(ServeFault {
                 number: WRITE_FAILED,
@@ -129,15 +129,15 @@ fn words_of(rt: &HostRuntime) -> io::Result<Vec<String>> {
 /// status.
 fn unread_words(rt: &(impl Eprint + Files), kind: io::ErrorKind) -> ExitCode {
     if kind == io::ErrorKind::OutOfMemory {
-        return ended(rt, &CliError::from(AllocError));
+        return report_error(rt, &CliError::from(AllocError));
     }
     let _ = eprintln!(rt; "the arguments must be UTF-8");
     ExitCode::from(USAGE)
 }
 
-/// Reports an error on standard error, and returns the exit status of the error. Does nothing more
-/// if standard error fails.
-fn ended(rt: &(impl Eprint + Files), fault: &CliError<'_>) -> ExitCode {
+/// Prints the error to standard error, and returns the exit status of the error. Ignores a failure
+/// to print.
+fn report_error(rt: &(impl Eprint + Files), fault: &CliError<'_>) -> ExitCode {
     let _ = print_error(rt, fault);
     ExitCode::from(fault.code())
 }

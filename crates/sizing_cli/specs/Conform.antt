@@ -38,7 +38,7 @@ bad_recording recording found = fault (head BAD_RECORDING ++ (codes " at " ++ (f
 abbrev pub is_undecided : Finding → Bool
 is_undecided (finding.NotDecided actor name) = true
 is_undecided (finding.Pool deviation) = false
-is_undecided (finding.NotPlanned name) = false
+is_undecided (finding.UnplannedLabel name) = false
 is_undecided (finding.PathMismatch line mismatch) = false
 is_undecided (finding.TooMany excess) = false
 is_undecided (finding.ForeignGet get name job) = false

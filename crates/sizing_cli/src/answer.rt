@@ -58,8 +58,8 @@ impl Answer {
     /// Appends the line with the reply to one event line. `number` is the number of the event line,
     /// counted from 1. Sets the status to [`Status::Refused`] in these cases:
     ///
-    /// - The event was refused or was not possible.
-    /// - The event line is a `stuck` line, and the jobs that it names are stuck.
+    /// - A submit was refused, or the event was not possible.
+    /// - The event line is a `stuck` line, and the jobs that it names wait only for each other.
     pub fn push_reply(
         &mut self,
         plan: &Plan,
@@ -86,7 +86,7 @@ fn is_no(reply: Reply) -> bool
     )
 }
 
-/// Returns the answer to an input without a line `%%`.
+/// Returns the answer to an input that lacks the line `%%` between the plan and the text after it.
 pub fn no_separator(alloc: Global) -> Result<Answer, AllocError>
     ensures { IfOk result (λ answer. answer ≡ spec.no_separator) }
 {

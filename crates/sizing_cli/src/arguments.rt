@@ -29,8 +29,8 @@ use std::thread::Threads;
 /// The arguments can also give the names of input files, which are in `files`:
 ///
 /// - With one name, the file has the whole input of the command.
-/// - With two names, the first file has the plan. The second file has the text that follows the
-///   line `%%` in a whole input.
+/// - With two names, the first file has the plan, and the second file has the text that follows the
+///   plan. The whole input is then both texts, with a line `%%` between them.
 /// - Without a name, the whole input is read from `input`, which is standard input.
 ///
 /// The name `-` means `input`.
@@ -167,10 +167,10 @@ pub fn serve_words<'a, R: Threads + Wait + Sync, F: TextFiles, S: Source, K: Sin
     Ok(status)
 }
 
-/// Runs the command of the parsed arguments, and writes its answer to the sink. If `ask` answers,
-/// `found` becomes the text of the certificate that the answer is based on. `found` becomes `None`
-/// in the cases that [`serve_named`](crate::serve_named) lists. Any other command leaves `found`
-/// unchanged.
+/// Runs the command of the parsed arguments, and writes its answer to the sink. If the command is
+/// `ask` and this call succeeds, `found` becomes the text of the certificate that the answer is
+/// based on. `found` becomes `None` if there is no such certificate, or if its text is too long to
+/// be read back. Any other command leaves `found` unchanged.
 fn serve_parsed<'a, R: Threads + Wait + Sync, F: TextFiles, S: Source, K: Sink>(
     rt: &R,
     alloc: Global,

@@ -32,7 +32,7 @@ pub struct AskOutput {
 }
 
 impl AskOutput {
-    fn without(output: Output) -> AskOutput
+    fn without_certificate(output: Output) -> AskOutput
         ensures output { result.output ≡ output }
         ensures none { result.certificate ≡ None }
     {
@@ -64,7 +64,7 @@ pub fn ask<R: Threads + Wait + Sync>(
     ensures fault { IfErr result (λ fault. IsTrue (is_of_search fault.number)) }
 {
     if input.len() > MAX_INPUT_BYTES {
-        return Ok(AskOutput::without(Output::of(input_too_long(alloc)?)));
+        return Ok(AskOutput::without_certificate(Output::of(input_too_long(alloc)?)));
     }
     match given {
         AskInput::PlanAlone => ask_text(rt, alloc, options, file, input, None),
@@ -86,7 +86,7 @@ fn ask_bundle<R: Threads + Wait + Sync>(
 {
     match bundle_of(input) {
         Some(bundle) => ask_text(rt, alloc, options, file, bundle.plan, Some(bundle.second)),
-        None => Ok(AskOutput::without(Output::of(no_separator(alloc)?))),
+        None => Ok(AskOutput::without_certificate(Output::of(no_separator(alloc)?))),
     }
 }
 
@@ -106,7 +106,7 @@ fn ask_text<R: Threads + Wait + Sync>(
 {
     match plan_in(alloc, text)? {
         Ok(plan) => ask_plan(rt, alloc, options, file, text, &plan, cert),
-        Err(fault) => Ok(AskOutput::without(faults_answer(
+        Err(fault) => Ok(AskOutput::without_certificate(faults_answer(
             alloc,
             options.form,
             file,
@@ -154,7 +154,7 @@ fn ask_with<R: Threads + Wait + Sync>(
 {
     match cert_in(alloc, cert, plan)? {
         Ok(cert) => ask_found(rt, alloc, options, file, text, plan, Some(cert)),
-        Err(fault) => Ok(AskOutput::without(cert_fault_answer(
+        Err(fault) => Ok(AskOutput::without_certificate(cert_fault_answer(
             alloc,
             options.form,
             file,

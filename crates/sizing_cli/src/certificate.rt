@@ -34,7 +34,8 @@ const POOLS_OF_A_WORKER: usize = 16;
 /// - The second search looks for sizes, and for a certificate that accepts these sizes. This
 ///   certificate is the result if it also accepts the declared sizes.
 ///
-/// Because of the second search, `certify` finds a certificate if `fit` changes no size.
+/// The second search makes `certify` agree with `fit`: if `fit` keeps the declared sizes, `certify`
+/// finds a certificate.
 ///
 /// # Errors
 ///

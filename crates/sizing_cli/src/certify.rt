@@ -22,7 +22,7 @@ use support::number::MIXED;
 
 /// The result of the search for a certificate.
 enum CertificateSearch {
-    /// The text of a certificate, with its newline.
+    /// The text of a certificate, with a newline at its end.
     Text(Vec<u8>),
     NotFound,
     /// A certificate was found, but its text would be too long to be read back.

@@ -1,7 +1,8 @@
 //! The `check` command: decides whether a certificate accepts a plan. A certificate has two vectors
-//! of numbers for each pool. One vector bounds the pool's queue, and the other bounds its waiting
-//! jobs. The vector for the queue can be missing if the pool may reject jobs or has an unbounded
-//! queue.
+//! for each pool. A vector gives a weight to each actor position and worker. One vector bounds the
+//! pool's queue. The other bounds the number of the pool's jobs that wait at counted gets. A
+//! counted get can block a thread that other jobs need. The vector for the queue can be missing if
+//! the pool may reject jobs or has an unbounded queue.
 
 ghost use Rattle.std.specs.Prelude.{◌≡◌, IfOk, IsTrue};
 ghost use Rattle.cert_text.specs.Cert.{cert_fits};
@@ -16,8 +17,9 @@ use job_bodies::Plan;
 use std::alloc::{AllocError, Global};
 
 /// Returns the answer of `check`, which says whether the certificate accepts the plan. For each
-/// pool, the answer also has the totals of the pool's vectors and the limits of these totals. If
-/// the certificate's text has a fault, the answer is only this fault.
+/// pool, the answer also has the totals of the pool's vectors, and the limits of these totals. A
+/// vector gives a weight to each actor position and worker. If the certificate's text has a fault,
+/// the answer is only this fault.
 pub fn check(alloc: Global, plan: &Plan, cert: &[u8]) -> Result<Answer, AllocError>
     ensures { IfOk result (λ answer. answer ≡ spec.check plan.now cert.now) }
 {

@@ -68,8 +68,8 @@ pub fn serve<R: Threads + Wait + Sync, S: Source, K: Sink>(
 /// Runs the command as [`serve`] does, with two differences for [`Task::Ask`]:
 ///
 /// - Messages use `file` as the name of the plan's file.
-/// - If `ask` answers, `certificate` becomes the text of the certificate that the answer is based
-///   on, with a newline at its end. `certificate` becomes `None` if the answer is based on no
+/// - If the call succeeds, `certificate` becomes the text of the certificate that the answer is
+///   based on, with a newline at its end. `certificate` becomes `None` if the answer is based on no
 ///   certificate, or if the text is too long to be read back.
 ///
 /// For any other command, `certificate` is unchanged.

@@ -23,7 +23,7 @@ use std::alloc::{AllocError, Global};
 use std::sync::Wait;
 use std::thread::Threads;
 
-/// The maximum number of states that a search for a witness visits.
+/// The maximum number of states that a search for a counterexample visits.
 const STATES: usize = DEFAULT_STATES as usize;
 
 /// Decides whether a plan is safe. Returns the finding, and whether the given certificate is stale.
@@ -89,8 +89,9 @@ fn search_finding<R: Threads + Wait + Sync>(
     }
 }
 
-/// Searches for a witness and for other sizes, and returns the finding. Before this call, a search
-/// found no certificate for the plan.
+/// Searches for a witness and for other sizes, and returns the finding. A witness is a list of
+/// events that shows that the plan is not safe. Before this call, a search found no certificate for
+/// the plan.
 fn without_certificate(alloc: Global, plan: &Plan) -> Result<PlanFinding, AllocError>
     requires { accepted plan.now (steady_cert plan.now) ≡ false }
     ensures { IfOk result (IsFinding plan.now) }
@@ -103,9 +104,9 @@ fn without_certificate(alloc: Global, plan: &Plan) -> Result<PlanFinding, AllocE
     }
 }
 
-/// Returns the finding after the searches found neither a certificate nor a witness. `sizes` is the
-/// result of a search for sizes. The plan is safe if sizes were found and their certificate also
-/// accepts the declared sizes. Otherwise, the plan is undecided.
+/// Returns the finding after the searches found no certificate and no counterexample. `sizes` is
+/// the result of a search for pool sizes that a certificate accepts. The plan is safe if sizes were
+/// found and their certificate also accepts the declared sizes. Otherwise, the plan is undecided.
 fn without_witness(alloc: Global, plan: &Plan, sizes: SizesFound) -> Result<PlanFinding, AllocError>
     requires known { IsKnown plan.now sizes }
     requires not_steady { accepted plan.now (steady_cert plan.now) ≡ false }

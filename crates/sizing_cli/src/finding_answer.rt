@@ -102,8 +102,8 @@ fn plan_warnings(
     }
 }
 
-/// Returns the warnings about `plan` for the case that a certificate accepts the lowered plan.
-/// `lowered` has the lowered plan and this certificate.
+/// Returns the warnings about `plan` if a certificate accepts the lowered plan (see
+/// [`LoweredPlan`]). `lowered` has the lowered plan and this certificate.
 fn lowered_warnings(
     alloc: Global,
     text: &[u8],
@@ -140,9 +140,9 @@ fn declared_warnings(
 /// `None` if the certificate proves no capacity for the pool. The certificate depends on the
 /// finding:
 ///
-/// - For a safe plan, it is the certificate that shows that the plan is safe.
-/// - For any other plan, it is the certificate of the sizes that were found. If no sizes were
-///   found, the returned list is empty.
+/// - If the plan is safe, it is the certificate that shows this.
+/// - Otherwise, it is the certificate that accepts the pool sizes in the finding. If the finding
+///   has no sizes, the returned list is empty.
 fn needed_of(
     alloc: Global,
     plan: &Plan,
@@ -181,7 +181,7 @@ fn with_stale(
         (plan : PlanValue) → All (IsWarningOf plan) warnings.items → All (IsWarningOf plan) all.items) }
 {
     if is_stale {
-        warnings.push(stale(alloc)?)?;
+        warnings.push(stale_warning(alloc)?)?;
     }
     Ok(warnings)
 }
@@ -366,7 +366,7 @@ fn readable_text(alloc: Global, cert: &Cert) -> Result<Option<Vec<u8>>, AllocErr
 }
 
 /// Returns the warning that the given certificate does not accept the plan.
-fn stale(alloc: Global) -> Result<Warning, AllocError>
+fn stale_warning(alloc: Global) -> Result<Warning, AllocError>
     ensures lint { IfOk result (λ warning. warning.lint ≡ Lint.StaleCertificate) }
     ensures single_line { IfOk result (λ warning. HasNoNewline (string_bytes warning.what)) }
     ensures circle { IfOk result (λ warning. (plan : PlanValue) → IsWarningOf plan warning) }

@@ -1,4 +1,5 @@
-//! The `fit` command: searches for sizes, and writes them as lines or as a bundle.
+//! The `fit` command: searches for pool sizes that a certificate accepts. It writes these sizes as
+//! lines, or as a bundle. The bundle has a plan with these sizes, a line `%%`, and the certificate.
 
 ghost use Rattle.std.specs.Prelude.{◌≡◌, IfOk, IfErr, IsTrue};
 ghost use Rattle.soundness.specs.Accepted.{accepted};
@@ -77,7 +78,8 @@ fn fit_plan<R: Threads + Wait + Sync>(
 }
 
 /// Returns the answer for `found`, the result of a search for sizes. The answer has the sizes, as
-/// lines or as a bundle. An answer without sizes has the reason instead.
+/// lines or as a bundle of a plan and its certificate. If no sizes were found or the bundle would
+/// be too long, the answer has the reason instead.
 ///
 /// # Errors
 ///
@@ -154,8 +156,8 @@ fn no_sizes(alloc: Global, plan: &Plan, cause: NoSizes) -> Result<Answer, AllocE
     })
 }
 
-/// Returns the bundle for the sizes that were found. If no sizes were found, returns the answer
-/// with the reason.
+/// Returns the answer as a bundle: a plan with the sizes that were found, and its certificate. If
+/// no sizes were found or the bundle would be too long, the answer has the reason instead.
 fn bundle<R: Threads + Wait + Sync>(
     rt: &R,
     alloc: Global,

@@ -85,11 +85,12 @@ fn learn_from_all(alloc: Global, strict: bool, recording: &[u8]) -> Result<Answe
 /// - the list of differences, if `strict` is true and the recording does not conform to the plan;
 /// - otherwise the text of the plan, after comments that list what else the recording shows.
 ///
-/// Returns `None` if the plan does not explain the recording. This happens in these cases:
+/// Returns `None` if the plan does not explain the recording. A round is one pass of a client
+/// through its body. The plan does not explain the recording in these cases:
 ///
 /// - A job or a round follows no body.
 /// - It is undecided whether a job or a round follows a body.
-/// - A client kind has more rounds than the plan allows.
+/// - A client kind, which is a `[[client]]` of the plan, has more rounds than the plan allows.
 fn plan_answer(
     alloc: Global,
     strict: bool,
@@ -185,7 +186,8 @@ fn head_of(
     Ok(text)
 }
 
-/// Appends the comments about the extent of the recording and about what the plan does not contain.
+/// Appends the comments that count the rounds and jobs of the recording, and say what the plan does
+/// not contain. A round is one pass of a client through its body.
 fn push_head(text: &mut String, seen: &InferredPlan) -> Result<(), AllocError>
     ensures { Pushes result text.old text.new (spec.head_comment seen.now) }
 {
@@ -197,7 +199,8 @@ fn push_head(text: &mut String, seen: &InferredPlan) -> Result<(), AllocError>
     push_failed_gets(text, seen.failed_gets)
 }
 
-/// Appends the comment with the number of rounds and jobs that the plan was derived from.
+/// Appends the comment with the number of rounds and jobs that the plan was derived from. A round
+/// is one pass of a client through its body.
 fn push_extent(text: &mut String, rounds: usize, jobs: usize) -> Result<(), AllocError>
     ensures { Pushes result text.old text.new (spec.extent_comment rounds jobs) }
 {
@@ -207,8 +210,9 @@ fn push_extent(text: &mut String, rounds: usize, jobs: usize) -> Result<(), Allo
     )
 }
 
-/// Appends the comment with the numbers of unfinished rounds and jobs, if there are any. The
-/// recording of a service that hung has unfinished rounds and jobs.
+/// Appends the comment with the numbers of unfinished rounds and jobs, if there are any. A round is
+/// one pass of a client through its body. The recording of a service that hung has unfinished
+/// rounds and jobs.
 fn push_unfinished(text: &mut String, rounds: usize, jobs: usize) -> Result<(), AllocError>
     ensures { Pushes result text.old text.new (spec.unfinished_comment rounds jobs) }
 {
@@ -348,9 +352,9 @@ fn are_of_actors(findings: &[Finding]) -> bool
     findings.iter().any(|finding| is_of_actors(finding))
 }
 
-/// Returns true if the finding shows that a derived plan does not explain the recording. Such a
-/// finding is about the label or the path of a job or round, or about the number of rounds of a
-/// client kind.
+/// Returns true if the finding shows that a derived plan does not explain a job or a round. A round
+/// is one pass of a client through its body. Such a finding is about the label or the path of a job
+/// or round. It can also be about a client kind, a `[[client]]` of the plan, with too many rounds.
 fn is_of_actors(finding: &Finding) -> bool
     ensures { result ≡ is_of_actors finding.now }
 {

@@ -127,8 +127,9 @@ fn read_pair<'a, F: TextFiles, S: Source>(
     }
 }
 
-/// Returns an error if `text` is itself a bundle. `text` is one of the two texts of a command, and
-/// `name` is the name of its file. The error contains this name.
+/// Returns an error if `text` has a line `%%`, because the text is then itself a bundle of two
+/// texts. `text` is one of the two texts of a command, and `name` is the name of its file. The
+/// error contains this name.
 fn ensure_alone<'a>(name: Option<&'a str>, text: &[u8]) -> Result<(), CliError<'a>>
     ensures alone { IfOk result (λ _. bundle_of text.now ≡ None) }
     ensures bundle { IfErr result (IsOfBundle (option_map (λ name. name.now) name.entry) text.now) }

@@ -1,6 +1,6 @@
-//! The `refute` command: searches for a witness against a plan, and writes it as a story or as a
-//! bundle. A witness is a list of events after which a submit is refused or jobs wait only for each
-//! other.
+//! The `refute` command: searches for a witness against a plan. A witness is a list of events after
+//! which a submit is refused or jobs wait only for each other. The command writes the witness as
+//! text for a person, or as a bundle of the plan and the events.
 
 ghost use Rattle.std.specs.Prelude.{◌≡◌, ◌++◌, ◌∷◌, IfOk, IfErr, IfSome, IfNone, IsTrue, codes};
 ghost use Rattle.sizing_cli.specs.Certify.{IsUncertified};
@@ -26,8 +26,8 @@ use std::thread::Threads;
 /// of events that shows that the plan is not safe. The input is a plan's text.
 ///
 /// - If a certificate is found, the plan is safe.
-/// - If a witness is found, the answer is the story of the witness, or the bundle of the plan and
-///   the witness's events.
+/// - If a witness is found, the answer describes the witness, or is a bundle of the plan and the
+///   witness's events.
 /// - Otherwise the plan is undecided. The answer then has the number of states that were searched,
 ///   which is at most `states`.
 ///
@@ -73,8 +73,8 @@ fn refute_plan<R: Threads + Wait + Sync>(
     }
 }
 
-/// Searches for a witness against a plan for which no certificate was found, and returns the
-/// answer.
+/// Searches for a counterexample, and returns the answer. Before this call, no certificate was
+/// found for the plan.
 fn without_certificate(
     alloc: Global,
     states: usize,
@@ -89,8 +89,9 @@ fn without_certificate(
     Ok(answer_of(alloc, refute_format, plan, search, text)?)
 }
 
-/// Returns the answer for the result of a search for a witness. The answer has the witness or, if
-/// none was found, the number of states that were searched.
+/// Returns the answer for the result of a search for a witness, a list of events that shows that
+/// the plan is not safe. The answer has the witness or, if none was found, the number of states
+/// that were searched.
 fn answer_of(
     alloc: Global,
     refute_format: RefuteFormat,
@@ -110,7 +111,6 @@ fn answer_of(
     }
 }
 
-/// Returns the answer with the witness in the output format `refute_format`.
 fn show(
     alloc: Global,
     refute_format: RefuteFormat,
@@ -136,8 +136,8 @@ fn story(alloc: Global, plan: &Plan, witness: &Witness) -> Result<Answer, AllocE
     })
 }
 
-/// Returns the bundle of the plan's text and the event lines of the witness. If the event lines are
-/// too long, the answer says only that.
+/// Returns a bundle: the plan's text, a line `%%`, and the event lines of `witness`. If the event
+/// lines are too long, the answer says only that.
 fn bundle(
     alloc: Global,
     plan: &Plan,
@@ -170,8 +170,8 @@ fn safe(alloc: Global, refute_format: RefuteFormat) -> Result<Answer, AllocError
     )
 }
 
-/// Returns the answer that neither a certificate nor a witness was found, with the number of states
-/// that were searched.
+/// Returns the answer that neither a certificate nor a counterexample was found, with the number of
+/// states that were searched.
 fn not_decided(
     alloc: Global,
     refute_format: RefuteFormat,
@@ -203,8 +203,8 @@ fn events_too_long(alloc: Global) -> Result<Answer, AllocError>
     Answer::no(alloc, "no bundle: too many events\n")
 }
 
-/// Returns the status of an answer without a bundle. If a bundle was requested, this is
-/// [`Status::Refused`]. Otherwise it is `status`.
+/// Returns the status of an answer that has no counterexample. If the user requested a bundle of
+/// the plan and events, this is [`Status::Refused`]. Otherwise it is `status`.
 fn without_bundle(refute_format: RefuteFormat, status: Status) -> Status
     ensures { result ≡ spec.without_bundle refute_format status }
 {

@@ -12,9 +12,9 @@ use std::alloc::{AllocError, Global};
 /// The maximum number of states that the search visits for each pool.
 const STATES: usize = 100_000;
 
-/// Returns an element for each pool of the certificate: the number of events after which the pool
-/// rejects a job, or `None` if no such events are found. The search skips each pool for which the
-/// certificate has a bound. If the certificate accepts the plan, such a pool never rejects a job.
+/// Returns an element for each pool: the number of events after which the pool rejects a job, or
+/// `None` if no such events are found. The search skips each pool whose queue the certificate
+/// bounds. If the certificate accepts the plan, such a pool never rejects a job.
 #[tactic(auto, using(crate::proofs::RejectionLists::one_more))]
 pub(crate) fn rejections_of(
     alloc: Global,
@@ -33,7 +33,8 @@ pub(crate) fn rejections_of(
 }
 
 /// Returns the number of events after which the pool rejects a job. `part` is this pool's part of
-/// the certificate. Returns `None` if `part` has a bound, or if the search finds no such events.
+/// the certificate. Returns `None` if `part` has a bound of the pool's queue, or if the search
+/// finds no such events.
 fn rejection_of(
     alloc: Global,
     plan: &Plan,

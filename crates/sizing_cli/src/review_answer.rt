@@ -13,7 +13,7 @@ use job_bodies::Plan;
 use std::alloc::{AllocError, Global};
 use support::ReadError;
 
-/// Runs a review command on an input, and returns the answer.
+/// Runs a review command (`replay`, `check` or `explain`) on an input, and returns the answer.
 pub fn report(alloc: Global, review: ReviewCommand, input: &[u8]) -> Result<Answer, AllocError>
     ensures { IfOk result (λ answer. answer ≡ spec.report review input.now) }
 {

@@ -19,8 +19,9 @@ use std::thread::Threads;
 use support::ReadError;
 use support::number::RUN_TOO_LARGE;
 
-/// Runs the plan of a bundle with the bundle's certificate, and returns the answer. Each repeating
-/// client performs its body `rounds` times. The answer is one of these:
+/// Runs a plan if its certificate accepts the plan, and returns the answer. The input is the plan's
+/// text, a line `%%`, and the certificate. Each repeating client performs its body `rounds` times.
+/// The answer is one of these:
 ///
 /// - the numbers of jobs and of units of work, if the run completes;
 /// - a no, if the certificate does not accept the plan;

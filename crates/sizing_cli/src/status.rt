@@ -64,10 +64,12 @@ impl Status {
 /// The fault of a command that gave no complete answer. The number of the fault is one of these:
 ///
 /// - 20 (`Memory`): memory ran out, or a thread could not be started.
-/// - 41 (`Strange`): a run ended with this fault (see [`RunFault`](locked_runner::RunFault)).
-/// - 42 (`Mixed`): a run or a search ended with this fault (see also [`SearchFault`]), or a check
-///   contradicts a search.
-/// - 43 (`Gate`): the gate stopped a search or a check, or failed in a run.
+/// - 41 (`Strange`): the records that a run's threads kept of their own events were wrong (see
+///   [`RunFault`](locked_runner::RunFault)).
+/// - 42 (`Mixed`): the history of a run or the results of a search's threads were inconsistent (see
+///   also [`SearchFault`]), or a check rejected what a search found.
+/// - 43 (`Gate`): the gate stopped a search or a check, or failed in a run. The gate is a hook of
+///   searches, checks and runs.
 /// - 60 (`ReadFailed`): the source failed.
 /// - 61 (`WriteFailed`): the sink failed.
 ///

@@ -16,7 +16,8 @@ pub struct StdFiles<'a, R> {
 }
 
 impl<'a, R: Files> StdFiles<'a, R> {
-    /// Creates a store of files that opens each file through `files`.
+    /// Creates a [`TextFiles`] for the files of the operating system, which it opens through
+    /// `files`.
     pub fn new(files: &'a R) -> StdFiles<'a, R> {
         StdFiles { files }
     }

@@ -19,8 +19,9 @@ pub(crate) struct WitnessSearch {
     pub(crate) states: usize,
 }
 
-/// Searches for a witness against the plan in at most `states` states. Returns a witness only if a
-/// replay confirms it.
+/// Searches at most `states` states for a witness against the plan. A witness is a list of events
+/// that shows that the plan is not safe. Returns a witness only if a replay of its events confirms
+/// it.
 pub(crate) fn witness_of(
     alloc: Global,
     plan: &Plan,
@@ -38,8 +39,8 @@ pub(crate) fn witness_of(
     Ok(WitnessSearch { witness, states })
 }
 
-/// Confirms a candidate for a witness by a replay. Returns `None` if the candidate is not a
-/// witness.
+/// Replays the events that a search found. Returns them as a witness if they show that the plan is
+/// not safe, and otherwise `None`.
 fn confirm(
     alloc: Global,
     plan: &Plan,
@@ -58,10 +59,10 @@ fn confirm(
     confirmed(alloc, plan, found.events, members, &standing)
 }
 
-/// Returns a vector for each pool, in plan order. This is a standing vector of the pool or, if the
-/// search finds none, a vector without weights. A standing vector can prove that a pool never
-/// starts a thread above its core size. The list is empty if a class submits itself, directly or
-/// through other classes.
+/// Returns a vector for each pool, in plan order. A vector gives a weight to each actor position
+/// and worker. The vector can prove that the pool never starts a thread above its core size. If the
+/// search finds no such vector, the vector of the pool has no weights. The list is empty if a class
+/// submits itself, directly or through other classes.
 fn standing_vectors(alloc: Global, plan: &Plan) -> Result<Vec<Vector>, AllocError> {
     let mut vectors = Vec::new(alloc);
     let Some(levels) = Levels::of(alloc, plan)? else {
@@ -77,8 +78,9 @@ fn standing_vectors(alloc: Global, plan: &Plan) -> Result<Vec<Vector>, AllocErro
     Ok(vectors)
 }
 
-/// Returns the vector of `bound` if `bound` is a standing bound. Otherwise, returns a vector
-/// without weights.
+/// Returns the vector of a standing bound, which limits the number of jobs in a queue at any one
+/// time. For a lifetime bound, which limits the number of jobs that are ever submitted, returns a
+/// vector without weights.
 fn standing_vector(alloc: Global, bound: Bound) -> Vector {
     match bound {
         Bound::Standing(vector) => vector,

@@ -4,13 +4,13 @@
 //! - A *take* is the event in which a worker takes a job from a queue.
 //! - The *remaining work* of a job is the number of job events and takes that are still needed to
 //!   finish the job and all jobs that it will submit.
-//! - A *standing* or *lifetime* vector bounds the queue of a pool. Its *rows* are the conditions on
-//!   it.
+//! - A *vector* has one weight for each actor position and worker. A *standing* or *lifetime*
+//!   vector bounds the queue of a pool. The *rows* of a vector are the conditions on it.
 //! - A pool that must not reject jobs *refuses* a job if it has no room. A pool that may reject
 //!   jobs *rejects* the job in this case. The submit is then skipped together with its get, and
 //!   does not count as refused.
 //! - Java *looks* at a pool whose core threads may time out, after each successful offer and after
-//!   the end of each thread. Java then starts a thread if a job is queued and the pool has no
+//!   the end of each thread. In a look, Java starts a thread if a job is queued and the pool has no
 //!   thread. Other events can occur before that look.
 
 ghost use Rattle.soundness.specs.Headline.{
@@ -31,8 +31,8 @@ ghost use Rattle.soundness.specs.Headline.{AcceptedBoundsNeverReject, AcceptedBo
 /// state, these facts hold:
 ///
 /// - No submit was refused.
-/// - No set of unfinished jobs waits only for its own members. This includes gets that the members
-///   have not yet reached.
+/// - No set of unfinished jobs waits only for its own members. A running job counts as waiting even
+///   before it reaches its get.
 /// - No pool has more threads than its maximum.
 /// - No bounded queue has more jobs than its capacity. If the capacity is 0, the queue has at most
 ///   as many jobs as its pool has idle workers.
@@ -46,8 +46,9 @@ pub fn accepted_plans_make_progress()
     ensures { AcceptedPlansMakeProgress }
 {}
 
-/// States that a well-formed plan drains if a certificate accepts it. Suppose that no client acts
-/// after some reachable state. Then these facts hold:
+/// States that a well-formed plan drains if a certificate accepts it. In a *job event*, a job
+/// performs its next action or finishes. In a *take*, a worker takes a job from a queue. Suppose
+/// that no client acts after some reachable state. Then these facts hold:
 ///
 /// - The number of job events and takes that follow is at most the remaining work of the jobs in
 ///   that state. The remaining work of a job is the number of job events and takes that are still
@@ -60,8 +61,9 @@ pub fn accepted_plans_drain()
 {}
 
 /// States that a well-formed plan refuses no submit if the bounds of its pools hold. The law says
-/// nothing about jobs that wait for each other, and needs no ranks and no blocked vectors.
-/// One of these conditions must hold for each pool:
+/// nothing about jobs that wait for each other. So it needs neither the ranks nor the blocked
+/// vectors of a certificate, which concern such waits. One of these conditions must hold for each
+/// pool:
 ///
 /// - The pool has a bound, which is a standing or a lifetime vector, and the rows (the conditions)
 ///   of this vector hold. In this vector, a rejected job weighs at most as much as a queued job of
@@ -72,8 +74,8 @@ pub fn accepted_plans_drain()
 ///
 /// - No submit was refused.
 /// - No pool has more threads than its maximum.
-/// - No bounded queue has more jobs than its capacity. If the capacity is 0, the queue has at most as
-///   many jobs as its pool has idle workers.
+/// - No bounded queue has more jobs than its capacity. If the capacity is 0, the queue has at most
+///   as many jobs as its pool has idle workers.
 pub fn bounded_plans_refuse_nothing()
     ensures { BoundedPlansRefuseNothing }
 {}
@@ -82,9 +84,9 @@ pub fn bounded_plans_refuse_nothing()
 /// plan, and let a submit take the separate steps of Java's `execute`, with other events between
 /// them. Then every reachable state is safe.
 ///
-/// At some moments, Java still has to look at a pool whose core threads may time out, and may then
-/// start a thread there. Before that look, the jobs in the queue of this pool do not count as
-/// waiting.
+/// If core threads of a pool may time out, Java checks after some steps whether the pool needs a
+/// new thread. While such a check is still to come, the jobs in the queue of the pool do not count
+/// as waiting, because Java may start a thread for them.
 pub fn accepted_plans_are_java_safe()
     ensures { AcceptedPlansAreJavaSafe }
 {}
@@ -105,8 +107,9 @@ pub fn accepted_plans_make_java_progress()
 /// some reachable state. Then these facts hold:
 ///
 /// - The number of job events and takes that follow is at most three times the remaining work of
-///   the jobs in that state (see [`accepted_plans_drain`]).
+///   the jobs in that state. [`accepted_plans_drain`] explains these terms.
 /// - When no job event, no take and no look at a pool is possible any longer, no job is unfinished.
+///   In a look, Java checks whether the pool needs a thread.
 ///
 /// Threads may end in between, as far as their pools allow it.
 pub fn accepted_plans_java_drain()
@@ -120,8 +123,9 @@ pub fn bounded_plans_java_refuse_nothing()
 {}
 
 /// States that no call of Java's `execute` ever finds the queue full in a pool with a standing
-/// vector. So no call requests a thread above core from this pool. All pools of the plan must
-/// satisfy the conditions of [`bounded_plans_refuse_nothing`].
+/// vector. Such a vector limits the number of jobs in the queue at one time. So no call requests a
+/// thread above core from this pool. All pools of the plan must satisfy the conditions of
+/// [`bounded_plans_refuse_nothing`].
 pub fn standing_pools_are_not_asked()
     ensures { StandingPoolsAreNotAsked }
 {}
@@ -155,10 +159,11 @@ pub fn accepted_plans_make_progress_with_skips()
 /// reachable state. Then these facts hold:
 ///
 /// - Only a limited number of these steps follow: job events, takes, skips by jobs and missed
-///   offers by jobs. The limit is three times the remaining work of the jobs in that state (see
-///   [`accepted_plans_drain`]). A missed offer fails at a queue of capacity 0, although a thread
-///   may be idle.
+///   offers by jobs. In a missed offer, a queue of capacity 0 does not take a job, although a
+///   thread may be idle. The limit is three times the remaining work of the jobs in that state.
+///   [`accepted_plans_drain`] explains job events, takes and the remaining work.
 /// - When no job event, no take and no look at a pool is possible any longer, no job is unfinished.
+///   In a look, Java checks whether the pool needs a thread.
 ///
 /// Threads may end in between, as far as their pools allow it, and jobs may be exchanged.
 pub fn accepted_plans_drain_with_skips()
@@ -173,8 +178,8 @@ pub fn accepted_bounds_never_reject()
 {}
 
 /// States the law [`accepted_bounds_never_reject`] under the assumptions of
-/// [`accepted_plans_may_skip`]. If a call requests a thread of a pool with a bound, the pool has
-/// fewer threads than its maximum. So the pool refuses and rejects no job.
+/// [`accepted_plans_may_skip`]. If a call of Java's `execute` requests a thread of a pool with a
+/// bound, the pool has fewer threads than its maximum. So the pool refuses and rejects no job.
 pub fn accepted_bounds_never_decline()
     ensures { AcceptedBoundsNeverDecline }
 {}

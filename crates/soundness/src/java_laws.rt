@@ -5,25 +5,26 @@ ghost use Rattle.soundness.specs.JavaSafe.{AtomicStatesAreReached};
 ghost use Rattle.soundness.specs.WithRoom.{RefusedWithRoom, StartedWithRoom};
 
 /// Proves that Java's steps reach every state that atomic submits reach. An atomic submit is one
-/// event, while a submit in Java's steps is up to three. When Java's steps reach the state, no call
-/// of `execute` is in progress, and Java does not have to look at any pool.
+/// event, while a submit in Java's steps is up to three. In the reached state, no call of `execute`
+/// is in progress, and no look at a pool is due. In a look, Java checks whether the pool needs a
+/// thread.
 ///
-/// The reason is that no other event has to occur between the steps of a submit. The same is true
-/// between the end of a thread and Java's look at its pool. If core threads of a pool may time out,
-/// the plan must be well-formed.
+/// The reason is that no other event has to occur between the steps of a submit, or between the end
+/// of a thread and the look at its pool. If core threads of a pool may time out, the plan must be
+/// well-formed.
 pub fn atomic_states_are_reached()
     ensures { AtomicStatesAreReached }
 {}
 
-/// States that Java can refuse a submit while the queue has room and a thread is idle. The call
-/// found the queue full when it offered its job. When it then requests a thread, the pool has its
-/// maximum of threads.
+/// States that Java can refuse a submit while the queue has room and a thread is idle. This happens
+/// if the queue was full when the call of `execute` offered its job. When the call then requests a
+/// thread, the pool has its maximum of threads.
 pub fn java_may_refuse_with_room()
     ensures { RefusedWithRoom }
 {}
 
 /// States that Java can start a thread above core while the queue has room and a thread is idle.
-/// This happens if the queue was full when the call offered its job.
+/// This happens if the queue was full when the call of `execute` offered its job.
 pub fn java_may_start_with_room()
     ensures { StartedWithRoom }
 {}

@@ -3,7 +3,8 @@
 use weights::{Place, Rule};
 
 /// A section of a certificate's conditions: the conditions of the ranks, or those of one vector of
-/// a pool. The field of a variant is the index of this pool.
+/// a pool. The ranks determine which gets can block a thread that other jobs need. The field of a
+/// variant is the index of the vector's pool.
 #[derive(Clone, Copy, Debug, PartialEq, Eq)]
 pub enum Section {
     Ranks,
@@ -12,8 +13,9 @@ pub enum Section {
     Blocked(usize),
 }
 
-/// A condition of a certificate: the inequality `left <= right`, which a rule requires at a place.
-/// `section` is the section to which the condition belongs.
+/// A condition of a certificate: the inequality `left <= right`. `rule` names the kind of the
+/// condition, and `place` is the place in the plan to which the condition applies. `section` is the
+/// section to which the condition belongs.
 #[derive(Clone, Copy, Debug, PartialEq, Eq)]
 pub struct Note {
     pub section: Section,

@@ -6,9 +6,10 @@ ghost use Rattle.soundness.specs.Exchange.{ExchangesSwapTwoGets};
 ghost use Rattle.soundness.specs.Skipping.{DoneWithinQueued};
 ghost use Rattle.soundness.specs.Skipping.{AlikeJobsAreGotInAnyOrder};
 
-/// States that a done job of a class weighs at most as much as a queued job of this class. The rows
-/// (the conditions) of the vector and of the ranks must hold. So a skipped submit does not increase
-/// the weight of a state: it creates a done job in place of a queued job.
+/// States that a vector gives a done job of a class at most the weight of a queued job of this
+/// class. The rows (the conditions) of the vector and of the certificate's ranks must hold. So a
+/// skipped submit does not increase the sum of all weights in a state: it creates a done job in
+/// place of a queued job.
 pub fn done_within_queued()
     ensures { DoneWithinQueued }
 {}

@@ -9,10 +9,11 @@ ghost use Rattle.soundness.specs.Drain.{FullIsWhole, FullIsOfThePlan};
 
 /// Proves a limit on how many jobs of a pool can be blocked. A running job *can be blocked* if its
 /// current action or a later action is a counted get. Such a get can block a thread that other jobs
-/// need. Let the rows (the conditions) of the ranks and of the pool's blocked vector hold. Then the
-/// number of jobs that can be blocked has two limits in every reachable state:
+/// need. Let the rows (the conditions) of a certificate's ranks hold, which determine the counted
+/// gets. Let the rows of its blocked vector for the pool also hold. Then the number of jobs that
+/// can be blocked has two limits in every reachable state:
 ///
-/// - It is at most the vector's total.
+/// - It is at most the total of the blocked vector.
 /// - It is less than the pool's core size. If core threads may time out, it is 0.
 pub fn fewer_than_core_may_block()
     ensures { FewerThanCoreMayBlock }

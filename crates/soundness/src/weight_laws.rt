@@ -11,22 +11,26 @@
 
 ghost use Rattle.soundness.specs.WeightLaws.{SumNeverRises, SumStaysWithinTotal, BoundsRefuseNothing, QueuesStayWithinTotal, JobsStayWithinTotal};
 
-/// States that no event increases the weight of a reachable state. The rows (the conditions) of the
-/// vector must hold, and a rejected job must weigh at most as much as a queued job.
+/// States that no event increases the weight of a reachable state. The weight is the sum of the
+/// weights that a vector gives to clients, to jobs and to workers that are not busy. The rows (the
+/// conditions) of the vector must hold, and a rejected job must weigh at most as much as a queued
+/// job.
 pub fn sum_never_rises()
     ensures { SumNeverRises }
 {}
 
-/// States that the weight of every reachable state is at most the vector's total. The rows (the
-/// conditions) of the vector must hold, and a rejected job must weigh at most as much as a queued
-/// job.
+/// States that the weight of every reachable state is at most the total of a vector. The weight is
+/// the sum of the weights that the vector gives to clients, to jobs and to workers that are not
+/// busy. The rows (the conditions) of the vector must hold, and a rejected job must weigh at most
+/// as much as a queued job.
 pub fn sum_stays_within_total()
     ensures { SumStaysWithinTotal }
 {}
 
-/// States that a pool refuses and rejects no job in any reachable state. A standing or a lifetime
-/// vector of the pool must satisfy its rows (the conditions). In this vector, a rejected job must
-/// weigh at most as much as a queued job. Nothing is assumed about the other pools.
+/// States that a pool refuses and rejects no job in any reachable state. The pool must have a
+/// standing or a lifetime vector, and the rows (the conditions) of this vector must hold. In this
+/// vector, a rejected job must weigh at most as much as a queued job. Nothing is assumed about the
+/// other pools.
 pub fn bounds_refuse_nothing()
     ensures { BoundsRefuseNothing }
 {}

@@ -1,4 +1,5 @@
-//! A law about the fault numbers, as the contract of an empty function.
+//! The proof that each fault has its documented number, as the contract of a function with an empty
+//! body.
 
 ghost use Rattle.support.specs.Number.{FaultNumbersAreStated};
 

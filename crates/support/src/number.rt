@@ -27,10 +27,12 @@ pub const NO_SUCH_CLASS: u8 = 10;
 /// The text of an action has none of the forms `work N`, `submit CLASS`, `submit CLASS as SLOT` and
 /// `get SLOT`.
 pub const BAD_ACTION: u8 = 11;
-/// A submit fills a slot that is already filled.
+/// A submit fills a slot that is already filled. A slot is a name for a submitted job, until a get
+/// of the slot empties it.
 pub const SLOT_OPEN: u8 = 12;
-/// A get names an empty slot. In a plan that is built from lists, a get names the position of a
-/// submit instead of a slot. The fault is then one of these:
+/// A get names an empty slot: no submit filled the slot, or a get has emptied it. In a plan that is
+/// built from lists, a get names the position of a submit instead of a slot. The fault is then one
+/// of these:
 ///
 /// - The body has no earlier submit at this position.
 /// - An earlier get names the same position.
@@ -59,12 +61,13 @@ pub const CERT_TOO_LONG: u8 = 34;
 
 /// A run exceeds one of its limits.
 pub const RUN_TOO_LARGE: u8 = 40;
-/// A client or a pool has a wrong receipt. The event of the receipt belongs to another client or
-/// pool, or it is not in the history. A receipt is a thread's record of an event that the thread
-/// performed. The history lists the events of a run in order.
+/// A client or a pool has a wrong receipt. A receipt is a thread's record of an event that the
+/// thread performed. A receipt is wrong if its event belongs to another client or pool, or does not
+/// match the history: the list of the events of a run, in order.
 pub const STRANGE: u8 = 41;
 /// The results of several threads contradict each other. In a run, the history and the receipts are
-/// not those of a complete run. In a search, the parts of the search do not fit together.
+/// not those of a complete run. In a search, the results of its threads are inconsistent, or the
+/// check does not confirm the certificate that the search found.
 pub const MIXED: u8 = 42;
 /// A gate failed. In a run, a gate is the code that does the declared work. In a search or a check,
 /// a gate is the hook that is called before each pool.
@@ -72,7 +75,7 @@ pub const GATE: u8 = 43;
 
 // ---- faults of an input
 
-/// No line of the input is the separator `%%`.
+/// No line of the input is the separator `%%` between the plan and the text after it.
 pub const NO_SEPARATOR: u8 = 50;
 /// An event line is malformed, or names a pool that does not exist.
 pub const BAD_EVENT: u8 = 51;

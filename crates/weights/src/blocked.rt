@@ -17,7 +17,7 @@ ghost use Rattle.weights.specs.Blocked.{is_get, counted_rows, blocked_rows};
 use crate::{Counted, FirstFault, GetReturn, Place, Row, RowVisitor, Rule, Vector};
 use job_bodies::{Action, Class, Plan};
 
-/// A failing row of a blocked vector: its `left` is greater than its `right`.
+/// A [`Row`] of a blocked vector. Its condition does not hold: `left` is greater than `right`.
 pub type BlockedFault = Row;
 
 /// Passes condition B1 (see [`Rule`]) to the visitor if `action` is a counted get. Otherwise does
@@ -46,7 +46,8 @@ fn visit_counted_row<C: Counted, V: RowVisitor>(
     }
 }
 
-/// Passes condition B1 to the visitor for each counted get of the class at index `number`.
+/// Passes condition [`Rule::B1`] to the visitor for each counted get of the class at index
+/// `number`.
 fn visit_counted_rows<C: Counted, V: RowVisitor>(
     plan: &Plan,
     counted: &C,
@@ -67,8 +68,8 @@ fn visit_counted_rows<C: Counted, V: RowVisitor>(
     }
 }
 
-/// Passes condition B1 to the visitor for each counted get of the class at index `number`. Does
-/// nothing if the class does not belong to the pool.
+/// Passes condition [`Rule::B1`] to the visitor for each counted get of the class at index
+/// `number`. Does nothing if the class does not belong to the pool.
 fn visit_counted_rows_of<C: Counted, V: RowVisitor>(
     plan: &Plan,
     pool: usize,
@@ -90,7 +91,7 @@ fn visit_counted_rows_of<C: Counted, V: RowVisitor>(
     }
 }
 
-/// Passes condition B1 to the visitor for each counted get of the pool's classes.
+/// Passes condition [`Rule::B1`] to the visitor for each counted get of the pool's classes.
 fn visit_all_counted_rows<C: Counted, V: RowVisitor>(
     plan: &Plan,
     pool: usize,

@@ -23,7 +23,7 @@ pub(crate) enum BodyOwner {
 }
 
 impl BodyOwner {
-    /// Returns the place of an action of the owner's body. The action is at `position`.
+    /// Returns the place of the action at `position` of the owner's body.
     fn place_at(self, position: usize) -> Place
         ensures { result ≡ place_at self position }
     {
@@ -70,7 +70,7 @@ fn returned_weight(get_return: GetReturn, plan: &Plan, vector: &Vector, class: u
 }
 
 /// Returns the condition for the action at `position` of the body: V2 for `work`, V3 for a submit,
-/// and V5 or L5 for a get.
+/// and V5 or L5 for a get. [`Rule`] explains these conditions.
 fn action_row(
     get_return: GetReturn,
     plan: &Plan,

@@ -1,11 +1,14 @@
-//! The rule that decides which gets are counted.
+//! The rule that decides which gets are counted. A counted get can block a thread that other jobs
+//! need.
 
 ghost use Rattle.std.specs.Prelude.{◌≡◌, ℕ, Bool};
 
-/// A rule that decides which gets are counted, such as [`RanksOf`](crate::RanksOf). In the blocked
-/// vector of a pool, a job of the pool weighs at least 1 at each counted get. So the vector bounds
-/// the number of jobs that wait at counted gets. If a get waits for a job that always makes
-/// progress, the get does not have to be counted.
+/// A rule that decides which gets are counted, such as [`RanksOf`](crate::RanksOf). A counted get
+/// can block a thread that other jobs need. If a get waits for a job that always makes progress,
+/// the get does not have to be counted.
+///
+/// In the blocked vector of a pool, a job of the pool weighs at least 1 at each counted get. So the
+/// vector bounds the number of the pool's jobs that wait at counted gets.
 pub trait Counted {
     // Whether the rule has an answer for this position of this class.
     ghost Answers: { Self → ℕ → ℕ → Type 0 };

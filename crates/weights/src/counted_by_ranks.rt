@@ -1,4 +1,5 @@
-//! The rule that decides which gets are counted. It uses the ranks and reaches of a certificate.
+//! The rule that decides which gets are counted. A counted get can block a thread that other jobs
+//! need. The rule uses the ranks and reaches of a certificate.
 
 ghost use Rattle.std.specs.Prelude.{◌≡◌, ◌<◌, IsTrue, Some, length, slice_get};
 ghost use Rattle.job_bodies.specs.Plan.{class_at};
@@ -30,7 +31,7 @@ fn is_counted_in(plan: &Plan, ranks: &Ranks, number: usize, class: &Class, posit
 impl Ranks {
     /// Returns whether the action at `position` of the class's body is a counted get. A get waits
     /// for a job. If the reach of this job's class is at least the rank of the pool of `class`, the
-    /// get is counted. Otherwise the get is not counted.
+    /// get is counted. Otherwise the get is not counted. [`Ranks`] explains ranks and reaches.
     pub fn is_counted(&self, plan: &Plan, class: usize, position: usize) -> bool
         requires fits { IsTrue (spec.ranks_fit plan.now self.now) }
         requires class { class < length plan.now.classes }

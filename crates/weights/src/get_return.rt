@@ -5,18 +5,19 @@ ghost use Rattle.weights.specs.GetReturn.{get_rule};
 
 use crate::Rule;
 
-/// The weight that a get gives to its actor: the whole weight of the done job, or nothing. The
-/// actor is the job or the client that performs the get.
+/// The weight that a get gives to its actor, which is the job or the client that performs the get.
+/// The kind of the vector decides which variant applies.
 #[derive(Clone, Copy, PartialEq, Eq)]
 pub enum GetReturn {
-    /// The whole weight of the done job, as in standing and blocked vectors.
+    /// The weight that the got job has when it is done. Standing and blocked vectors use this.
     DoneWeight,
-    /// Nothing, as in lifetime vectors.
+    /// No weight. Lifetime vectors use this.
     NoWeight,
 }
 
 impl GetReturn {
-    /// Returns the rule that limits the weight of the actor after a get: V5 or L5.
+    /// Returns the rule that limits the weight of the actor after a get: [`Rule::V5`] if the get
+    /// gives it the weight of the done job, and [`Rule::L5`] if the get gives it no weight.
     pub fn rule(self) -> Rule
         ensures { result ≡ get_rule self }
     {

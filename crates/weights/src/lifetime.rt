@@ -31,7 +31,7 @@ pub(crate) fn lifetime_limit(pool: &Pool) -> u64
     }
 }
 
-/// Passes condition L1 for each pool to the visitor.
+/// Passes condition [`Rule::L1`] for each pool to the visitor.
 fn visit_worker_rows<V: RowVisitor>(plan: &Plan, vector: &Vector, visitor: &mut V)
     requires { IsTrue (spec.vector_fits plan.now vector.now) }
     ensures { let all = map (λ entry. row L1 (place.Worker entry.0) (spec.workers_weight vector.now entry.0) 0) (enumerate_from 0 plan.now.pools) in
@@ -47,8 +47,8 @@ fn visit_worker_rows<V: RowVisitor>(plan: &Plan, vector: &Vector, visitor: &mut 
     }
 }
 
-/// Passes condition L2 to the visitor for each weight in `weights`. These are the weights of a job
-/// of the class: when it is queued, at each position of its body, and when it is done.
+/// Passes condition [`Rule::L2`] to the visitor for each weight in `weights`. These are the weights
+/// of a job of the class: when it is queued, at each position of its body, and when it is done.
 fn visit_l2_rows<V: RowVisitor>(class: usize, weights: &[u64], visitor: &mut V)
     ensures { Visits V.HasSeen visitor.old visitor.new
         (map (λ weight. row L2 (place.Class class) 1 weight) weights.now) }
@@ -58,8 +58,8 @@ fn visit_l2_rows<V: RowVisitor>(class: usize, weights: &[u64], visitor: &mut V)
     }
 }
 
-/// Passes condition L2 to the visitor for each weight of the class at index `number`. Does nothing
-/// if the class does not belong to the pool.
+/// Passes condition [`Rule::L2`] to the visitor for each weight of the class at index `number`.
+/// Does nothing if the class does not belong to the pool.
 fn visit_l2_rows_of<V: RowVisitor>(
     plan: &Plan,
     pool: usize,
@@ -79,7 +79,7 @@ fn visit_l2_rows_of<V: RowVisitor>(
     }
 }
 
-/// Passes condition L2 to the visitor for each weight of the pool's classes.
+/// Passes condition [`Rule::L2`] to the visitor for each weight of the pool's classes.
 fn visit_all_l2_rows<V: RowVisitor>(plan: &Plan, pool: usize, vector: &Vector, visitor: &mut V)
     requires { IsTrue (spec.vector_fits plan.now vector.now) }
     ensures { let all = flat_map (λ entry. map (λ weight. row L2 (place.Class entry.0) 1 weight) (spec.class_weights vector.now entry.0)) (classes_of plan.now pool) in
@@ -109,8 +109,8 @@ impl Vector {
         self.visit_room_rows(plan, pool, visitor);
     }
 
-    /// Passes the conditions L2 and L3 to the visitor: first L2 for each weight of the pool's
-    /// classes, and then L3. Does nothing if the queue of the pool is unbounded.
+    /// Passes the conditions L2 and L3 (see [`Rule`]) to the visitor: first L2 for each weight of
+    /// the pool's classes, and then L3. Does nothing if the queue of the pool is unbounded.
     fn visit_room_rows<V: RowVisitor>(&self, plan: &Plan, pool: usize, visitor: &mut V)
         requires fits { IsTrue (spec.vector_fits plan.now self.now) }
         requires pool { pool < length plan.now.pools }

@@ -15,7 +15,7 @@ ghost use Rattle.weights.specs.Ranks as spec;
 use crate::{FirstFault, Place, Ranks, Row, RowVisitor, Rule, submitted_class};
 use job_bodies::{Action, Class, Plan};
 
-/// A failing row of ranks: its `left` is greater than its `right`.
+/// A [`Row`] of ranks. Its condition does not hold: `left` is greater than `right`.
 pub type RankFault = Row;
 
 /// Returns condition K2 for a get. The get is at `position` in the body of the class at index
@@ -62,9 +62,9 @@ fn submit_row(plan: &Plan, ranks: &Ranks, number: usize, position: usize, submit
     )
 }
 
-/// Passes the condition for an action to the visitor: K2 for a get, or K3 for a submit. Does
-/// nothing for other actions, which have no condition. The action is at `position` in the body of
-/// the class at index `number`.
+/// Passes the condition for an action to the visitor: K2 for a get, or K3 for a submit (see
+/// [`Rule`]). Does nothing for other actions, which have no condition. The action is at `position`
+/// in the body of the class at index `number`.
 fn visit_action_row<V: RowVisitor>(
     plan: &Plan,
     ranks: &Ranks,
@@ -111,7 +111,7 @@ fn own_row(plan: &Plan, ranks: &Ranks, number: usize, class: &Class) -> Row
 }
 
 /// Passes the conditions for the actions of the class at index `number` to the visitor: K2 for each
-/// get, and K3 for each submit.
+/// get, and K3 for each submit (see [`Rule`]).
 fn visit_action_rows<V: RowVisitor>(
     plan: &Plan,
     ranks: &Ranks,
@@ -130,8 +130,8 @@ fn visit_action_rows<V: RowVisitor>(
     }
 }
 
-/// Passes the conditions for the class at index `number` to the visitor. The first one is K1. The
-/// others are K2 for each get and K3 for each submit, in the order of the body.
+/// Passes the conditions for the class at index `number` to the visitor (see [`Rule`]). The first
+/// one is K1. The others are K2 for each get and K3 for each submit, in the order of the body.
 fn visit_class_rows<V: RowVisitor>(
     plan: &Plan,
     ranks: &Ranks,
@@ -150,9 +150,9 @@ fn visit_class_rows<V: RowVisitor>(
 }
 
 impl Ranks {
-    /// Passes all conditions of the ranks to the visitor, class by class. The first one for each
-    /// class is K1. The others are K2 for each get and K3 for each submit, in the order of the
-    /// body.
+    /// Passes all conditions of the ranks to the visitor, class by class (see [`Rule`]). The first
+    /// one for each class is K1. The others are K2 for each get and K3 for each submit, in the
+    /// order of the body.
     pub fn visit_rank_rows<V: RowVisitor>(&self, plan: &Plan, visitor: &mut V)
         requires { IsTrue (spec.ranks_fit plan.now self.now) }
         ensures { Visits V.HasSeen visitor.old visitor.new (spec.rank_rows plan.now self.now) }

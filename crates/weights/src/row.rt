@@ -102,7 +102,8 @@ impl Row {
     }
 }
 
-/// A failing row: its `left` is greater than its `right`.
+/// A [`Row`] whose condition does not hold: `left` is greater than `right`.
 pub type RowFault = Row;
-/// A failing row of a pool's standing or lifetime vector.
+/// A [`Row`] of a pool's standing or lifetime vector. Its condition does not hold: `left` is
+/// greater than `right`.
 pub type StandingFault = Row;

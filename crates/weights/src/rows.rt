@@ -57,7 +57,7 @@ fn end_row(plan: &Plan, vector: &Vector, number: usize, class: &Class) -> Row
 }
 
 /// Passes the conditions for the class at index `number` to the visitor: V4, then the conditions
-/// for its actions, and then V6.
+/// for its actions, and then V6 (see [`Rule`]).
 fn visit_class_rows<V: RowVisitor>(
     get_return: GetReturn,
     plan: &Plan,
@@ -101,7 +101,7 @@ fn loop_row(plan: &Plan, vector: &Vector, number: usize, client: &Client) -> Row
 }
 
 /// Passes the conditions for the client kind at index `number` to the visitor: those for its
-/// actions, and then V7 if the kind repeats.
+/// actions, and then V7 (see [`Rule`]) if the kind repeats.
 fn visit_client_rows<V: RowVisitor>(
     get_return: GetReturn,
     plan: &Plan,
@@ -127,7 +127,6 @@ fn visit_client_rows<V: RowVisitor>(
     }
 }
 
-/// Passes the rows of each class to the visitor.
 fn visit_classes<V: RowVisitor>(
     get_return: GetReturn,
     plan: &Plan,
@@ -143,7 +142,6 @@ fn visit_classes<V: RowVisitor>(
     }
 }
 
-/// Passes the rows of each client kind to the visitor.
 fn visit_clients<V: RowVisitor>(
     get_return: GetReturn,
     plan: &Plan,
@@ -160,8 +158,8 @@ fn visit_clients<V: RowVisitor>(
 }
 
 impl Vector {
-    /// Passes the conditions V2 to V7 to the visitor: first those for each class, and then those
-    /// for each client kind. If `get_return` is `NoWeight`, L5 replaces V5.
+    /// Passes the conditions V2 to V7 (see [`Rule`]) to the visitor: first those for each class,
+    /// and then those for each client kind. If `get_return` is `NoWeight`, L5 replaces V5.
     pub fn visit_rows<V: RowVisitor>(&self, plan: &Plan, get_return: GetReturn, visitor: &mut V)
         requires fits { IsTrue (spec.vector_fits plan.now self.now) }
         ensures { Visits V.HasSeen visitor.old visitor.new (rows get_return plan.now self.now) }

@@ -16,8 +16,8 @@ ghost use Rattle.weights.specs.Visits.{Visits};
 use crate::{FirstFault, GetReturn, Place, Row, RowFault, RowVisitor, Rule, StandingFault, Vector};
 use job_bodies::{Class, Plan};
 
-/// Passes condition S1 for the class at index `number` to the visitor. Does nothing if the class
-/// does not belong to the pool.
+/// Passes condition [`Rule::S1`] for the class at index `number` to the visitor. Does nothing if
+/// the class does not belong to the pool.
 fn visit_queued_row<V: RowVisitor>(
     plan: &Plan,
     pool: usize,
@@ -42,7 +42,7 @@ fn visit_queued_row<V: RowVisitor>(
     }
 }
 
-/// Passes condition S1 for each class of the pool to the visitor.
+/// Passes condition [`Rule::S1`] for each class of the pool to the visitor.
 fn visit_queued_rows<V: RowVisitor>(plan: &Plan, pool: usize, vector: &Vector, visitor: &mut V)
     requires { IsTrue (spec.vector_fits plan.now vector.now) }
     ensures { let all = map (λ entry. row S1 (place.Class entry.0) 1 (spec.queued_weight vector.now entry.0)) (classes_of plan.now pool) in
@@ -68,8 +68,8 @@ impl Vector {
         self.visit_capacity_rows(plan, pool, visitor);
     }
 
-    /// Passes the conditions S1 and S2 to the visitor: first S1 for each class of the pool, and
-    /// then S2. Does nothing if the queue of the pool is unbounded.
+    /// Passes the conditions S1 and S2 (see [`Rule`]) to the visitor: first S1 for each class of
+    /// the pool, and then S2. Does nothing if the queue of the pool is unbounded.
     fn visit_capacity_rows<V: RowVisitor>(&self, plan: &Plan, pool: usize, visitor: &mut V)
         requires fits { IsTrue (spec.vector_fits plan.now self.now) }
         requires pool { pool < length plan.now.pools }
@@ -83,8 +83,8 @@ impl Vector {
         visitor.visit(Row::new(Rule::S2, Place::Total, self.total(plan), sizes.queue));
     }
 
-    /// Returns the first failing condition among V2 to V7, in the order of [`Vector::visit_rows`].
-    /// Returns `None` if all these conditions hold. Allocates no memory.
+    /// Returns the first failing condition among V2 to V7 (see [`Rule`]), in the order of
+    /// [`Vector::visit_rows`]. Returns `None` if all these conditions hold. Allocates no memory.
     pub fn first_fault(&self, plan: &Plan) -> Option<RowFault>
         requires { IsTrue (spec.vector_fits plan.now self.now) }
         ensures { result ≡ first_failing (rows DoneWeight plan.now self.now) }

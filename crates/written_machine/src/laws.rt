@@ -46,9 +46,9 @@ pub fn gets_have_children()
     ensures { GetsHaveChildren }
 {}
 
-/// States that the test for waiting sets is right. A waiting set is a non-empty set of jobs that
-/// wait only for each other. The test accepts a list of jobs exactly when the list is a waiting
-/// set.
+/// States that `is_waiting_set`, the test for waiting sets, is right. A waiting set is a non-empty
+/// set of jobs that wait only for each other. The test accepts a list of jobs exactly when the list
+/// is a waiting set.
 pub fn waiting_sets_are_tested()
     ensures { WaitingSetsAreTested }
 {}

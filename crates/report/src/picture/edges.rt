@@ -54,9 +54,9 @@ fn push_client_edges_to(
 
 // ---- from classes
 
-/// Appends the edges from each class. The body of the class submits or gets jobs, and the edges end
-/// at the classes of these jobs. `ranks` determines which gets are counted. If `ranks` is `None`,
-/// no get is counted.
+/// Appends the edges from each class to the classes of the jobs that its body submits or gets.
+/// `ranks` determines which gets are counted. A counted get can block a thread that other jobs
+/// need. If `ranks` is `None`, no get is counted.
 pub(crate) fn push_class_edges(
     text: &mut String,
     plan: &Plan,
@@ -139,9 +139,10 @@ fn has_get(body: &[Action], class: usize) -> bool
     body.iter().any(|action| gets_class(body, class, *action))
 }
 
-/// Returns whether the body has a counted get for a job of one class. `class` is the index of this
-/// class. `number` is the index of the class that has the body. Returns `false` if there are no
-/// ranks, or if the ranks do not fit the plan.
+/// Returns whether the body has a counted get of a job of the class with the index `class`. A
+/// counted get can block a thread that other jobs need. `ranks` determines which gets are counted.
+/// `number` is the index of the class that has the body. Returns `false` if `ranks` is `None` or
+/// does not fit the plan.
 fn has_counted_get(
     plan: &Plan,
     ranks: Option<&Ranks>,
@@ -215,10 +216,10 @@ fn push_times(text: &mut String, times: usize) -> Result<(), AllocError>
     write!(text, " [label=\"{times}\"]")
 }
 
-/// Appends one dashed edge for gets of jobs of a class. The edge ends at the node of this class,
-/// whose index is `class`. The edge starts at the node whose name is `kind` followed by `number`,
-/// such as `client0`. `counted` says whether one of the gets is counted; if so, the edge is bold.
-/// `gets` says whether there are any gets; if not, appends nothing.
+/// Appends one dashed edge for gets of jobs of a class. The edge starts at the node whose name is
+/// `kind` followed by `number`, such as `client0`. It ends at the node of the class with the index
+/// `class`. If `counted` is true, one of the gets can block a thread that other jobs need, and the
+/// edge is bold. If `gets` is false, there are no gets, and the function appends nothing.
 fn push_get_edge(
     text: &mut String,
     kind: &str,

@@ -58,12 +58,12 @@ fn outputs_of_memory(rt: HostRuntime) -> Result<(), Fail> {
 }
 
 /// A reader that is interrupted before each byte. It fails after it has returned `left` bytes.
-struct Interrupted {
+struct InterruptedSource {
     is_next: bool,
     left: u8,
 }
 
-impl Read for Interrupted {
+impl Read for InterruptedSource {
     fn read(&mut self, buf: &mut [u8]) -> io::Result<usize> {
         self.is_next = !self.is_next;
         if self.is_next {
@@ -87,7 +87,7 @@ fn std_readers(rt: HostRuntime) -> Result<(), Fail> {
     let mut source = StdSource::new(b"one two three".as_slice());
     let bytes = read_up_to(rt.alloc(), &mut source, 100)?;
     assert_eq!(rt; bytes.as_slice(), b"one two three".as_slice());
-    let mut source = StdSource::new(Interrupted {
+    let mut source = StdSource::new(InterruptedSource {
         is_next: false,
         left: 2,
     });
@@ -96,15 +96,15 @@ fn std_readers(rt: HostRuntime) -> Result<(), Fail> {
     assert_eq!(rt; piece, [1, 9]);
     assert_eq!(rt; source.read(&mut piece), Ok(1));
     assert_eq!(rt; source.read(&mut piece), Err(IoFault));
-    let Interrupted { is_next: _, left } = source.into_inner();
+    let InterruptedSource { is_next: _, left } = source.into_inner();
     assert_eq!(rt; left, 0);
     Ok(())
 }
 
 /// A writer of `std` that accepts no byte.
-struct Full;
+struct FullSink;
 
-impl Write for Full {
+impl Write for FullSink {
     fn write(&mut self, _buf: &[u8]) -> io::Result<usize> {
         Ok(0)
     }
@@ -121,10 +121,10 @@ fn std_writers(rt: HostRuntime) -> Result<(), Fail> {
     let mut sink = StdSink::new(Vec::new(rt.alloc()));
     write_all(&mut sink, b"one two three")?;
     assert_eq!(rt; sink.into_inner().as_slice(), b"one two three".as_slice());
-    let mut sink = StdSink::new(Full);
+    let mut sink = StdSink::new(FullSink);
     assert_eq!(rt; sink.write(b""), Ok(0));
     assert_eq!(rt; write_all(&mut sink, b"one"), Err(IoFault));
-    let Full = sink.into_inner();
+    let FullSink = sink.into_inner();
     Ok(())
 }
 

@@ -3,7 +3,7 @@
 use cert_check::{Cert, read_cert};
 use job_bodies::Plan;
 use plan_text::read_plan;
-use size_search::{SizesFound, Unfit, fitted, search_sizes, smallest, widened};
+use size_search::{FitError, SizesFound, fitted, search_sizes, smallest, widened};
 use std::alloc::{AllocError, Global};
 use std::process::Abort;
 use std::test::*;
@@ -92,14 +92,14 @@ fn sizes_of(plan: &Plan) -> [u64; 3] {
 #[derive(Clone, Copy, Debug, PartialEq, Eq)]
 enum Answer {
     Sizes([u64; 3]),
-    Unfit(Unfit),
+    FitError(FitError),
     Condition,
 }
 
-fn answer_of(unfit: Unfit) -> Answer {
+fn answer_of(unfit: FitError) -> Answer {
     match unfit {
-        Unfit::Condition(_) => Answer::Condition,
-        other => Answer::Unfit(other),
+        FitError::Condition(_) => Answer::Condition,
+        other => Answer::FitError(other),
     }
 }
 
@@ -132,7 +132,7 @@ fn answers(alloc: Global, plan: Plan, cert: &Cert) -> Result<[Answer; 4], AllocE
     Ok([wide, fit(alloc, plan, cert)?, least, copy])
 }
 
-const CORE: Answer = Answer::Unfit(Unfit::Core(0));
+const CORE: Answer = Answer::FitError(FitError::Core(0));
 
 // The sizes of a plan, of the widened plan and of the fitted plan, and the least sizes that the
 // certificate accepts.
@@ -198,7 +198,7 @@ fn plans_are_fitted_to_certificates(rt: HostRuntime) {
     }
 }
 
-const LAST_THREAD: Answer = Answer::Unfit(Unfit::CoreTimeout(0));
+const LAST_THREAD: Answer = Answer::FitError(FitError::CoreTimeout(0));
 
 // The core and the maximum stay unchanged if core threads may time out.
 const OF_ONE_POOL_WITH_TIMEOUTS: &[Case] = &[
@@ -249,7 +249,7 @@ fn cores_that_may_time_out_stay_unchanged(rt: HostRuntime) {
     }
 }
 
-const SHAPE: Answer = Answer::Unfit(Unfit::Shape);
+const SHAPE: Answer = Answer::FitError(FitError::Shape);
 
 #[test]
 fn a_certificate_of_another_plan_fits_no_sizes(rt: HostRuntime) {

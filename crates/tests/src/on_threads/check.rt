@@ -8,9 +8,9 @@ use std::thread::Threads;
 
 /// A gate that never stops a check. A check calls the gate before each pool.
 #[derive(Clone, Copy)]
-struct Open;
+struct OpenGate;
 
-impl PoolGate for Open {
+impl PoolGate for OpenGate {
     fn begin(&self, _pool: usize) -> bool {
         true
     }
@@ -65,7 +65,7 @@ impl Texts<'_> {
     ) -> Result<String, AllocError> {
         let mut otherwise = String::new(alloc);
         for workers in [1, 2, 3, 64] {
-            let found = check_on(rt, alloc, workers, self.plan, self.cert, &Open);
+            let found = check_on(rt, alloc, workers, self.plan, self.cert, &OpenGate);
             let text = result_text(alloc, &self.read, found)?;
             if text.as_str() != alone {
                 write!(otherwise, "\nwith {workers} workers {text}")?;

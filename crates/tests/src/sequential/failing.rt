@@ -110,13 +110,13 @@ impl Case<'_> {
         answer: &mut String,
     ) -> Result<(), AllocError> {
         for calls in 0..=self.ended.written.len().div_ceil(STALLING_PIECE) {
-            let mut sink = StdSink::new(Stalling {
+            let mut sink = StdSink::new(StallingSource {
                 taken: Vec::new(alloc),
                 calls,
             });
             let mut source = MemorySource::new(self.input);
             let outcome = query.serve(alloc, &mut source, &mut sink);
-            let Stalling { taken, calls: _ } = sink.into_inner();
+            let StallingSource { taken, calls: _ } = sink.into_inner();
             let failed = Ended {
                 written: taken,
                 outcome,
@@ -148,12 +148,12 @@ fn is_prefix_of(failed: &Ended, ended: &Ended, length: usize) -> bool {
 
 // A writer that accepts a piece in each of its first `calls` calls, and no byte in later calls.
 #[derive(Drop)]
-struct Stalling {
+struct StallingSource {
     taken: Vec<u8>,
     calls: usize,
 }
 
-impl Write for Stalling {
+impl Write for StallingSource {
     fn write(&mut self, piece: &[u8]) -> io::Result<usize> {
         if self.calls == 0 {
             return Ok(0);

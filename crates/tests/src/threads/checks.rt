@@ -68,9 +68,9 @@ impl<C: Clock + Sync> PoolGate for Rendezvous<'_, C> {
 
 /// A gate that refuses every pool except the one with this number.
 #[derive(Drop)]
-struct Only(usize);
+struct OnePoolGate(usize);
 
-impl PoolGate for Only {
+impl PoolGate for OnePoolGate {
     fn begin(&self, pool: usize) -> bool {
         pool == self.0
     }
@@ -100,7 +100,8 @@ fn a_no_of_the_gate(rt: HostRuntime) -> Result<(), Fail> {
     let (plan, cert) = (TWO_POOLS.as_bytes(), TWO_POOLS_CERT.as_bytes());
     for workers in [1, 2, 3, 64] {
         for pool in 0..2 {
-            let Err(fault) = check_on(&rt, rt.alloc(), workers, plan, cert, &Only(pool)) else {
+            let Err(fault) = check_on(&rt, rt.alloc(), workers, plan, cert, &OnePoolGate(pool))
+            else {
                 return Err(Fail::from("the gate was not asked"));
             };
             assert_eq!(rt; fault, CheckFault::Gate);
@@ -111,9 +112,9 @@ fn a_no_of_the_gate(rt: HostRuntime) -> Result<(), Fail> {
 
 /// A gate that refuses only the pool with this number.
 #[derive(Drop)]
-struct AllBut(usize);
+struct AllButOneGate(usize);
 
-impl PoolGate for AllBut {
+impl PoolGate for AllButOneGate {
     fn begin(&self, pool: usize) -> bool {
         pool != self.0
     }
@@ -172,7 +173,7 @@ fn a_no_for_each_of_many_pools(rt: HostRuntime) -> Result<(), Fail> {
     let read = read_plan(rt.alloc(), plan.as_bytes()).expect(&rt, "the plan is read");
     for workers in [1, 64] {
         for pool in 0..MANY {
-            let gate = AllBut(pool);
+            let gate = AllButOneGate(pool);
             let checked = check_on(
                 &rt,
                 rt.alloc(),
@@ -191,7 +192,7 @@ fn a_no_for_each_of_many_pools(rt: HostRuntime) -> Result<(), Fail> {
                 "the search, at {pool}"
             );
         }
-        let none = AllBut(MANY);
+        let none = AllButOneGate(MANY);
         let checked = check_on(
             &rt,
             rt.alloc(),

@@ -54,9 +54,9 @@ pub(crate) fn many_clients(
 
 // A gate that always opens.
 #[derive(Clone, Copy)]
-struct Open;
+struct OpenGate;
 
-impl PoolGate for Open {
+impl PoolGate for OpenGate {
     fn begin(&self, _pool: usize) -> bool {
         true
     }
@@ -78,7 +78,7 @@ pub(crate) fn certified<R: Threads + Wait + Sync>(
     plan: &str,
 ) -> Option<Certified> {
     let plan = read_plan(alloc, plan.as_bytes()).ok()?;
-    let cert = search(rt, alloc, &plan, 1, &Open).ok()??;
+    let cert = search(rt, alloc, &plan, 1, &OpenGate).ok()??;
     Certified::check(plan, cert).ok()
 }
 

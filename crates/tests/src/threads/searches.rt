@@ -82,9 +82,9 @@ fn one_worker_looks_at_one_pool_at_a_time(rt: HostRuntime) {
 
 // A gate that refuses the pool with this number.
 #[derive(Clone, Copy)]
-struct AllBut(usize);
+struct AllButOneGate(usize);
 
-impl PoolGate for AllBut {
+impl PoolGate for AllButOneGate {
     fn begin(&self, pool: usize) -> bool {
         pool != self.0
     }
@@ -94,12 +94,12 @@ impl PoolGate for AllBut {
 fn a_no_of_the_gate_ends_the_search(rt: HostRuntime) {
     let plan = front_and_back(&rt, rt.alloc());
     for pool in 0..2 {
-        let alone = search(&rt, rt.alloc(), &plan, 1, &AllBut(pool));
+        let alone = search(&rt, rt.alloc(), &plan, 1, &AllButOneGate(pool));
         assert!(rt; matches!(alone, Err(SearchFault::Gate)), "alone at {pool}");
-        let many = search(&rt, rt.alloc(), &plan, 64, &AllBut(pool));
+        let many = search(&rt, rt.alloc(), &plan, 64, &AllButOneGate(pool));
         assert!(rt; matches!(many, Err(SearchFault::Gate)), "many at {pool}");
     }
-    let other = search(&rt, rt.alloc(), &plan, 2, &AllBut(2));
+    let other = search(&rt, rt.alloc(), &plan, 2, &AllButOneGate(2));
     assert!(rt; matches!(other, Ok(Some(_))), "the plan has no such pool");
 }
 

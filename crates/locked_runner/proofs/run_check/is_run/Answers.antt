@@ -29,15 +29,15 @@ returns-then-made-numbers-clause-run c =
       λ both. absurd (c.if-made-numbers.true (c.made.ensures ∙ (ap (λ (v : View). length v.jobs) c.world-world.ensures ∙ jobs_of c.args.plan.now c.args.results.now.history c.args.replay.now.world c.args.numbers.jobs led both.1))),
     )
 
-pub returns-then-not-are_as_many-clause-run : goal.returns-then-not-are_as_many-clause-run
-returns-then-not-are_as_many-clause-run c =
+pub returns-then-not-equals_count-clause-run : goal.returns-then-not-equals_count-clause-run
+returns-then-not-equals_count-clause-run c =
     let results = ap (λ (m : ThreadResults). length m.history) c.results.view_is in
     let all = take_all (length c.args.replay.now.pools.items) c.args.results.now.history (omega (arith, c.events.ensures, results, c.results.inside.history.ok.0)) in
     let units = c.args.numbers.units in
-    let counted = c.are_as_many.ensures (units_done c.args.plan.now (take (length c.args.replay.now.pools.items) c.args.results.now.history)) c.requires.replayed.counted in
-    let worked = subst (λ (h : List Event). IsTrue c.are_as_many.result ↔ Works c.args.plan.now h units) all counted in (
+    let counted = c.equals_count.ensures (units_done c.args.plan.now (take (length c.args.replay.now.pools.items) c.args.results.now.history)) c.requires.replayed.counted in
+    let worked = subst (λ (h : List Event). IsTrue c.equals_count.result ↔ Works c.args.plan.now h units) all counted in (
       λ so. absurd (false≢true so),
-      λ both. let so : IsTrue c.are_as_many.result = worked.1 both.2 in absurd (false≢true (sym c.if-not-are_as_many.true ∙ so)),
+      λ both. let so : IsTrue c.equals_count.result = worked.1 both.2 in absurd (false≢true (sym c.if-not-equals_count.true ∙ so)),
     )
 
 pub returns-clause-reached : goal.returns-clause-reached
@@ -60,7 +60,7 @@ returns-clause-run c =
     let led = subst (λ (h : List Event). IsReachedBy c.args.plan.now h view) all c.requires.replayed.reached in
     let owner_lists = subst (λ (h : List Event). AreListsOf c.args.plan.now h (lists_of c.args.plan.now) results.receipts) all c.requires.owner_lists in
     let jobs : length view.jobs ≡ c.args.numbers.jobs = sym (ap (λ (v : View). length v.jobs) c.world-world.ensures) ∙ (sym c.made.ensures ∙ c.if-made-numbers.false) in
-    let units : Works c.args.plan.now results.history c.args.numbers.units = subst (λ (h : List Event). Works c.args.plan.now h c.args.numbers.units) all ((c.are_as_many.ensures (units_done c.args.plan.now (take (length c.args.replay.now.pools.items) results.history)) c.requires.replayed.counted).0 c.if-not-are_as_many.false) in
+    let units : Works c.args.plan.now results.history c.args.numbers.units = subst (λ (h : List Event). Works c.args.plan.now h c.args.numbers.units) all ((c.equals_count.ensures (units_done c.args.plan.now (take (length c.args.replay.now.pools.items) results.history)) c.requires.replayed.counted).0 c.if-not-equals_count.false) in
     let lists = ap (λ vecs. map (λ list. list.items) vecs) c.deref-2.ensures.value ∙ ap (λ (m : ThreadResults). m.receipts) c.results.view_is in
     let n : c.len-2.result ≡ length results.history = omega (arith, c.len-2.ensures, long, c.results.inside.history.ok.0) in
     IfOk-weaker c.each_once.result

@@ -5,10 +5,10 @@ use Rattle.job_bodies.specs.WellFormed.{IsWellFormed}
 use Rattle.job_bodies.specs.Build.{plan_of_lists}
 use Rattle.size_search.specs.Fitted.{raised, IsLeastFit}
 use Rattle.size_search.specs.Widened.{HasLeastCores}
-use Rattle.size_search.specs.Unfit.{why_unfit}
+use Rattle.size_search.specs.FitError.{why_unfit}
 use Rattle.size_search.proofs.LeastSizes.{fits_where_fit}
 use Rattle.size_search.proofs.LeastMaxes.{raised_has_least_cores}
-use Rattle.size_search.proofs.Unfits.{fitted_where_not_unfit, well_formed_where_not_unfit, none_where_unfit, least_where_not_unfit, none_fits_where_unfit}
+use Rattle.size_search.proofs.FitErrors.{fitted_where_not_unfit, well_formed_where_not_unfit, none_where_unfit, least_where_not_unfit, none_fits_where_unfit}
 use Rattle.size_search.proofs.fit.fitted.Goals as goal
 
 pub returns-then-not-fits-clause-none : goal.returns-then-not-fits-clause-none

@@ -4,9 +4,9 @@ use Rattle.job_bodies.specs.Plan.{Pool, Plan}
 use Rattle.job_bodies.specs.WellFormed.{IsWellFormed}
 use Rattle.job_bodies.specs.Build.{plan_of_lists}
 use Rattle.size_search.specs.Widened.{widened, IsLeastWide, LeavesRoom}
-use Rattle.size_search.specs.Unfit.{why_not_widened}
+use Rattle.size_search.specs.FitError.{why_not_widened}
 use Rattle.size_search.proofs.LeastMaxes.{widened_is_least_wide, widened_leaves_room, wide_fit_fits}
-use Rattle.size_search.proofs.Unfits.{why_not_widened_is, widened_is_well_formed, none_fits_where_not_widened}
+use Rattle.size_search.proofs.FitErrors.{why_not_widened_is, widened_is_well_formed, none_fits_where_not_widened}
 use Rattle.size_search.proofs.wide.widened.Goals as goal
 
 pub returns-then-not-fits-clause-none : goal.returns-then-not-fits-clause-none

@@ -27,7 +27,7 @@ returns-else-can_submit c = λ path at state.
     (c.open_excess-excess.ensures c.args.kind path c.args.place c.args.step.now at is state cannot)
 
 pub returns-in-Several : goal.returns-in-Several
-returns-in-Several c = λ path at state one_class. c.in-Several.ensures (subst (λ (s : PathStep). HasOneClass c.args.body.now s) c.in-Submits.is one_class)
+returns-in-Several c = λ path at state. ((λ one_class. c.in-Several.ensures (subst (λ (s : PathStep). HasOneClass c.args.body.now s) c.in-Submits.is one_class)), state)
 
 pub returns-in-Gets : goal.returns-in-Gets
 returns-in-Gets c = λ path at state.

@@ -10,11 +10,11 @@ use Rattle.job_bodies.specs.WellFormed.{has_valid_sizes, IsWellFormed}
 use Rattle.cert_text.specs.Cert.{Cert, pool_cert_at, cert_fits}
 use Rattle.soundness.specs.declared.note.Note.{Note}
 use Rattle.soundness.specs.Conditions.{failing}
-use Rattle.size_search.specs.declared.unfit.Unfit.{Unfit}
-use Rattle.size_search.specs.declared.unfit.Unfit.TheVariants.{Shape, Condition, Core, Queue, CoreTimeout}
+use Rattle.size_search.specs.declared.fit_error.FitError.{FitError}
+use Rattle.size_search.specs.declared.fit_error.FitError.TheVariants.{Shape, Condition, Core, Queue, CoreTimeout}
 use Rattle.size_search.specs.Fitted.{is_total, core_needed, raised, has_queue, have_queues, has_threads, have_threads, fails_only_at_totals, fitted, KeepsCores, IsLeastFit, NoneFits}
 use Rattle.size_search.specs.Widened.{widened, NoneFitsWide}
-use Rattle.size_search.specs.Unfit.{failing_elsewhere, first_unfit, first_tight, first_short, unfit_sizes, unfit_pool, why_unfit, why_not_widened}
+use Rattle.size_search.specs.FitError.{failing_elsewhere, first_unfit, first_tight, first_short, unfit_sizes, unfit_pool, why_unfit, why_not_widened}
 use Rattle.size_search.proofs.Changes.{same_timeout, least_queue_kept, HasMax, HasSizes, has_sizes, own_max, max_kept, raised-le, valid_from_sizes, sized_from_places, sizes_at, well_formed_changed}
 use Rattle.size_search.proofs.RaisedPlans.{has_shape, raised-shape, raised_no_smaller, raised_keeps_cores}
 use Rattle.size_search.proofs.LeastSizes.{raised_is_well_formed, fitted_from, least_fit, none_fits}
@@ -44,7 +44,7 @@ all_not_unfit n [] each = refl
 all_not_unfit n (pool ∷ pools) each = ap₂ option_or (each 0 n (omega arith)) (all_not_unfit (n + 1) pools (λ p q inside. each (suc p) q (omega arith)))
 
 -- if there is no reason, the certificate fits the plan, and no condition or size is a reason
-fit_parts : (fits : Bool) (reason : Option Unfit) → cond fits reason (Some Shape) ≡ None → (fits ≡ true) × (reason ≡ None)
+fit_parts : (fits : Bool) (reason : Option FitError) → cond fits reason (Some Shape) ≡ None → (fits ≡ true) × (reason ≡ None)
 fit_parts true reason none = (refl, none)
 fit_parts false reason none = absurd cc
 
@@ -176,7 +176,7 @@ short_is_no_core plan cert (entry ∷ entries) reported some = at_first (threads
     at_first false rest e = cc
 
 -- neither a queue that is too small nor too few threads are reported as a core
-pub neither_is_core : (first second : Option Unfit) (reported : ℕ) → (first ≡ Some (Core reported) → ⊥) → (second ≡ Some (Core reported) → ⊥) → option_or first second ≡ Some (Core reported) → ⊥
+pub neither_is_core : (first second : Option FitError) (reported : ℕ) → (first ≡ Some (Core reported) → ⊥) → (second ≡ Some (Core reported) → ⊥) → option_or first second ≡ Some (Core reported) → ⊥
 neither_is_core None second reported not_first not_second some = not_second some
 neither_is_core (Some unfit) second reported not_first not_second some = not_first some
 
@@ -249,13 +249,13 @@ not_unfit_where_fitted plan cert only_totals all_sized queues threads =
     let parts = and_parts (cert_fits plan cert) (list_all (λ note. is_total note.place) (failing plan cert)) only_totals in
     let pools = (raised plan cert).pools in
     let none = all_not_unfit 0 pools (λ p q inside. valid_fits q (get_or pools p no_pool) (list_all_at_In has_valid_sizes all_sized (In-get_or pools p no_pool inside))) in
-    let others = ap₂ (λ (first second : Option Unfit). option_or first second) (not_tight plan cert (enumerate_from 0 pools) queues) (not_short plan cert (enumerate_from 0 pools) threads) in
-    let sizes : unfit_sizes plan cert ≡ None = ap₂ (λ (first second : Option Unfit). option_or first second) none others in
+    let others = ap₂ (λ (first second : Option FitError). option_or first second) (not_tight plan cert (enumerate_from 0 pools) queues) (not_short plan cert (enumerate_from 0 pools) threads) in
+    let sizes : unfit_sizes plan cert ≡ None = ap₂ (λ (first second : Option FitError). option_or first second) none others in
     ap (λ (fits : Bool). cond fits (option_or (option_map Condition (failing_elsewhere plan cert)) (unfit_sizes plan cert)) (Some Shape)) parts.0
-    ∙ ap₂ (λ (found : Option Note) (of_sizes : Option Unfit). option_or (option_map Condition found) of_sizes) (none_found (λ (note : Note). is_total note.place) (failing plan cert) parts.1) sizes
+    ∙ ap₂ (λ (found : Option Note) (of_sizes : Option FitError). option_or (option_map Condition found) of_sizes) (none_found (λ (note : Note). is_total note.place) (failing plan cert) parts.1) sizes
 
 -- if there is a reason, there is no fitted plan
-pub none_where_unfit : (plan : Plan) (cert : Cert) (unfit : Unfit) → why_unfit plan cert ≡ Some unfit → fitted plan cert ≡ None
+pub none_where_unfit : (plan : Plan) (cert : Cert) (unfit : FitError) → why_unfit plan cert ≡ Some unfit → fitted plan cert ≡ None
 none_where_unfit plan cert unfit some =
     let only_totals = fails_only_at_totals plan cert in
     let all_sized = list_all has_valid_sizes (raised plan cert).pools in
@@ -273,7 +273,7 @@ none_where_unfit plan cert unfit some =
 pub least_where_not_unfit : (plan : Plan) (cert : Cert) → IsWellFormed plan → why_unfit plan cert ≡ None → IsLeastFit plan cert (raised plan cert)
 least_where_not_unfit plan cert well none = least_fit plan (raised plan cert) cert well (fitted_where_not_unfit plan cert well none)
 
-pub none_fits_where_unfit : (plan : Plan) (cert : Cert) (unfit : Unfit) → IsWellFormed plan → why_unfit plan cert ≡ Some unfit → NoneFits plan cert
+pub none_fits_where_unfit : (plan : Plan) (cert : Cert) (unfit : FitError) → IsWellFormed plan → why_unfit plan cert ≡ Some unfit → NoneFits plan cert
 none_fits_where_unfit plan cert unfit well some = none_fits plan cert well (none_where_unfit plan cert unfit some)
 
 -- ---- the widened plan
@@ -306,7 +306,7 @@ widened_sizes plan cert p well there small =
     of_case false is = inl (small (same_timeout plan (widened plan cert) p (widened-outline plan cert) ∙ is))
 
 -- if the certificate fits the plan, the code returns `why_not_widened`
-pub why_not_widened_is : (plan : Plan) (cert : Cert) (pools : List Pool) (found : Option Unfit) → cert_fits plan cert ≡ true → pools ≡ (widened plan cert).pools → found ≡ first_unfit (enumerate_from 0 pools) → why_not_widened plan cert ≡ found
+pub why_not_widened_is : (plan : Plan) (cert : Cert) (pools : List Pool) (found : Option FitError) → cert_fits plan cert ≡ true → pools ≡ (widened plan cert).pools → found ≡ first_unfit (enumerate_from 0 pools) → why_not_widened plan cert ≡ found
 why_not_widened_is plan cert pools found fits is e =
     ap (λ (fit : Bool). cond fit (first_unfit (enumerate_from 0 (widened plan cert).pools)) (Some Shape)) fits
     ∙ (ap (λ (ps : List Pool). first_unfit (enumerate_from 0 ps)) (sym is) ∙ sym e)
@@ -322,7 +322,7 @@ widened_is_well_formed plan cert well none =
         widened_sizes plan cert p well there (within (0 + p) (pool_at (widened plan cert) p) (each_not_unfit 0 (widened plan cert).pools whole.1 p there)).max
 
 -- if there is a reason, no sizes are enough
-pub none_fits_where_not_widened : (plan : Plan) (cert : Cert) (unfit : Unfit) → IsWellFormed plan → why_not_widened plan cert ≡ Some unfit → NoneFitsWide plan cert
+pub none_fits_where_not_widened : (plan : Plan) (cert : Cert) (unfit : FitError) → IsWellFormed plan → why_not_widened plan cert ≡ Some unfit → NoneFitsWide plan cert
 none_fits_where_not_widened plan cert unfit well some other fits =
     let pools = (widened plan cert).pools in
     let none = all_not_unfit 0 pools (λ p q inside. valid_fits q (get_or pools p no_pool) (valid_from_sizes (get_or pools p no_pool) (widened_sizes plan cert p well inside (wide_fit_has_room plan other cert p fits inside)))) in

@@ -3,14 +3,14 @@
 
 ghost use Rattle.std.specs.Prelude.{◌≡◌};
 ghost use Rattle.std.specs.List.{enumerate_from};
-ghost use Rattle.size_search.specs.Unfit as spec;
+ghost use Rattle.size_search.specs.FitError as spec;
 
 use job_bodies::{MAX_SIZE, Pool};
 use soundness::Note;
 
 /// The reason why no choice of cores and queues makes the certificate accept the plan.
 #[derive(Clone, Copy, Debug, PartialEq, Eq)]
-pub enum Unfit {
+pub enum FitError {
     /// The certificate does not have the shape of the plan, or it has a number above
     /// [`MAX_WEIGHT`](job_bodies::MAX_WEIGHT).
     Shape,
@@ -28,28 +28,29 @@ pub enum Unfit {
     ///
     /// An unbounded queue is never the reason.
     Queue(usize),
-    /// Jobs of the pool with this number can wait at counted gets, but its core threads may time
-    /// out, so only one thread may be left.
+    /// Jobs of the pool with this number can wait at counted gets. A counted get can block a thread
+    /// that other jobs need. The core threads of the pool may time out, so only one thread may be
+    /// left.
     CoreTimeout(usize),
 }
 
 /// Returns the reason why the raised sizes of a pool are invalid, or `None` if they are valid. If
 /// the maximum is above 1,000,000, it was raised for the core, so the core is the reason. The
 /// maximum of a pool whose core threads may time out is not raised, and is never the reason.
-fn unfit_pool(number: usize, pool: &Pool) -> Option<Unfit>
+fn unfit_pool(number: usize, pool: &Pool) -> Option<FitError>
     ensures { result ≡ spec.unfit_pool number pool.now }
 {
     if pool.core > pool.max || pool.max > MAX_SIZE && !pool.core_timeout {
-        Some(Unfit::Core(number))
+        Some(FitError::Core(number))
     } else if pool.queue > MAX_SIZE {
-        Some(Unfit::Queue(number))
+        Some(FitError::Queue(number))
     } else {
         None
     }
 }
 
 /// Returns the reason for the first invalid pool of the list, or `None` if all are valid.
-pub(crate) fn unfit_pools(pools: &[Pool]) -> Option<Unfit>
+pub(crate) fn unfit_pools(pools: &[Pool]) -> Option<FitError>
     ensures { result ≡ spec.first_unfit (enumerate_from 0 pools.now) }
 {
     for number in 0..pools.len() {

@@ -1,0 +1,36 @@
+-- The elements of a list, as a loop reads them.
+use Rattle.std.proofs.Common.{◌≡◌, ◌<◌, ℕ, suc, ◌+◌, List, [], ◌∷◌, ◌++◌, length, take, map, get_or, refl, sym, ap, subst, ◌∙◌, slice_get, Some, arith}
+use Rattle.std.proofs.lemmas.Option.{slice_get_read}
+use Rattle.std.proofs.lemmas.List.{take_more, map-append, append_assoc, append-nil}
+use Rattle.std.proofs.lemmas.Grind.{flat_map-append}
+use Rattle.std.specs.Prelude.{flat_map}
+use Rattle.support.specs.In.{In}
+use Rattle.support.proofs.Members.{In-slice_get}
+use Rattle.conformance.specs.declared.walk_state.WalkState.{WalkState}
+use Rattle.conformance.specs.WalkStates.{choices}
+
+pub read_in : {X : Type 0} (xs : List X) (i : ℕ) (x : X) → i < length xs → x ≡ get_or xs i x → In x xs
+read_in xs i x lt e = In-slice_get xs i x (slice_get_read xs (length xs) i x refl lt e)
+
+-- The elements up to and including this one.
+pub take_read : {X : Type 0} (xs : List X) (i : ℕ) (x : X) → i < length xs → x ≡ get_or xs i x → take (i + 1) xs ≡ take i xs ++ x ∷ []
+take_read xs i x lt e = take_more xs i x lt ∙ ap (λ y. take i xs ++ y ∷ []) (sym e)
+
+pub choices_read : (states : List WalkState) (classes : List ℕ) (i : ℕ) (state : WalkState) → i < length states → state ≡ get_or states i state
+    → choices (take (i + 1) states) classes ≡ choices (take i states) classes ++ map (λ class. (state, class)) classes
+choices_read states classes i state lt e =
+    let pairs : WalkState → List (WalkState × ℕ) = λ s. map (λ class. (s, class)) classes in
+    ap (λ xs. flat_map pairs xs) (take_read states i state lt e) ∙ (flat_map-append pairs (take i states) (state ∷ []) ∙ ap (λ ys. flat_map pairs (take i states) ++ ys) (append-nil (pairs state)))
+
+pub pairs_read : (state : WalkState) (choices : List (WalkState × ℕ)) (classes : List ℕ) (i d : ℕ) → i < length classes
+    → choices ++ map (λ k. (state, k)) (take (i + 1) classes) ≡ (choices ++ map (λ k. (state, k)) (take i classes)) ++ (state, get_or classes i d) ∷ []
+pairs_read state choices classes i d lt =
+    let pair : ℕ → WalkState × ℕ = λ k. (state, k) in
+    ap (λ ks. choices ++ map pair ks) (take_more classes i d lt) ∙ (ap (λ ys. choices ++ ys) (map-append pair (take i classes) (get_or classes i d ∷ [])) ∙ sym (append_assoc choices (map pair (take i classes)) ((state, get_or classes i d) ∷ [])))
+
+pub same_by_each : {X : Type 0} (xs ys : List X) → length xs ≡ length ys → ((k : ℕ) (d : X) → k < length xs → get_or xs k d ≡ get_or ys k d) → xs ≡ ys
+same_by_each [] [] long each = refl
+same_by_each [] (y ∷ ys) long each = absurd (omega (arith, long))
+same_by_each (x ∷ xs) [] long each = absurd (omega (arith, long))
+same_by_each (x ∷ xs) (y ∷ ys) long each =
+    ap (λ z. z ∷ xs) (each 0 x (omega arith)) ∙ ap (λ zs. y ∷ zs) (same_by_each xs ys (omega (arith, long)) (λ k d lt. each (suc k) d (omega (arith, lt))))

@@ -1,0 +1,173 @@
+//! The joint walks over a body and a path in which jobs may belong to several classes. There is a
+//! [`WalkState`] for each list of jobs that can be open.
+
+ghost use Rattle.std.specs.Prelude.{◌≡◌, ℕ, ◌+◌, ◌++◌, false, List, Some, IfOk, OnOk, IsTrue, map, slice_get};
+ghost use Rattle.std.specs.List.{list_any};
+ghost use Rattle.support.specs.In.{In};
+ghost use Rattle.conformance.specs.declared.step.PathStep.{PathStep};
+ghost use Rattle.conformance.specs.declared.walk_state.WalkState.{WalkState};
+ghost use Rattle.conformance.specs.BodyGets.{AreGets};
+ghost use Rattle.conformance.specs.WalkState.{is_at, HasTables};
+ghost use Rattle.conformance.specs.WalkStates as spec;
+
+use crate::body_gets::BodyGet;
+use crate::open_job::{OpenJob, are_same};
+use crate::step::{ActorKind, PathStep};
+use crate::walk_state::WalkState;
+use job_bodies::Action;
+use std::alloc::{AllocError, Global};
+
+/// Returns the states after `step`, which is at index `place` of the path. `states` has the states
+/// before the step, and `gets` has the gets of the body. The result is empty if no joint walk makes
+/// the step.
+///
+/// # Errors
+///
+/// Returns [`AllocError`] if memory runs out.
+pub(crate) fn states_after(
+    alloc: Global,
+    states: &[WalkState],
+    kind: ActorKind,
+    body: &[Action],
+    gets: &[Option<BodyGet>],
+    place: usize,
+    step: &PathStep,
+) -> Result<Vec<WalkState>, AllocError>
+    requires gets { AreGets body.now gets.now }
+    requires tables { spec.HaveTables body.now states.now }
+    ensures states { (path : List PathStep)
+        → slice_get path place ≡ Some step.now
+        → spec.AreStatesAt kind body.now path place states.now
+        → IfOk result (λ next. spec.AreStatesAt kind body.now path (place + 1) next.items) }
+    ensures distinct { IfOk result (λ next. spec.AreDistinct next.items) }
+{
+    match step {
+        PathStep::Submits(classes) => {
+            let next = states_after_submit(alloc, states, body, gets, place, classes)?;
+            merged(alloc, &next)
+        }
+        PathStep::Gets(job) => {
+            let next = states_after_get(alloc, states, kind, body, gets, *job)?;
+            merged(alloc, &next)
+        }
+    }
+}
+
+/// Returns the states after a submit of a job that may belong to each of these classes. `job` is
+/// the index of the submit in the path.
+fn states_after_submit(
+    alloc: Global,
+    states: &[WalkState],
+    body: &[Action],
+    gets: &[Option<BodyGet>],
+    job: usize,
+    classes: &[usize],
+) -> Result<Vec<WalkState>, AllocError>
+    requires gets { AreGets body.now gets.now }
+    requires tables { spec.HaveTables body.now states.now }
+    ensures { IfOk result (λ next.
+        spec.AreAfterSubmit body.now job (spec.choices states.now classes.now) next.items) }
+{
+    let mut next = Vec::new(alloc);
+    for state in states {
+        push_after_submit(alloc, &mut next, state, body, gets, job, classes)?;
+    }
+    Ok(next)
+}
+
+/// Appends the states that follow `state` after the submit, one for each class with which the body
+/// can make the submit.
+fn push_after_submit(
+    alloc: Global,
+    next: &mut Vec<WalkState>,
+    state: &WalkState,
+    body: &[Action],
+    gets: &[Option<BodyGet>],
+    job: usize,
+    classes: &[usize],
+) -> Result<(), AllocError>
+    requires gets { AreGets body.now gets.now }
+    requires tables { HasTables body.now state.now }
+    ensures { (choices : List (WalkState × ℕ))
+        → spec.AreAfterSubmit body.now job choices next.old.items
+        → OnOk result
+        (spec.AreAfterSubmit body.now job (choices ++ map (λ class. (state.now, class)) classes.now) next.new.items) }
+{
+    for class in classes {
+        if state.can_submit(body, *class) {
+            let after = state.after_submit(alloc, body, gets, job, *class)?;
+            next.push(after)?;
+        }
+    }
+    Ok(())
+}
+
+/// Returns the states after a get of the job that the path submits at index `job`. Drops the states
+/// in which no walk is left.
+fn states_after_get(
+    alloc: Global,
+    states: &[WalkState],
+    kind: ActorKind,
+    body: &[Action],
+    gets: &[Option<BodyGet>],
+    job: usize,
+) -> Result<Vec<WalkState>, AllocError>
+    requires gets { AreGets body.now gets.now }
+    requires tables { spec.HaveTables body.now states.now }
+    ensures { IfOk result (λ next. spec.AreAfterGet kind body.now job states.now next.items) }
+{
+    let mut next = Vec::new(alloc);
+    for state in states {
+        let after = state.after_get(alloc, kind, body, gets, job)?;
+        if after.is_begun() {
+            next.push(after)?;
+        }
+    }
+    Ok(next)
+}
+
+/// Returns the states, with one state in place of all that have the same open jobs. States that
+/// differ only in the class of a job have the same open jobs once the path has got this job.
+fn merged(alloc: Global, states: &[WalkState]) -> Result<Vec<WalkState>, AllocError>
+    ensures { IfOk result (λ merged. spec.AreMerged states.now merged.items) }
+{
+    let mut merged = Vec::new(alloc);
+    for state in states {
+        if !has_state_with(&merged, &state.jobs) {
+            let joined = merged_state(alloc, states, state)?;
+            merged.push(joined)?;
+        }
+    }
+    Ok(merged)
+}
+
+fn has_state_with(states: &[WalkState], jobs: &[OpenJob]) -> bool
+    ensures some { IsTrue result → (state : WalkState) × In state states.now × (state.jobs.items ≡ jobs.now) }
+    ensures none { result ≡ false → (state : WalkState) → In state states.now → ¬ (state.jobs.items ≡ jobs.now) }
+{
+    for state in states {
+        if are_same(&state.jobs, jobs) {
+            return true;
+        }
+    }
+    false
+}
+
+/// Returns the state with the open jobs of `one` that represents the walks of all states with the
+/// same open jobs.
+fn merged_state(
+    alloc: Global,
+    states: &[WalkState],
+    one: &WalkState,
+) -> Result<WalkState, AllocError>
+    requires { In one.now states.now }
+    ensures { IfOk result (spec.IsMerged states.now one.now) }
+{
+    let mut merged = one.try_clone(alloc)?;
+    for state in states {
+        if are_same(&state.jobs, &one.jobs) {
+            merged.add_row(state);
+        }
+    }
+    Ok(merged)
+}
