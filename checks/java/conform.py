@@ -157,8 +157,9 @@ class Comparison:
                  if what == "submit" and operand in self.fits(path[most].job) and place >= min(positions)]
         if not ahead:
             return None
-        jobs = Counter(number for _, number in next(iter(walks)).open)
-        way = body.open[max(place for place in positions if place <= ahead[0]):ahead[0] + 1]
+        last = max((walk for walk in walks if walk.position <= ahead[0]), key=lambda walk: walk.position)
+        jobs = Counter(number for _, number in last.open)
+        way = body.open[last.position:ahead[0] + 1]
         number = next(number for counts in way for number in jobs if jobs[number] > counts[number])
         return number, jobs[number], min(counts[number] for counts in way)
 
