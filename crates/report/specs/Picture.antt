@@ -38,16 +38,6 @@ class_node p (k, class) = if class.pool == p then class_line k class.name else [
 abbrev pub class_nodes : List Class → ℕ → List ℕ
 class_nodes classes p = flat_map (class_node p) (enumerate_from 0 classes)
 
-abbrev pub hidden_line : ℕ → List ℕ
-hidden_line p = codes "    pool" ++ (decimal p ++ (codes " [style=invis label=\"\"]" ++ 10 ∷ []))
-
-abbrev pub has_class : List Class → ℕ → Bool
-has_class classes p = list_any (λ class. class.pool == p) classes
-
--- an invisible node, if no class belongs to pool p, because Graphviz draws no box without nodes
-abbrev pub hidden_node : List Class → ℕ → List ℕ
-hidden_node classes p = if has_class classes p then [] else hidden_line p
-
 -- a line break, and what the total of the bound limits; empty if there is no total
 abbrev pub most_part : Bound → Option ℕ → List ℕ
 most_part bound None = []
@@ -71,14 +61,14 @@ bound_part plan p pool (Some part) = bound_of plan p pool part.bound
 abbrev pub pool_label : Plan → ℕ → Pool → Option PoolCert → List ℕ
 pool_label plan p pool part = pool.name ++ (codes "\\n" ++ (threads_text pool ++ (codes ", queue " ++ (queue_size pool ++ bound_part plan p pool part))))
 
--- the first lines of the box of pool p
+-- the first lines of the box of pool p: a node with the label
 abbrev pub box_start : ℕ → List ℕ → List ℕ
 box_start p label =
-    codes "  subgraph cluster" ++ (decimal p ++ ((codes " {" ++ 10 ∷ []) ++ (codes "    label=\"" ++ (label ++ (codes "\"" ++ 10 ∷ [])))))
+    codes "  subgraph cluster" ++ (decimal p ++ ((codes " {" ++ 10 ∷ []) ++ (codes "    pool" ++ (decimal p ++ (codes " [shape=plaintext label=\"" ++ (label ++ (codes "\"]" ++ 10 ∷ [])))))))
 
--- the nodes in the box of pool p, and its end
+-- the nodes of the classes in the box of pool p, and its end
 abbrev pub box_nodes : List Class → ℕ → List ℕ
-box_nodes classes p = class_nodes classes p ++ (hidden_node classes p ++ (codes "  }" ++ 10 ∷ []))
+box_nodes classes p = class_nodes classes p ++ (codes "  }" ++ 10 ∷ [])
 
 -- the box of pool p, with its classes
 unfoldable pub box_text : Plan → ℕ → Pool → Option PoolCert → List ℕ

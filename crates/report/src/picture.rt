@@ -1,7 +1,9 @@
 //! The picture of a plan, as a Graphviz graph. A pool is a box with its sizes and classes. The
-//! clients are outside of the boxes. An arrow stands for submits of a class's jobs, and a dashed
-//! line stands for gets of its jobs. The dashed line is bold if at least one of these gets is
-//! counted. A counted get can block a thread that other jobs need.
+//! sizes are a node of the box, because some versions of Graphviz fail to route edges next to a
+//! box whose label is wider than its nodes. The clients are outside of the boxes. An arrow stands
+//! for submits of a class's jobs, and a dashed line stands for gets of its jobs. The dashed line is
+//! bold if at least one of these gets is counted. A counted get can block a thread that other jobs
+//! need.
 
 ghost use Rattle.std.specs.Prelude.{◌≡◌, IfOk, option_map, string_bytes};
 ghost use Rattle.support.specs.Pushed.{Pushes};
@@ -138,7 +140,7 @@ fn push_box(
     push_nodes(text, plan.classes(), number)
 }
 
-/// Appends the first lines of the pool's box.
+/// Appends the first lines of the pool's box: its name and its sizes are a node.
 fn push_start(
     text: &mut String,
     plan: &Plan,
@@ -150,17 +152,16 @@ fn push_start(
         (spec.box_start number (spec.pool_label plan.now number pool.now (option_map (λ part. part.now) part.entry))) }
 {
     write!(text, "  subgraph cluster{number}")?;
-    text.push_str(" {\n    label=\"")?;
+    write!(text, " {{\n    pool{number} [shape=plaintext label=\"")?;
     push_label(text, plan, number, pool, part)?;
-    text.push_str("\"\n")
+    text.push_str("\"]\n")
 }
 
-/// Appends the nodes in the pool's box, and the end of the box.
+/// Appends the nodes of the classes in the pool's box, and the end of the box.
 fn push_nodes(text: &mut String, classes: &[Class], pool: usize) -> Result<(), AllocError>
     ensures { Pushes result text.old text.new (spec.box_nodes classes.now pool) }
 {
     push_classes(text, classes, pool)?;
-    push_hidden(text, classes, pool)?;
     text.push_str("  }\n")
 }
 
@@ -274,28 +275,4 @@ fn push_class_line(text: &mut String, number: usize, name: &str) -> Result<(), A
     ensures { Pushes result text.old text.new (spec.class_line number name.now) }
 {
     writeln!(text, "    class{number} [shape=box label=\"{name}\"]")
-}
-
-/// Appends an invisible node if the pool has no classes, because Graphviz draws no box without
-/// nodes.
-fn push_hidden(text: &mut String, classes: &[Class], pool: usize) -> Result<(), AllocError>
-    ensures { Pushes result text.old text.new (spec.hidden_node classes.now pool) }
-{
-    if has_class(classes, pool) {
-        Ok(())
-    } else {
-        push_hidden_line(text, pool)
-    }
-}
-
-fn has_class(classes: &[Class], pool: usize) -> bool
-    ensures { result ≡ spec.has_class classes.now pool }
-{
-    classes.iter().any(|class| class.pool == pool)
-}
-
-fn push_hidden_line(text: &mut String, pool: usize) -> Result<(), AllocError>
-    ensures { Pushes result text.old text.new (spec.hidden_line pool) }
-{
-    writeln!(text, "    pool{pool} [style=invis label=\"\"]")
 }
