@@ -13,7 +13,8 @@ MORE = 0.5
 # The most jobs of a check: more save little time, and each costs the reading of the libraries.
 MOST_JOBS = 4
 # The jobs of the check with the longest chain of work after it, even if other checks take all processors: the number of jobs of
-# a check is fixed when it starts, and the end of a run depends on this chain.
+# a check is fixed when it starts, and the end of a run depends on this chain. With as few processors or fewer it is one job, since a
+# second check that runs beside it saves more.
 JOBS_OF_CHAIN = 3
 
 
@@ -66,7 +67,7 @@ def startable(tasks, waiting, running, given, lanes, memory):
             others = len(proofs) - proofs.index(key)
             fitting = 1 + int((room / need - 1) / MORE)
             # `waiting` is sorted by the chains
-            wanted = max(idle // others, JOBS_OF_CHAIN if key == waiting[0] else 1)
+            wanted = max(idle // others, JOBS_OF_CHAIN if key == waiting[0] and lanes > JOBS_OF_CHAIN else 1)
             yield key, max(1, min(MOST_JOBS, lanes, wanted, fitting))
 
 
