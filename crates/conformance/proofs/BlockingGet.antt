@@ -1,14 +1,11 @@
--- The search for the get that keeps a body from its next submit.
+-- The search for the get that keeps a body from an index.
 use Rattle.std.proofs.Common.{◌≡◌, ℕ, suc, ◌<◌, ◌≤◌, ◌⊎◌, inl, inr, Bool, true, false, cond, ◌&&◌, eqb, ltb, List, length, get_or, Option, Some, None, refl, sym, ap, subst, ◌∙◌, arith}
-use Rattle.std.specs.Prelude.{slice_get}
 use Rattle.std.proofs.lemmas.Bool.{cases_lt, false≢true, and_parts, and_cases, eqb-true, eqb-false, ltb-true, ltb-false}
-use Rattle.std.proofs.lemmas.Option.{slice_get_past, same_Some, none-some, cond_some}
-use Rattle.job_bodies.specs.declared.action.Action.{Action}
+use Rattle.std.proofs.lemmas.Option.{same_Some, none-some}
 use Rattle.conformance.specs.declared.body_gets.BodyGet.{BodyGet}
 use Rattle.conformance.specs.declared.blocking_get.Way.{Way}
 use Rattle.conformance.specs.declared.blocking_get.Way.TheVariants as way
-use Rattle.conformance.specs.Path.{is_submit_of}
-use Rattle.conformance.specs.BlockingGet.{may_pass, IsLastReached, IsFreeFrom, IsFree, IsBlocked, AreReached, IsBlockingEnd, way_at, blocking_at, least_get, free_after, way_after}
+use Rattle.conformance.specs.BlockingGet.{may_pass, IsLastReached, IsFreeFrom, IsFree, IsBlocked, IsBlocking, way_at, get_on, least_get, free_after, way_after}
 
 -- The last index that is not yet `n` is below `n`.
 below_or_at : (index n : ℕ) → index < suc n → (index < n) ⊎ (index ≡ n)
@@ -179,38 +176,8 @@ module _ (row passes : List Bool) (gets : List (Option BodyGet)) where
   way_next n way.Free pass get pass_is get_is so = free_next (suc n) n pass get refl pass_is get_is so
   way_next n (way.Blocked least) pass get pass_is get_is so = blocked_next (suc n) n least get get_is so
 
-  -- ---- a submit
-  pub blocks : (n m : ℕ) (here : Way) (is_submit : Bool) (get : BodyGet) → blocking_at here is_submit ≡ Some get → IsWay n m here → (is_submit ≡ true) × IsBlocked row passes gets n m get
-  blocks n m way.Unreached is_submit get e so = absurd (none-some get e)
-  blocks n m way.Free is_submit get e so = absurd (none-some get e)
-  blocks n m (way.Blocked least) is_submit get e so =
-      let parts = cond_some is_submit least get e in
-      (parts.0, subst (IsBlocked row passes gets n m) parts.1 so)
-
-  blocks_not : (n m : ℕ) (here : Way) (is_submit : Bool) → blocking_at here is_submit ≡ None → is_submit ≡ true → IsWay n m here → (index : ℕ) → index < n → get_or row index false ≡ true → IsFree row passes gets n m
-  blocks_not n m way.Unreached is_submit e is so index lt at = absurd (false≢true (sym (so index lt) ∙ at))
-  blocks_not n m way.Free is_submit e is so index lt at = so
-  blocks_not n m (way.Blocked least) is_submit e is so index lt at = absurd (none-some least (sym e ∙ ap (λ (b : Bool). cond b (Some least) None) is))
-
-  -- ---- the end of the body
-  pub ends_with : (end : ℕ) (here : Way) (found : Option BodyGet) → found ≡ blocking_at here true → IsWay (suc end) end here → IsBlockingEnd row passes gets end found
-  ends_with end here None e so = λ index within at. blocks_not (suc end) end here true (sym e) refl so index (omega (arith, within)) at
-  ends_with end here (Some get) e so = (blocks (suc end) end here true get (sym e) so).1
-
-  module _ (body : List Action) (class : ℕ) where
-    pub none_reached : AreReached row passes gets body class 0
-    none_reached submit index lt is above at = absurd (omega (arith, lt))
-
-    pub next_reached : (n : ℕ) (here : Way) (is_submit : Bool) → is_submit ≡ is_submit_of class (slice_get body n) → blocking_at here is_submit ≡ None → IsWay (suc n) n here → AreReached row passes gets body class n → AreReached row passes gets body class (suc n)
-    next_reached n here is_submit is_is e so reached submit index lt is above at = elim (below_or_at submit n lt) [
-      | inl less ↦ reached submit index less is above at
-      | inr same ↦
-          subst (λ s. IsFree row passes gets (suc s) s) (sym same)
-          (blocks_not (suc n) n here is_submit e (is_is ∙ (ap (λ s. is_submit_of class (slice_get body s)) (sym same) ∙ is)) so index (omega (arith, above, same)) at)
-    ]
-
-    pub all_reached : (n : ℕ) → length body ≤ n → AreReached row passes gets body class n → (end : ℕ) → AreReached row passes gets body class end
-    all_reached n past reached end submit index lt is above at = elim (cases_lt submit n) [
-      | inl less ↦ reached submit index less is above at
-      | inr more ↦ absurd (false≢true (sym (ap (is_submit_of class) (slice_get_past body submit (omega (arith, past, more)))) ∙ is))
-    ]
+  -- ---- the get
+  pub blocks : (end : ℕ) (here : Way) → IsWay (suc end) end here → IsBlocking row passes gets end (get_on here)
+  blocks end way.Unreached so = λ index within at. absurd (false≢true (sym (so index (omega (arith, within))) ∙ at))
+  blocks end way.Free so = λ index within at. so
+  blocks end (way.Blocked get) so = so

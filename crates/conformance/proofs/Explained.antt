@@ -20,7 +20,7 @@ use Rattle.conformance.proofs.StoppedWalks.{none_ahead_at_end}
 
 -- ---- the list of all bodies
 -- If an element of a prefix satisfies `P`, some element of the list does.
-Any-append_left : {X : Type 0} → (P : X → Type 0) (xs ys : List X) → Any P xs → Any P (xs ++ ys)
+pub Any-append_left : {X : Type 0} → (P : X → Type 0) (xs ys : List X) → Any P xs → Any P (xs ++ ys)
 Any-append_left P xs ys some =
     let there = Contains-append_left xs ys some.1 (some.0, some.2, some.3) in
     (there.0, some.1, there.1, there.2, some.4)

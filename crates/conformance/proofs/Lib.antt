@@ -4,7 +4,6 @@ pub mod OpenJobs
 pub mod ReadStates
 pub mod Rows
 pub mod BodyGets
-pub mod Candidates
 pub mod WalkStates
 pub mod WalkSteps
 pub mod BlockingGet
@@ -13,7 +12,7 @@ pub mod OpenExcesses
 pub mod PlannedSizes
 pub mod StoppedWalks
 pub mod MissingJobs
-pub mod WalkProgress
+pub mod FewLists
 pub mod CopiedStates
 pub mod LastIndices
 pub mod FurthestStates

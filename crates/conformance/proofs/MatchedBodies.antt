@@ -5,7 +5,7 @@ use Rattle.std.specs.List.Sorted.{IsStrictlyIncreasing}
 use Rattle.std.proofs.lemmas.List.{map-append, take_all, get_or_append_left, get_or_push}
 use Rattle.std.proofs.lemmas.List.FromFn.{length-range_with_len, get_or-range_with_len}
 use Rattle.std.proofs.lemmas.List.Kept.{AllPairs-from_increasing, IsStrictlyIncreasing-filter}
-use Rattle.std.proofs.lemmas.List.Quantifiers.{all_pairs_push}
+use Rattle.std.proofs.lemmas.List.Quantifiers.{Any-push, all_pairs_push}
 use Rattle.std.proofs.lemmas.List.Elements.{All-push, All-weaker, All-contains, Contains-append_left, Contains-push}
 use Rattle.job_bodies.specs.declared.action.Action.{Action}
 use Rattle.conformance.specs.declared.explained_prefix.ExplainedPrefix.{ExplainedPrefix}
@@ -13,11 +13,11 @@ use Rattle.conformance.specs.declared.step.ActorKind.{ActorKind}
 use Rattle.conformance.specs.declared.step.PathStep.{PathStep}
 use Rattle.conformance.specs.declared.step.PathState.{PathState}
 use Rattle.conformance.specs.Path.{IsPathOf}
-use Rattle.conformance.specs.PathMatch.{IsExplained, IsUnambiguous, longer}
+use Rattle.conformance.specs.PathMatch.{IsExplained, IsUnambiguous, HasManyOpenLists, longer}
 use Rattle.conformance.specs.FamilyMatch.{IsMostExplained}
 use Rattle.conformance.specs.FamilyResult.{IsCorrectResult}
 use Rattle.conformance.proofs.OneClassEach.{one_class_each}
-use Rattle.conformance.proofs.Explained.{explained_fits, explained_deviates}
+use Rattle.conformance.proofs.Explained.{Any-append_left, explained_fits, explained_deviates}
 
 -- ---- a prefix of a list
 All-front : {X : Type 0} → (P : X → Type 0) (xs ys : List X) → All P (xs ++ ys) → All P xs
@@ -70,6 +70,7 @@ reported_fits kind body_of path_state path matched members longest is_decided n 
       sure = All-push S matched n (All-weaker R S (λ m there only one. Contains-append_left members (n ∷ []) m (there only one)) matched reported.sure) (λ _ _. Contains-push members n);
       explained = λ all. subst (λ (bodies : List (List Action)). IsMostExplained kind bodies path (record { length = length path; excess = None; missing = None })) (sym (bodies_more body_of matched n)) (explained_fits kind path_state (map body_of matched) path (body_of n) of);
       decided = reported.decided;
+      many = λ not_all. Any-append_left (λ m. HasManyOpenLists kind (body_of m) path) matched (n ∷ []) (reported.many not_all);
       few = omega (arith, reported.few, length-append members (n ∷ []), length-append matched (n ∷ []));
       ascending = λ pairs. all_pairs_push (λ l m. l < m) members n (reported.ascending (pairs_front matched n pairs)) (λ k d inside. below_last matched n (get_or members k d) pairs (reported.sound k d inside).0);
     }
@@ -89,19 +90,21 @@ reported_deviates kind body_of path_state path matched members longest is_decide
   sure = All-push (IsSure kind body_of path_state path members) matched n reported.sure (λ only of. absurd (not_of of));
   explained = λ all. subst (λ (bodies : List (List Action)). IsMostExplained kind bodies path (longer longest explained)) (sym (bodies_more body_of matched n)) (explained_deviates kind (map body_of matched) path (body_of n) longest explained (reported.explained all) by);
   decided = reported.decided;
+  many = λ not_all. Any-append_left (λ m. HasManyOpenLists kind (body_of m) path) matched (n ∷ []) (reported.many not_all);
   few = omega (arith, reported.few, length-append matched (n ∷ []));
   ascending = λ pairs. reported.ascending (pairs_front matched n pairs);
 }
 
 -- It is undecided whether the path matches the next body.
-pub reported_undecided : (kind : ActorKind) (body_of : ℕ → List Action) (path_state : PathState) (path : List PathStep) (matched members : List ℕ) (longest : ExplainedPrefix) (is_decided : Bool) (n : ℕ) → IsCorrectResult kind body_of path_state path matched members longest is_decided → ¬ IsUnambiguous (body_of n) path
+pub reported_undecided : (kind : ActorKind) (body_of : ℕ → List Action) (path_state : PathState) (path : List PathStep) (matched members : List ℕ) (longest : ExplainedPrefix) (is_decided : Bool) (n : ℕ) → IsCorrectResult kind body_of path_state path matched members longest is_decided → ¬ IsUnambiguous (body_of n) path → HasManyOpenLists kind (body_of n) path
     → IsCorrectResult kind body_of path_state path (matched ++ n ∷ []) members longest false
-reported_undecided kind body_of path_state path matched members longest is_decided n reported several = record {
+reported_undecided kind body_of path_state path matched members longest is_decided n reported several many_lists = record {
   sound = members_stay kind body_of path_state path matched members n reported.sound;
   complete = λ all. cc;
   sure = All-push (IsSure kind body_of path_state path members) matched n reported.sure (λ only of. absurd (several only));
   explained = λ all. cc;
   decided = λ each. absurd (several (one_class_each (body_of n) path each));
+  many = λ not_all. Any-push (λ m. HasManyOpenLists kind (body_of m) path) matched n many_lists;
   few = omega (arith, reported.few, length-append matched (n ∷ []));
   ascending = λ pairs. reported.ascending (pairs_front matched n pairs);
 }

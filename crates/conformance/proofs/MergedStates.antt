@@ -1,10 +1,10 @@
 -- States in which the walks of all states with the same open jobs are joined, as far as these were read.
-use Rattle.std.proofs.Common.{◌≡◌, ◌<◌, ℕ, zero, suc, ◌||◌, true, false, Bool, ◌⊎◌, inl, inr, ⊎_elim, slice_get, Some, List, [], ◌∷◌, ◌++◌, length, get_or, refl, sym, ap, subst, ◌∙◌, arith}
+use Rattle.std.proofs.Common.{◌≡◌, ◌<◌, ◌≤◌, ℕ, zero, suc, ◌||◌, true, false, Bool, ◌⊎◌, inl, inr, ⊎_elim, slice_get, Some, List, [], ◌∷◌, ◌++◌, length, get_or, refl, sym, ap, subst, ◌∙◌, arith}
 use Rattle.std.proofs.lemmas.Bool.{cases_lt, false≢true, or_cases, or_left, or_right}
 use Rattle.std.proofs.lemmas.List.{get_or_past}
 use Rattle.std.proofs.lemmas.Option.{slice_get_within, same_Some}
 use Rattle.support.specs.In.{In, here}
-use Rattle.support.proofs.Members.{not_In_nil, In-append_left, In-append_right, In-push_cases, In-slice_get}
+use Rattle.support.proofs.Members.{not_In_nil, In-append_left, In-append_right, In-push_cases, In-cons_cases, In-slice_get}
 use Rattle.conformance.specs.declared.walk_state.WalkState.{WalkState}
 use Rattle.conformance.specs.WalkState.{is_at}
 use Rattle.conformance.specs.WalkStates.{IsCopy, IsMerged, AreMerged, AreDistinct, AreJoined}
@@ -125,3 +125,28 @@ none_more_merged states read new one state are i same = record {
 
 pub all_merged : (states new : List WalkState) → AreMergedOf states states new → AreMerged states new
 all_merged states new are = record { from = are.from; to = are.to; distinct = are.distinct }
+
+-- ---- one state, or none
+same_as : (state one : WalkState) → In one (state ∷ []) → one ≡ state
+same_as state one i = ⊎_elim (λ same. same) (λ later. absurd (not_In_nil later)) (In-cons_cases i)
+
+only_one : (states : List WalkState) → length states ≤ 1 → (one other : WalkState) → In one states → In other states → one ≡ other
+only_one [] few one other i j = absurd (not_In_nil i)
+only_one (state ∷ []) few one other i j = same_as state one i ∙ sym (same_as state other j)
+only_one (first ∷ second ∷ states) few one other i j = absurd (omega (arith, few))
+
+pub single_merged : (states : List WalkState) → length states ≤ 1 → AreMerged states states
+single_merged states few = record {
+  from = λ state i. (state, i, record {
+    jobs = refl;
+    passes = refl;
+    row_length = refl;
+    from = λ index at. (state, i, refl, at);
+    to = λ index other j same at lt. subst (λ (s : WalkState). is_at s index ≡ true) (only_one states few other state j i) at;
+  });
+  to = λ one i. (one, i, refl);
+  distinct = λ i j one other at_i at_j same.
+      let first = slice_get_within states i one at_i in
+      let second = slice_get_within states j other at_j in
+      omega (arith, few, first, second);
+}

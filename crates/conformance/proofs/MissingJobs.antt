@@ -13,11 +13,10 @@ use Rattle.conformance.specs.declared.walk_state.WalkState.{WalkState}
 use Rattle.conformance.specs.declared.open_job.OpenJob.{OpenJob}
 use Rattle.conformance.specs.Path.{Walks, count_in, count_in_body, open_in_body}
 use Rattle.conformance.specs.BodyGets.{AreGets, get_with}
-use Rattle.conformance.specs.BlockingGet.{IsFree, IsBlocked, IsBlockingEnd}
+use Rattle.conformance.specs.BlockingGet.{IsBlocked}
 use Rattle.conformance.specs.MissingJob.{IsMissingJob, first_in}
-use Rattle.conformance.specs.WalkState.{is_at, HasTables, IsStateAt, IsBegun}
+use Rattle.conformance.specs.WalkState.{is_at, HasTables}
 use Rattle.conformance.proofs.OpenCounts.{count_cons}
-use Rattle.conformance.proofs.Walks.{walk_in_body}
 use Rattle.conformance.proofs.PassedGets as passed
 
 -- ---- the get
@@ -86,20 +85,3 @@ module _ (kind : ActorKind) (body : List Action) (path : List PathStep) (place :
           first = subst (λ (class : ℕ). first_in class state.jobs.items ≡ Some first.job) (sym is_get.of_class) first.is;
         },
       )
-
--- A single state that represents all walks.
-module _ (kind : ActorKind) (body : List Action) (path : List PathStep) (place : ℕ) (state : WalkState) (is_state : IsStateAt kind body path place state) (at_end : is_at state (length body) ≡ false) (gets : List (Option BodyGet)) (are_gets : AreGets body gets) where
-  -- The body cannot be at its end.
-  not_free : IsFree state.row.items state.passes.items gets (suc (length body)) (length body) → ⊥
-  not_free free =
-      let before = free.from.before in
-      let walk = passed.walk_over kind body path place state is_state.tables is_state.sound gets are_gets free.reached free.from.at (length body) free.free (length body) (omega (arith, before)) (omega arith) (omega arith) in
-      false≢true (sym at_end ∙ (is_state.complete (length body) state.jobs.items walk).1)
-
-  pub none_missing : IsBegun state → IsBlockingEnd state.row.items state.passes.items gets (length body) None → ⊥
-  none_missing begun free = not_free (free begun.0 (walk_in_body kind body path (is_state.sound begun.0 begun.1)) begun.1)
-
-  pub some_missing : (get : BodyGet) → IsBlocked state.row.items state.passes.items gets (suc (length body)) (length body) get → (job : ℕ) × (first_in get.class state.jobs.items ≡ Some job) × IsMissingJob kind body path place job
-  some_missing get way =
-      missing_job kind body path place state is_state.tables is_state.sound gets are_gets get way
-      (λ index others w. passed.last_reached kind body path place state is_state.tables is_state.sound gets are_gets (length body) (omega arith) get way (λ index others w. (is_state.complete index others w).1) index others w (walk_in_body kind body path w))

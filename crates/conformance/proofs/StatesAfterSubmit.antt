@@ -21,8 +21,7 @@ use Rattle.conformance.specs.WalkState.{is_at, IsAfterSubmit, CanSubmit}
 use Rattle.conformance.specs.WalkStates.{AreStatesAt, IsStateOf, IsRepresented, AreAfterSubmit, choices}
 use Rattle.conformance.proofs.OpenCounts.{can_pass_from_within}
 use Rattle.conformance.proofs.Walks.{walk_last}
-use Rattle.conformance.proofs.WalkStates.{sound_after_submit, closed_after_submit, at_after_submit}
-use Rattle.conformance.proofs.WalkProgress.{submit_no_get}
+use Rattle.conformance.proofs.WalkStates.{submit_no_get, sound_after_submit, closed_after_submit, at_after_submit}
 
 -- ---- one choice more
 pub none_after_submit : (body : List Action) (job : ℕ) → AreAfterSubmit body job [] []

@@ -1,4 +1,4 @@
--- Where the walks stop, and why, if jobs may belong to several classes.
+-- Where the walks stop, and why.
 use Rattle.std.proofs.Common.{◌≡◌, ℕ, zero, suc, ◌+◌, map, ◌<◌, ◌≤◌, ⊎_elim, inl, inr, true, false, eqb, List, [], ◌∷◌, ◌++◌, length, Option, Some, None, refl, sym, ap, subst, ◌∙◌, slice_get, add-one, arith}
 use Rattle.std.specs.declared.alloc.Global.{Global}
 use Rattle.std.specs.declared.vec.Vec.{Vec}
@@ -26,11 +26,11 @@ use Rattle.conformance.specs.Path.{Walks, both_submit, IsPathOf, count_in, is_su
 use Rattle.conformance.specs.PathMatch.{IsMatch, HasManyOpenLists}
 use Rattle.conformance.specs.declared.path_match.TheConstants.{MAX_OPEN_LISTS}
 use Rattle.conformance.specs.BodyGets.{AreGets}
-use Rattle.conformance.specs.BlockingGet.{IsLastReached, IsFree, IsBlocked, IsBlockingEnd}
+use Rattle.conformance.specs.BlockingGet.{IsLastReached, IsFree, IsBlocked, IsBlocking}
 use Rattle.conformance.specs.OpenExcess.{IsSubmitAhead, IsOpenExcess, IsReason}
 use Rattle.conformance.specs.MissingJob.{first_in, IsMissingJob}
-use Rattle.conformance.specs.WalkState.{is_at, IsStateAt, IsBegun}
-use Rattle.conformance.specs.WalkStates.{AreStatesAt, AreDistinct, IsStateOf, IsSomeAt, IsFurthestAt, IsFurthest, IsAhead, IsNextSubmit, AreAhead}
+use Rattle.conformance.specs.WalkState.{is_at}
+use Rattle.conformance.specs.WalkStates.{AreStatesAt, AreDistinct, IsStateOf, HasState, IsFurthestAt, IsFurthest, IsAhead, IsNextSubmit, AreAhead}
 use Rattle.conformance.proofs.OpenCounts.{within_submit}
 use Rattle.conformance.proofs.PassedGets as passed
 use Rattle.conformance.proofs.OpenExcesses.{open_excess}
@@ -42,7 +42,7 @@ use Rattle.conformance.proofs.StatesAfterSubmit.{any_is_in}
 
 module _ (kind : ActorKind) (body : List Action) (path : List PathStep) (place : ℕ) (states : List WalkState) (are : AreStatesAt kind body path place states) where
   -- A walk, if there is a state.
-  pub some_walk : IsSomeAt states → (index : ℕ) × (jobs : List OpenJob) × Walks kind body path index place jobs
+  pub some_walk : HasState states → (index : ℕ) × (jobs : List OpenJob) × Walks kind body path index place jobs
   some_walk some = let state = are.each some.0 some.1 in (state.begun.0, some.0.jobs.items, state.sound state.begun.0 state.begun.1)
 
   -- No walk is past the furthest index.
@@ -129,7 +129,7 @@ module _ (kind : ActorKind) (body : List Action) (path : List PathStep) (place :
           let r = are.complete index jobs w in
           false≢true (sym (nothing r.state index r.is_in (walk_in_body kind body path w)) ∙ r.at)
 
-      pub not_at_end : (reached : Reached) (found : IsFurthestAt states (length body) reached) → In found.state states → IsBlockingEnd found.state.row.items found.state.passes.items gets (length body) None → ⊥
+      pub not_at_end : (reached : Reached) (found : IsFurthestAt states (length body) reached) → In found.state states → IsBlocking found.state.row.items found.state.passes.items gets (length body) None → ⊥
       not_at_end reached found i free =
           let before = found.last.before in
           short found.state.jobs.items (walk_to found.state i (length body) (omega arith) (free reached.index (omega (arith, before)) found.last.at))
@@ -142,37 +142,22 @@ module _ (kind : ActorKind) (body : List Action) (path : List PathStep) (place :
           (λ index others w. last_reached (length body) reached found way.reached way.from index others w (walk_in_body kind body path w))
 
   -- ---- the results
-  pub result_if_stopped : (path_state : PathState) → place < length path → IsSomeAt states → AreStatesAt kind body path (place + 1) []
+  pub result_if_stopped : (path_state : PathState) → place < length path → HasState states → AreStatesAt kind body path (place + 1) []
       → (excess : Option OpenExcess) → IsReason kind body path place excess → IsMatch kind path_state body path (Deviates (record { length = place; excess = excess; missing = None }))
   result_if_stopped path_state lt some nothing excess reason =
       let w = some_walk some in
       let none : (index : ℕ) (jobs : List OpenJob) → ¬ Walks kind body path index (suc place) jobs = λ index jobs next. not_In_nil (nothing.complete index jobs (subst (λ (n : ℕ). Walks kind body path index n jobs) (sym (add-one place)) next)).is_in in
       (no_path_from_walks kind path_state body path place lt none, explained_from_walks kind body path place w.0 w.1 lt w.2 none excess reason)
 
-only_in : (one state : WalkState) → In one (state ∷ []) → one ≡ state
-only_in one state i = ⊎_elim (λ same. same) (λ later. absurd (not_In_nil later)) (In-cons_cases i)
-
--- A single state that represents all walks.
-pub single_state : (kind : ActorKind) (body : List Action) (path : List PathStep) (place : ℕ) (state : WalkState) → IsStateAt kind body path place state → IsBegun state → AreStatesAt kind body path place (state ∷ [])
-single_state kind body path place state is begun = record {
-  each = λ one i. subst (IsStateOf kind body path place) (sym (only_in one state i)) (record {
-    tables = is.tables;
-    begun = begun;
-    sound = is.sound;
-    closed = λ index lt at passes. (is.complete (suc index) state.jobs.items (walk_moves kind body path index place state.jobs.items (is.sound index at) lt passes)).1;
-  });
-  complete = λ index jobs w. let found = is.complete index jobs w in record { state = state; is_in = here; jobs_are = found.0; at = found.1 };
-}
-
 -- ---- the results at the end of the path
 module _ (kind : ActorKind) (body : List Action) (path : List PathStep) (states : List WalkState) (are : AreStatesAt kind body path (length path) states) where
-  pub fits_at_prefix : IsSomeAt states → IsPathOf kind Prefix body path
+  pub fits_at_prefix : HasState states → IsPathOf kind Prefix body path
   fits_at_prefix some = some_walk kind body path (length path) states are some
 
   pub fits_at_end : (state : WalkState) → In state states → is_at state (length body) ≡ true → IsPathOf kind Whole body path
   fits_at_end state i at = (state.jobs.items, (are.each state i).sound (length body) at)
 
-  pub result_if_missing : IsSomeAt states → ((others : List OpenJob) → ¬ Walks kind body path (length body) (length path) others) → (job : ℕ) → IsMissingJob kind body path (length path) job
+  pub result_if_missing : HasState states → ((others : List OpenJob) → ¬ Walks kind body path (length body) (length path) others) → (job : ℕ) → IsMissingJob kind body path (length path) job
       → IsMatch kind Whole body path (Deviates (record { length = length path; excess = None; missing = Some job }))
   result_if_missing some short job is_missing =
       let w = some_walk kind body path (length path) states are some in

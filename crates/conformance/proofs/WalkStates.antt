@@ -1,6 +1,8 @@
 -- The state of the walks after a step of the path.
-use Rattle.std.proofs.Common.{◌≡◌, ℕ, zero, suc, ◌+◌, ◌<◌, ◌≤◌, ⊎_elim, true, false, ◌&&◌, ltb, List, [], ◌∷◌, ◌++◌, length, get_or, Option, Some, None, refl, sym, ap, subst, ◌∙◌, add-one, arith}
+use Rattle.std.proofs.Common.{◌≡◌, ℕ, zero, suc, ◌+◌, ◌<◌, ◌≤◌, ⊎_elim, Bool, true, false, ◌&&◌, ltb, List, [], ◌∷◌, ◌++◌, length, get_or, Option, Some, None, refl, sym, ap, subst, ◌∙◌, add-one, arith}
 use Rattle.std.specs.Prelude.{slice_get}
+use Rattle.std.specs.declared.alloc.Global.{Global}
+use Rattle.std.specs.declared.vec.Vec.{Vec}
 use Rattle.std.proofs.lemmas.Bool.{cases_lt, false≢true, and_parts, and_from, or_cases, or_left, or_right, eq-eqb, eqb-true}
 use Rattle.std.proofs.lemmas.List.{get_or_past}
 use Rattle.std.proofs.lemmas.Option.{slice_get_within, slice_get-get_or, same_Some, none-some}
@@ -15,7 +17,7 @@ use Rattle.conformance.specs.declared.walk_state.WalkState.{WalkState}
 use Rattle.conformance.specs.PathStep.{submits}
 use Rattle.conformance.specs.Path.{Walks, body_moves, both_submit, path_gets, MayGet, open_class, without, is_submit_of, has_submit_of}
 use Rattle.conformance.specs.BodyGets.{get_at, can_pass}
-use Rattle.conformance.specs.WalkState.{is_at, HasTables, IsAfterSubmit, IsAfterGetOf, IsAfterGet, IsStateAt, IsBegun}
+use Rattle.conformance.specs.WalkState.{is_at, HasTables, IsAfterSubmit, IsAfterGetOf}
 use Rattle.conformance.proofs.OpenCounts.{within_next, can_pass_from_within, within_submit, within_without}
 use Rattle.conformance.proofs.Walks.{walk_within, walk_in_body, walk_last}
 
@@ -35,6 +37,14 @@ submit_is class (Some (Get submit)) h = absurd (false≢true h)
 
 pub no_submit_of_get : (job class : ℕ) (one : PathStep) → one ≡ step.Gets job → submits one class ≡ true → ⊥
 no_submit_of_get job class one e h = false≢true (sym (ap (λ s. submits s class) e) ∙ h)
+
+is_submit_step : PathStep → Bool
+is_submit_step (step.Submits classes) = true
+is_submit_step (step.Gets job) = false
+
+pub submit_no_get : (classes : Vec ℕ Global) (job : ℕ) → step.Submits classes ≡ step.Gets job → ⊥
+unfolding is_submit_step
+submit_no_get classes job e = false≢true (sym (ap is_submit_step e))
 
 pub same_get : (job other : ℕ) → ◌≡◌ {A = Option PathStep} (Some (step.Gets job)) (Some (step.Gets other)) → job ≡ other
 same_get job other e = grind (arith, e)
@@ -84,36 +94,6 @@ module _ (kind : ActorKind) (body : List Action) (path : List PathStep) where
         let lt = slice_get_within body q (Submit class) (submit_is class (slice_get body q) is_submit) in
         at_next new q (after.rest q lt ∙ or_left (is_at old q && is_submit_of class (slice_get body q)) (is_at new q && can_pass (get_at body q) new.jobs.items) (and_from (is_at old q) (is_submit_of class (slice_get body q)) at is_submit))
 
-  -- If the job can have no other class, these are all walks.
-  module _ (p class : ℕ) (one : PathStep) (old new : WalkState) (state : IsStateAt kind body path p old) (after : IsAfterSubmit body p class old new)
-      (at_path : slice_get path p ≡ Some one) (may_be : submits one class ≡ true) where
-    pub complete_after_submit : ((other : ℕ) → submits one other ≡ true → has_submit_of body other ≡ true → other ≡ class)
-        → {q : ℕ} {jobs : List OpenJob} → Walks kind body path q (suc p) jobs → (jobs ≡ new.jobs.items) × (is_at new q ≡ true)
-    complete_after_submit only =
-        walk_last kind body path (λ q jobs. (jobs ≡ new.jobs.items) × (is_at new q ≡ true))
-        (λ q jobs action e within before.
-        let passes = subst (λ others. can_pass (get_at body q) others ≡ true) before.0 (can_pass_from_within jobs body q within) in
-        let rest = after.rest q (slice_get_within body q action e) in
-        (before.0, at_next new q (rest ∙ or_right (is_at old q && is_submit_of class (slice_get body q)) (is_at new q && can_pass (get_at body q) new.jobs.items) (and_from (is_at new q) (can_pass (get_at body q) new.jobs.items) before.1 passes))))
-        (λ q jobs other k w e s c.
-        let same : other ≡ one = same_Some other one (sym s ∙ at_path) in
-        let has = list_any_at_In (λ (a : Action). is_submit_of k (Some a)) (In-slice_get body q (Submit k) e) (eq-eqb k k refl) in
-        let is : k ≡ class = only k (subst (λ (x : PathStep). submits x k ≡ true) same c) has in
-        let before = state.complete q jobs w in
-        let rest = after.rest q (slice_get_within body q (Submit k) e) in
-        let is_submit : is_submit_of class (slice_get body q) ≡ true = ap (is_submit_of class) e ∙ eq-eqb k class is in
-        let jobs_are : jobs ++ record { job = p; class = k } ∷ [] ≡ new.jobs.items =
-        ap (λ others. others ++ record { job = p; class = k } ∷ []) before.0 ∙ (ap (λ n. old.jobs.items ++ record { job = p; class = n } ∷ []) is ∙ sym after.jobs) in
-        (jobs_are, at_next new q (rest ∙ or_left (is_at old q && is_submit_of class (slice_get body q)) (is_at new q && can_pass (get_at body q) new.jobs.items) (and_from (is_at old q) (is_submit_of class (slice_get body q)) before.1 is_submit))))
-        (λ q jobs job k w s o m. absurd (no_submit_of_get job class one (same_Some one (step.Gets job) (sym at_path ∙ s)) may_be))
-
-    pub state_after_submit : ((other : ℕ) → submits one other ≡ true → has_submit_of body other ≡ true → other ≡ class) → IsStateAt kind body path (suc p) new
-    state_after_submit only = record {
-      tables = after.tables;
-      sound = sound_after_submit p class one old new state.sound after at_path may_be;
-      complete = λ q jobs w. complete_after_submit only w;
-    }
-
   -- ---- a get
   module _ (p job class : ℕ) (old new : WalkState) (sound : (index : ℕ) → is_at old index ≡ true → Walks kind body path index p old.jobs.items) (is_open : open_class job old.jobs.items ≡ Some class) (after : IsAfterGetOf kind body job class old new)
       (at_path : slice_get path p ≡ Some (step.Gets job)) where
@@ -146,65 +126,3 @@ module _ (kind : ActorKind) (body : List Action) (path : List PathStep) where
 
     pub closed_after_get : (q : ℕ) → q < length body → is_at new q ≡ true → can_pass (get_at body q) new.jobs.items ≡ true → is_at new (suc q) ≡ true
     closed_after_get q lt at passes = at_next new q (after.rest q lt ∙ or_right (is_at old (q + 1) && ltb (q + 1) after.end) (is_at new q && can_pass (get_at body q) new.jobs.items) (and_from (is_at new q) (can_pass (get_at body q) new.jobs.items) at passes))
-
-  module _ (p job class : ℕ) (old new : WalkState) (state : IsStateAt kind body path p old) (is_open : open_class job old.jobs.items ≡ Some class) (after : IsAfterGetOf kind body job class old new)
-      (at_path : slice_get path p ≡ Some (step.Gets job)) where
-    pub complete_after_get : {q : ℕ} {jobs : List OpenJob} → Walks kind body path q (suc p) jobs → (jobs ≡ new.jobs.items) × (is_at new q ≡ true)
-    complete_after_get =
-        walk_last kind body path (λ q jobs. (jobs ≡ new.jobs.items) × (is_at new q ≡ true))
-        (λ q jobs action e within before.
-        let passes = subst (λ others. can_pass (get_at body q) others ≡ true) before.0 (can_pass_from_within jobs body q within) in
-        let rest = after.rest q (slice_get_within body q action e) in
-        (before.0, at_next new q (rest ∙ or_right (is_at old (q + 1) && ltb (q + 1) after.end) (is_at new q && can_pass (get_at body q) new.jobs.items) (and_from (is_at new q) (can_pass (get_at body q) new.jobs.items) before.1 passes))))
-        (λ q jobs other k w e s c. absurd (no_submit_of_get job k other (same_Some other (step.Gets job) (sym s ∙ at_path)) c))
-        (λ q jobs other k w s o m.
-        let same : other ≡ job = same_get other job (sym s ∙ at_path) in
-        let before = state.complete q jobs w in
-        let is : k ≡ class = same_Some k class (sym o ∙ (ap (open_class other) before.0 ∙ (ap (λ j. open_class j old.jobs.items) same ∙ is_open))) in
-        let in_body = walk_in_body kind body path w in
-        let may = (after.is_end q in_body).1 (subst (λ n. MayGet kind body q n) is m) in
-        let jobs_are : without other jobs ≡ new.jobs.items = ap (without other) before.0 ∙ (ap (λ j. without j old.jobs.items) same ∙ sym after.jobs) in
-        (jobs_are, kept_at p job class old new state.sound is_open after at_path q in_body (and_from (is_at old q) (ltb q after.end) before.1 may)))
-
-    pub state_after_get : IsStateAt kind body path (suc p) new
-    state_after_get = record {
-      tables = after.tables;
-      sound = sound_after_get p job class old new state.sound is_open after at_path;
-      complete = λ q jobs w. complete_after_get w;
-    }
-
-  -- If the job is not open, no walk goes over its get.
-  pub no_walk_of_unopened : (p job : ℕ) (old : WalkState) → IsStateAt kind body path p old → open_class job old.jobs.items ≡ None → slice_get path p ≡ Some (step.Gets job)
-      → {q : ℕ} {jobs : List OpenJob} → Walks kind body path q (suc p) jobs → ⊥
-  no_walk_of_unopened p job old state is_none at_path =
-      walk_last kind body path (λ q jobs. ⊥)
-      (λ q jobs action e within before. before)
-      (λ q jobs other k w e s c. no_submit_of_get job k other (same_Some other (step.Gets job) (sym s ∙ at_path)) c)
-      (λ q jobs other k w s o m.
-      let same : other ≡ job = same_get other job (sym s ∙ at_path) in
-      let before = state.complete q jobs w in
-      none-some k (sym is_none ∙ (ap (λ j. open_class j old.jobs.items) (sym same) ∙ (sym (ap (open_class other) before.0) ∙ o))))
-
-  get_cases : (o : Option ℕ) (p job : ℕ) (old new : WalkState) → IsStateAt kind body path p old → IsAfterGet kind body job old new → slice_get path p ≡ Some (step.Gets job)
-      → open_class job old.jobs.items ≡ o → (IsBegun new → IsStateAt kind body path (suc p) new) × ((q : ℕ) (jobs : List OpenJob) → Walks kind body path q (suc p) jobs → IsBegun new)
-  get_cases None p job old new state after at_path e =
-      ((λ begun. absurd (false≢true (sym (after.missing e begun.0) ∙ begun.1))), (λ q jobs w. absurd (no_walk_of_unopened p job old state e at_path w)))
-  get_cases (Some class) p job old new state after at_path e =
-      ((λ begun. state_after_get p job class old new state e (after.got class e) at_path), (λ q jobs w. (q, (complete_after_get p job class old new state e (after.got class e) at_path w).1)))
-
-  -- After a get the state has the walks, if there are any.
-  pub after_get : (p job : ℕ) (old new : WalkState) → IsStateAt kind body path p old → IsAfterGet kind body job old new → slice_get path p ≡ Some (step.Gets job)
-      → (IsBegun new → IsStateAt kind body path (suc p) new) × ((q : ℕ) (jobs : List OpenJob) → Walks kind body path q (suc p) jobs → IsBegun new)
-  after_get p job old new state after at_path = get_cases (open_class job old.jobs.items) p job old new state after at_path refl
-
-  -- If the body submits none of the classes of a submit, no walk goes over it.
-  pub no_walk_of_none : (p : ℕ) (one : PathStep) → ((class : ℕ) → submits one class ≡ true → has_submit_of body class ≡ false) → ((job : ℕ) → one ≡ step.Gets job → ⊥) → slice_get path p ≡ Some one
-      → {q : ℕ} {jobs : List OpenJob} → Walks kind body path q (suc p) jobs → ⊥
-  no_walk_of_none p one none is_submit at_path =
-      walk_last kind body path (λ q jobs. ⊥)
-      (λ q jobs action e within before. before)
-      (λ q jobs other k w e s c.
-      let same : other ≡ one = same_Some other one (sym s ∙ at_path) in
-      let has = list_any_at_In (λ (a : Action). is_submit_of k (Some a)) (In-slice_get body q (Submit k) e) (eq-eqb k k refl) in
-      false≢true (sym (none k (subst (λ (x : PathStep). submits x k ≡ true) same c)) ∙ has))
-      (λ q jobs job k w s o m. is_submit job (same_Some one (step.Gets job) (sym at_path ∙ s)))

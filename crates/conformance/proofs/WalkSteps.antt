@@ -5,6 +5,8 @@ use Rattle.std.specs.List.{list_any}
 use Rattle.std.proofs.lemmas.Bool.{cases_lt, false≢true, le-leb, eqb-true, eqb-false, ne_eqb, or_cases, or_left, or_right}
 use Rattle.std.proofs.lemmas.List.{get_or_past, get_or-replicate, length-replicate, replicate_more}
 use Rattle.std.proofs.lemmas.Option.{get_or_from_slice_get}
+use Rattle.support.specs.In.{In, here}
+use Rattle.support.proofs.Members.{In-cons_cases, not_In_nil}
 use Rattle.job_bodies.specs.declared.action.Action.{Action}
 use Rattle.conformance.specs.declared.open_job.OpenJob.{OpenJob}
 use Rattle.conformance.specs.declared.body_gets.BodyGet.{BodyGet}
@@ -13,7 +15,8 @@ use Rattle.conformance.specs.declared.step.PathStep.{PathStep}
 use Rattle.conformance.specs.declared.walk_state.WalkState.{WalkState}
 use Rattle.conformance.specs.Path.{Walks, starts, body_moves, count_in, open_class, without, is_submit_of, MayGet}
 use Rattle.conformance.specs.BodyGets.{AreGets, get_at, can_pass, pass_after}
-use Rattle.conformance.specs.WalkState.{is_at, HasTables, IsAfterSubmit, IsAfterGetOf, IsStateAt, IsBegun}
+use Rattle.conformance.specs.WalkState.{is_at, HasTables, IsAfterSubmit, IsAfterGetOf}
+use Rattle.conformance.specs.WalkStates.{AreStatesAt, IsStateOf}
 use Rattle.conformance.proofs.OpenCounts.{count_submitted, count_without_other}
 use Rattle.conformance.proofs.Walks.{walk_in_body}
 use Rattle.conformance.proofs.WalkStates.{walk_moves}
@@ -30,6 +33,9 @@ first_jobs kind body path (body_moves action w e h) = first_jobs kind body path 
 first_walk : (kind : ActorKind) (body : List Action) (path : List PathStep) (q : ℕ) → q ≤ length body → Walks kind body path q 0 []
 first_walk kind body path zero h = starts
 first_walk kind body path (suc q) h = walk_moves kind body path q 0 [] (first_walk kind body path q (omega (arith, h))) (omega (arith, h)) (can_pass_none (get_at body q))
+
+only_in : (one state : WalkState) → In one (state ∷ []) → one ≡ state
+only_in one state i = ⊎_elim (λ same. same) (λ later. absurd (not_In_nil later)) (In-cons_cases i)
 
 module _ (body : List Action) (state : WalkState) (no_jobs : state.jobs.items ≡ []) (all_pass : state.passes.items ≡ replicate (length body) true) (all_row : state.row.items ≡ replicate (length body) true ++ true ∷ []) where
   whole_row : state.row.items ≡ replicate (length body + 1) true
@@ -54,15 +60,24 @@ module _ (body : List Action) (state : WalkState) (no_jobs : state.jobs.items �
       (λ past. absurd (false≢true (sym (get_or_past state.row.items q false past) ∙ h)))
       (cases_lt q (length state.row.items))
 
-  pub first_state : (kind : ActorKind) (path : List PathStep) → IsStateAt kind body path 0 state
-  first_state kind path = record {
+  state_at_start : (kind : ActorKind) (path : List PathStep) → IsStateOf kind body path 0 state
+  state_at_start kind path = record {
     tables = first_tables;
+    begun = (0, first_at 0 (omega arith));
     sound = λ q h. subst (λ jobs. Walks kind body path q 0 jobs) (sym no_jobs) (first_walk kind body path q (at_bound q h));
-    complete = λ q jobs w. (first_jobs kind body path w ∙ sym no_jobs, first_at q (walk_in_body kind body path w));
+    closed = λ q lt at passes. first_at (suc q) (omega (arith, lt));
   }
 
-  pub first_begun : IsBegun state
-  first_begun = (0, first_at 0 (omega arith))
+  pub states_at_start : (kind : ActorKind) (path : List PathStep) → AreStatesAt kind body path 0 (state ∷ [])
+  states_at_start kind path = record {
+    each = λ one i. subst (IsStateOf kind body path 0) (sym (only_in one state i)) (state_at_start kind path);
+    complete = λ q jobs w. record {
+      state = state;
+      is_in = here;
+      jobs_are = first_jobs kind body path w ∙ sym no_jobs;
+      at = first_at q (walk_in_body kind body path w);
+    };
+  }
 
 -- ---- whether the body can be at some index
 pub begun_from_any : (row : List Bool) → list_any (λ b. b) row ≡ true → (q : ℕ) × (get_or row q false ≡ true)

@@ -1,4 +1,4 @@
--- The get that keeps a body from its next submit of a class, or from its end.
+-- The get that keeps a body from an index: from a submit, or from its end.
 use Rattle.std.specs.Prelude.{◌≡◌, ◌≤◌, ◌<◌, ℕ, suc, Bool, true, false, ◌==◌, ◌&&◌, nat_lt, if◌then◌else◌, List, Option, Some, None, slice_get, slice_index_or}
 use Rattle.job_bodies.specs.declared.action.Action.{Action}
 use Rattle.conformance.specs.declared.body_gets.BodyGet.{BodyGet}
@@ -46,38 +46,21 @@ pub record IsBlocked (row passes : List Bool) (gets : List (Option BodyGet)) (n 
   pub place_within : place < m
   pub place_is : slice_index_or gets place None ≡ Some get
 
--- ---- the next submit
--- The body can reach each submit of the class below `end` that is at or after an index where the body can be.
-abbrev pub AreReached : List Bool → List Bool → List (Option BodyGet) → List Action → ℕ → ℕ → Type 0
-AreReached row passes gets body class end = (submit index : ℕ) → submit < end → is_submit_of class (slice_get body submit) ≡ true
-    → index ≤ submit → slice_index_or row index false ≡ true → IsFree row passes gets (suc submit) submit
-
--- `get` keeps the body from a submit of the class. It is the first submit of the class that the body cannot reach.
-pub record IsBlockingGet (row passes : List Bool) (gets : List (Option BodyGet)) (body : List Action) (class : ℕ) (get : BodyGet) : Type 0 where
-  pub submit : ℕ
-  pub is_submit : is_submit_of class (slice_get body submit) ≡ true
-  pub earlier : AreReached row passes gets body class submit
-  pub blocked : IsBlocked row passes gets (suc submit) submit get
-
-abbrev pub IsBlocking : List Bool → List Bool → List (Option BodyGet) → List Action → ℕ → Option BodyGet → Type 0
-IsBlocking row passes gets body class None = (end : ℕ) → AreReached row passes gets body class end
-IsBlocking row passes gets body class (Some get) = IsBlockingGet row passes gets body class get
-
 -- ---- an index of the body
 -- If there is a get, it keeps the body from the index `end`. If there is none, the body can reach `end`, or it can be at no
 -- index up to `end`.
-abbrev pub IsBlockingEnd : List Bool → List Bool → List (Option BodyGet) → ℕ → Option BodyGet → Type 0
-IsBlockingEnd row passes gets end None = (index : ℕ) → index ≤ end → slice_index_or row index false ≡ true → IsFree row passes gets (suc end) end
-IsBlockingEnd row passes gets end (Some get) = IsBlocked row passes gets (suc end) end get
+abbrev pub IsBlocking : List Bool → List Bool → List (Option BodyGet) → ℕ → Option BodyGet → Type 0
+IsBlocking row passes gets end None = (index : ℕ) → index ≤ end → slice_index_or row index false ≡ true → IsFree row passes gets (suc end) end
+IsBlocking row passes gets end (Some get) = IsBlocked row passes gets (suc end) end get
 
 -- ---- the way to and over one index, as the functions of `blocking_get.rt` compute it
 -- The way to an index. It is free if the body can be at the index, and otherwise it is the way `before` the index.
 abbrev pub way_at : Way → Bool → Way
 way_at before is_at = if is_at then way.Free else before
 
-abbrev pub blocking_at : Way → Bool → Option BodyGet
-blocking_at (way.Blocked get) is_submit = if is_submit then Some get else None
-blocking_at _ is_submit = None
+abbrev pub get_on : Way → Option BodyGet
+get_on (way.Blocked get) = Some get
+get_on _ = None
 
 abbrev pub least_get : BodyGet → Option BodyGet → BodyGet
 least_get least None = least

@@ -1,12 +1,12 @@
 -- The result for the first bodies of a family.
-use Rattle.std.specs.Prelude.{◌≤◌, ◌<◌, ℕ, Bool, List, length, map, All, AllPairs, Contains, IsTrue}
+use Rattle.std.specs.Prelude.{◌≡◌, ◌≤◌, ◌<◌, ℕ, Bool, false, List, length, map, All, AllPairs, Any, Contains, IsTrue}
 use Rattle.job_bodies.specs.declared.action.Action.{Action}
 use Rattle.conformance.specs.declared.explained_prefix.ExplainedPrefix.{ExplainedPrefix}
 use Rattle.conformance.specs.declared.step.ActorKind.{ActorKind}
 use Rattle.conformance.specs.declared.step.PathStep.{PathStep}
 use Rattle.conformance.specs.declared.step.PathState.{PathState}
 use Rattle.conformance.specs.Path.{IsPathOf}
-use Rattle.conformance.specs.PathMatch.{IsUnambiguous}
+use Rattle.conformance.specs.PathMatch.{IsUnambiguous, HasManyOpenLists}
 use Rattle.conformance.specs.declared.family_match.FamilyMatch.{FamilyMatch}
 use Rattle.conformance.specs.FamilyMatch.{IsMostExplained, AreOneClassEach}
 
@@ -18,6 +18,7 @@ pub record IsCorrectResult (kind : ActorKind) (body_of : ℕ → List Action) (p
   pub sure : All (λ n. IsUnambiguous (body_of n) path → IsPathOf kind path_state (body_of n) path → Contains members n) matched
   pub explained : IsTrue is_decided → IsMostExplained kind (map body_of matched) path longest
   pub decided : AreOneClassEach path → IsTrue is_decided
+  pub many : is_decided ≡ false → Any (λ n. HasManyOpenLists kind (body_of n) path) matched
   pub few : length members ≤ length matched
   pub ascending : AllPairs (λ m n. m < n) matched → AllPairs (λ m n. m < n) members
 

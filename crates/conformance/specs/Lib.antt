@@ -2,7 +2,6 @@ pub mod PathStep
 pub mod Path
 pub mod LaggingRun
 pub mod BodyGets
-pub mod Candidate
 pub mod WalkState
 pub mod WalkStates
 pub mod Narrowing

@@ -76,4 +76,4 @@ OnUndecided Undecided P = P
 abbrev pub IsMatch : ActorKind → PathState → List Action → List PathStep → PathMatch → Type 0
 IsMatch kind path_state body path Fits = IsPathOf kind path_state body path
 IsMatch kind path_state body path (Deviates explained) = (¬ IsPathOf kind path_state body path) × IsExplained kind body path explained
-IsMatch kind path_state body path Undecided = (¬ IsUnambiguous body path) × HasManyOpenLists kind body path
+IsMatch kind path_state body path Undecided = HasManyOpenLists kind body path

@@ -6,8 +6,6 @@ use Rattle.conformance.specs.declared.open_job.OpenJob.{OpenJob}
 use Rattle.conformance.specs.declared.step.ActorKind.{ActorKind}
 use Rattle.conformance.specs.declared.step.PathStep.{PathStep}
 use Rattle.conformance.specs.declared.walk_state.WalkState.{WalkState}
-use Rattle.conformance.specs.declared.walk_state.Progress.{Progress}
-use Rattle.conformance.specs.declared.walk_state.Progress.TheVariants as progress
 use Rattle.conformance.specs.Path.{Walks, MayGet, HasOneClass, is_submit_of, open_class, without}
 use Rattle.conformance.specs.BodyGets.{get_at, can_pass}
 use Rattle.conformance.specs.OpenExcess.{IsReason}
@@ -47,13 +45,7 @@ pub record IsAfterGet (kind : ActorKind) (body : List Action) (job : ℕ) (old n
   pub got : (class : ℕ) → open_class job old.jobs.items ≡ Some class → IsAfterGetOf kind body job class old new
   pub missing : open_class job old.jobs.items ≡ None → (index : ℕ) → is_at new index ≡ false
 
--- ---- walks
--- The state represents exactly the joint walks up to index `place` of the path.
-pub record IsStateAt (kind : ActorKind) (body : List Action) (path : List PathStep) (place : ℕ) (state : WalkState) : Type 0 where
-  pub tables : HasTables body state
-  pub sound : (index : ℕ) → is_at state index ≡ true → Walks kind body path index place state.jobs.items
-  pub complete : (index : ℕ) (jobs : List OpenJob) → Walks kind body path index place jobs → (jobs ≡ state.jobs.items) × (is_at state index ≡ true)
-
+-- ---- where the body can be
 -- The body can be at some index.
 abbrev pub IsBegun : WalkState → Type 0
 IsBegun state = (index : ℕ) × (is_at state index ≡ true)
@@ -61,12 +53,3 @@ IsBegun state = (index : ℕ) × (is_at state index ≡ true)
 -- The body has a submit of the class at an index where it can be.
 abbrev pub CanSubmit : List Action → ℕ → WalkState → Type 0
 CanSubmit body class state = (index : ℕ) × (is_at state index ≡ true) × (is_submit_of class (slice_get body index) ≡ true)
-
-abbrev pub progress_of : WalkState → Progress
-progress_of state = if list_any (λ at. at) state.row.items then progress.Advanced else progress.Stops None
-
--- The result of the step at `place` is correct. `new` is the state after the step.
-abbrev pub IsProgress : ActorKind → List Action → List PathStep → ℕ → PathStep → WalkState → Progress → Type 0
-IsProgress kind body path place step new progress.Advanced = IsStateAt kind body path (place + 1) new × IsBegun new
-IsProgress kind body path place step new (progress.Stops excess) = ((index : ℕ) (jobs : List OpenJob) → ¬ Walks kind body path index (place + 1) jobs) × IsReason kind body path place excess
-IsProgress kind body path place step new progress.Undecided = ¬ HasOneClass body step × IsStateAt kind body path place new

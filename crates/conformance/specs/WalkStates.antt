@@ -37,8 +37,8 @@ pub record AreStatesAt (kind : ActorKind) (body : List Action) (path : List Path
   pub complete : (index : ℕ) (jobs : List OpenJob) → Walks kind body path index place jobs → IsRepresented states index jobs
 
 -- There is a state.
-abbrev pub IsSomeAt : List WalkState → Type 0
-IsSomeAt states = (state : WalkState) × In state states
+abbrev pub HasState : List WalkState → Type 0
+HasState states = (state : WalkState) × In state states
 
 abbrev pub HaveTables : List Action → List WalkState → Type 0
 HaveTables body states = (state : WalkState) → In state states → HasTables body state

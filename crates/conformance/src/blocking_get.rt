@@ -1,13 +1,11 @@
-//! A search for the get that keeps a body from a submit of a class, or from its end. A get blocks
-//! the body while the path that is matched against it has too many open jobs of the get's class.
-//! The search finds the reason why a recorded path does not match a body.
+//! A search for the get that keeps a body from an index: from a submit, or from its end. A get
+//! blocks the body while the path that is matched against it has too many open jobs of the get's
+//! class. The search finds the reason why a recorded path does not match a body.
 
-ghost use Rattle.std.specs.Prelude.{◌≡◌, ◌≤◌, ◌<◌, ◌+◌, ◌==◌, ◌&&◌, nat_lt, if◌then◌else◌, length};
+ghost use Rattle.std.specs.Prelude.{◌≡◌, ◌≤◌, ◌<◌, ◌==◌, ◌&&◌, nat_lt, if◌then◌else◌, length};
 ghost use Rattle.conformance.specs.BlockingGet as spec;
 
 use crate::body_gets::BodyGet;
-use crate::row::has_submit_at;
-use job_bodies::Action;
 
 /// The result of a search for a blocking get before an index of the body. The search covers the way
 /// to this index: the actions from the last index where the body can be, up to this index.
@@ -23,41 +21,6 @@ enum Way {
     Blocked(BodyGet),
 }
 
-/// Returns the get that blocks the body before the first submit of the class that it cannot reach.
-/// Returns `None` if no get blocks the body.
-///
-/// A get blocks the body if the body may not pass the get. The way to the submit has the actions
-/// from the last index where the body can be, up to the submit. The candidates are the first
-/// blocking get on the way, and all later gets of the same class on the way. The result is the
-/// candidate with the smallest [`limit`](BodyGet::limit).
-///
-/// - `row` says for each index, and for the end, whether the body can be there.
-/// - `passes` says for each action whether the body may pass it: whether the body may go to the
-///   next action while the path makes no step.
-/// - `gets` has an entry for each action: the get, or `None` if the action is no get.
-pub(crate) fn blocking_get(
-    row: &[bool],
-    passes: &[bool],
-    gets: &[Option<BodyGet>],
-    body: &[Action],
-    class: usize,
-) -> Option<BodyGet>
-    requires row { length row.now ≡ length body.now + 1 }
-    requires passes { length passes.now ≡ length body.now }
-    requires gets { length gets.now ≡ length body.now }
-    ensures { spec.IsBlocking row.now passes.now gets.now body.now class result }
-{
-    let mut way = Way::Unreached;
-    for index in 0..body.len() {
-        let here = way_at(way, row[index]);
-        match blocking_at(here, has_submit_at(body, index, class)) {
-            Some(get) => return Some(get),
-            None => way = way_after(here, passes[index], gets[index]),
-        }
-    }
-    None
-}
-
 /// Returns the get that blocks the body before the index `end`. Returns `None` if no get blocks the
 /// body, or if the body can be neither at this index nor before it.
 ///
@@ -70,7 +33,7 @@ pub(crate) fn blocking_get(
 /// - `passes` says for each action whether the body may pass it: whether the body may go to the
 ///   next action while the path makes no step.
 /// - `gets` has an entry for each action: the get, or `None` if the action is no get.
-pub(crate) fn get_before_end(
+pub(crate) fn blocking_get(
     row: &[bool],
     passes: &[bool],
     gets: &[Option<BodyGet>],
@@ -79,15 +42,14 @@ pub(crate) fn get_before_end(
     requires row { end < length row.now }
     requires passes { end ≤ length passes.now }
     requires gets { end ≤ length gets.now }
-    ensures { spec.IsBlockingEnd row.now passes.now gets.now end result }
+    ensures { spec.IsBlocking row.now passes.now gets.now end result }
 {
     let mut way = Way::Unreached;
     for index in 0..end {
         let here = way_at(way, row[index]);
         way = way_after(here, passes[index], gets[index]);
     }
-    let here = way_at(way, row[end]);
-    blocking_at(here, true)
+    get_on(way_at(way, row[end]))
 }
 
 /// Returns the [`Way`] to an index. `before` is the result for the actions before the index. If the
@@ -99,14 +61,12 @@ fn way_at(before: Way, is_at: bool) -> Way
     if is_at { Way::Free } else { before }
 }
 
-/// Returns the get of [`Way::Blocked`] if the search looks for a way to this index. `is_submit`
-/// says whether it does: the index has a submit of the class, or is the end of the body. Returns
-/// `None` if `is_submit` is false, or if no get blocks the body.
-fn blocking_at(way: Way, is_submit: bool) -> Option<BodyGet>
-    ensures { result ≡ spec.blocking_at way is_submit }
+/// Returns the get of [`Way::Blocked`], or `None` if no get blocks the body.
+fn get_on(way: Way) -> Option<BodyGet>
+    ensures { result ≡ spec.get_on way }
 {
     match way {
-        Way::Blocked(get) => { if is_submit { Some(get) } else { None } }
+        Way::Blocked(get) => Some(get),
         Way::Unreached | Way::Free => None,
     }
 }

@@ -1,11 +1,11 @@
 //! The classes and client kinds whose bodies a path matches.
 
-ghost use Rattle.std.specs.Prelude.{◌≤◌, ℕ, All, Contains, IsTrue, IfOk, length};
+ghost use Rattle.std.specs.Prelude.{◌≡◌, ◌≤◌, ℕ, false, All, Any, Contains, IsTrue, IfOk, length};
 ghost use Rattle.std.specs.List.Sorted.{IsStrictlyIncreasing};
 ghost use Rattle.conformance.specs.declared.step.ActorKind.TheVariants as actor_kind;
 ghost use Rattle.conformance.specs.Family.{class_family, client_family};
 ghost use Rattle.conformance.specs.FamilyMatch.{IsClassOf, IsKindOf, AreExactly, IsMostExplained, AreOneClassEach, class_body, client_body, class_bodies, client_bodies};
-ghost use Rattle.conformance.specs.PathMatch.{IsUnambiguous};
+ghost use Rattle.conformance.specs.PathMatch.{IsUnambiguous, HasManyOpenLists};
 
 use crate::bodies::{class_body, client_body};
 use crate::family::{is_class_in_family, is_client_in_family};
@@ -43,6 +43,9 @@ pub fn classes_of_path(
         → IsMostExplained actor_kind.Job (class_bodies plan.now label.now pool.now) path.now reported.explained) }
     ensures decided { IfOk result (λ reported.
         AreOneClassEach path.now → IsTrue reported.is_decided) }
+    ensures many { IfOk result (λ reported.
+        reported.is_decided ≡ false
+        → Any (λ member. HasManyOpenLists actor_kind.Job (class_body plan.now member) path.now) (class_family plan.now label.now pool.now)) }
     ensures few { IfOk result (λ reported.
         length reported.members.items ≤ length (class_family plan.now label.now pool.now)) }
 {
@@ -84,6 +87,9 @@ pub fn kinds_of_path(
         → IsMostExplained actor_kind.Round (client_bodies plan.now label.now) path.now reported.explained) }
     ensures decided { IfOk result (λ reported.
         AreOneClassEach path.now → IsTrue reported.is_decided) }
+    ensures many { IfOk result (λ reported.
+        reported.is_decided ≡ false
+        → Any (λ member. HasManyOpenLists actor_kind.Round (client_body plan.now member) path.now) (client_family plan.now label.now)) }
     ensures few { IfOk result (λ reported.
         length reported.members.items ≤ length (client_family plan.now label.now)) }
 {

@@ -1,10 +1,10 @@
 //! Narrowing of a path: each job keeps at most one of the classes that it may belong to.
 
-ghost use Rattle.std.specs.Prelude.{◌≡◌, Contains, IfOk, IfSome};
+ghost use Rattle.std.specs.Prelude.{◌≡◌, Some, Contains, IfOk, IfSome};
 ghost use Rattle.std.specs.Option.{option_to_list};
+ghost use Rattle.conformance.specs.Path as path;
 ghost use Rattle.conformance.specs.Narrowing.{IsNarrowerStep, IsNarrower};
 
-use crate::candidate::has_submit_of;
 use crate::step::PathStep;
 use job_bodies::Action;
 use std::alloc::{AllocError, Global};
@@ -134,4 +134,20 @@ fn next_class(body: &[Action], from: &mut usize, classes: &[usize]) -> Option<us
         }
     }
     None
+}
+
+/// Returns true if the body submits jobs of the class.
+fn has_submit_of(body: &[Action], class: usize) -> bool
+    ensures { result ≡ path.has_submit_of body.now class }
+{
+    body.iter().any(|action| is_submit_of(class, *action))
+}
+
+fn is_submit_of(class: usize, action: Action) -> bool
+    ensures { result ≡ path.is_submit_of class (Some action) }
+{
+    match action {
+        Action::Submit(other) => other == class,
+        Action::Work(_) | Action::Get(_) => false,
+    }
 }

@@ -2,18 +2,21 @@
 
 ghost use Rattle.std.specs.Prelude.{IfOk, IsTrue, length};
 ghost use Rattle.conformance.specs.declared.step.ActorKind.{ActorKind};
+ghost use Rattle.conformance.specs.declared.step.PathState.{PathState};
 ghost use Rattle.conformance.specs.Path.{IsPathOf};
 ghost use Rattle.conformance.specs.PathMatch.{OnFits, OnDeviates, IfDeviates, IsExplained, IsDecided, IsUnambiguous, HasManyOpenLists, OnUndecided, IsMatch};
 ghost use Rattle.conformance.specs.BodyGets.{AreGets};
-ghost use Rattle.conformance.specs.WalkState.{HasTables, IsStateAt, IsBegun};
+ghost use Rattle.conformance.specs.WalkStates.{AreStatesAt, HaveTables, HasState};
 
-use crate::ambiguous_path::match_rest;
 use crate::body_gets::{BodyGet, body_gets};
 use crate::explained_prefix::ExplainedPrefix;
+use crate::furthest::reaches;
 use crate::narrowing::{Pick, narrowed};
-use crate::path_match::PathMatch;
+use crate::path_match::{MAX_OPEN_LISTS, PathMatch};
 use crate::step::{ActorKind, PathState, PathStep};
-use crate::walk_state::{Progress, WalkState};
+use crate::stop_reasons::{excess_at, missing_in};
+use crate::walk_state::WalkState;
+use crate::walk_states::{start_states, states_after};
 use job_bodies::Action;
 use std::alloc::{AllocError, Global};
 
@@ -32,7 +35,7 @@ use std::alloc::{AllocError, Global};
 ///
 /// A job of the path may belong to several classes that the body submits. Then there is a state of
 /// the walk for each list of jobs that can be open, with one class for each job. If there are more
-/// than [`MAX_OPEN_LISTS`](crate::MAX_OPEN_LISTS) of them, three ways are tried to choose one
+/// than [`MAX_OPEN_LISTS`] of them, three ways are tried to choose one
 /// class for each job: the first class, the last class, and the class of the next submit that fits.
 /// The result is [`PathMatch::Undecided`] if the path matches in none of the three ways. No contract
 /// says that these ways are tried.
@@ -83,9 +86,9 @@ pub fn match_path(
     }
 }
 
-/// Matches the path against the body in a joint walk, which goes through both together, step by
-/// step. The path deviates at the first step that the walk cannot make. From the first submit of a
-/// job on that may belong to several classes of the body, [`match_rest`] continues the walk.
+/// Matches the path against the body in joint walks, which go through both together, step by step.
+/// There is a state for each list of jobs that can be open. The path deviates at the first step that
+/// no walk can make. The result is undecided if there are more than [`MAX_OPEN_LISTS`] states.
 ///
 /// # Errors
 ///
@@ -97,42 +100,58 @@ fn match_exactly(
     kind: ActorKind,
     path_state: PathState,
 ) -> Result<PathMatch, AllocError>
-    ensures fits { IfOk result (λ path_match.
-        OnFits path_match (IsPathOf kind path_state body.now path.now)) }
-    ensures deviates { IfOk result (λ path_match.
-        OnDeviates path_match (¬ IsPathOf kind path_state body.now path.now)) }
-
-    // The explained prefix is the longest prefix of the path that the body explains, with the
-    // reason why the body does not explain the next step.
-    ensures explained { IfOk result
-        (λ path_match. IfDeviates path_match (IsExplained kind body.now path.now)) }
-
-    // The result is decided if each job of the path has at most one of the body's classes.
-    ensures decided { IfOk result
-        (λ path_match. IsUnambiguous body.now path.now → IsDecided path_match) }
-
-    // The result is undecided only if many lists of jobs can be open at one time.
-    ensures many { IfOk result
-        (λ path_match. OnUndecided path_match (HasManyOpenLists kind body.now path.now)) }
+    ensures { IfOk result (IsMatch kind path_state body.now path.now) }
 {
     let gets = body_gets(alloc, body)?;
-    let mut state = WalkState::new(alloc, body)?;
-    for (place, step) in path.iter().enumerate() {
-        match state.take_step(kind, body, &gets, place, step)? {
-            Progress::Advanced => {}
-            Progress::Stops(excess) => {
-                return Ok(PathMatch::Deviates(ExplainedPrefix {
-                    length: place,
-                    excess,
-                    missing: None,
-                }));
-            }
-            Progress::Undecided => {
-                return match_rest(alloc, state, body, &gets, path, place, kind, path_state);
+    let mut states = start_states(alloc, body)?;
+    for place in 0..path.len() {
+        let excess = excess_at(&states, body, &gets, &path[place]);
+        states = states_after(alloc, states, kind, body, &gets, place, &path[place])?;
+        if states.is_empty() {
+            return Ok(PathMatch::Deviates(ExplainedPrefix {
+                length: place,
+                excess,
+                missing: None,
+            }));
+        }
+        if states.len() > MAX_OPEN_LISTS {
+            return Ok(PathMatch::Undecided);
+        }
+    }
+    Ok(match_at_end(&states, body, &gets, path, path_state))
+}
+
+/// Returns the result after all steps of the path. If the path is only a prefix, it matches. A
+/// whole path matches only if the body can be at its end. `states` has the states after the last
+/// step, and `gets` has the gets of the body.
+fn match_at_end(
+    states: &[WalkState],
+    body: &[Action],
+    gets: &[Option<BodyGet>],
+    path: &[PathStep],
+    path_state: PathState,
+) -> PathMatch
+    requires gets { AreGets body.now gets.now }
+    requires tables { HaveTables body.now states.now }
+    ensures { (kind : ActorKind)
+        → AreStatesAt kind body.now path.now (length path.now) states.now
+        → HasState states.now
+        → IsMatch kind path_state body.now path.now result }
+{
+    match path_state {
+        PathState::Prefix => PathMatch::Fits,
+        PathState::Whole => {
+            if reaches(states, body.len()) {
+                PathMatch::Fits
+            } else {
+                PathMatch::Deviates(ExplainedPrefix {
+                    length: path.len(),
+                    excess: None,
+                    missing: missing_in(states, body, gets),
+                })
             }
         }
     }
-    Ok(match_at_end(&state, body, &gets, path, path_state))
 }
 
 /// Returns true if the path matches the body with at least one rule of [`Pick`]. The rule picks the
@@ -183,38 +202,5 @@ fn fits_with(
     match path_match {
         PathMatch::Fits => Ok(true),
         PathMatch::Deviates(_) | PathMatch::Undecided => Ok(false),
-    }
-}
-
-/// Returns the result after all steps of the path. If the path is only a prefix, it matches. A
-/// whole path matches only if the body can be at its end. `state` is the state after the last step,
-/// and `gets` has the gets of the body.
-fn match_at_end(
-    state: &WalkState,
-    body: &[Action],
-    gets: &[Option<BodyGet>],
-    path: &[PathStep],
-    path_state: PathState,
-) -> PathMatch
-    requires gets { AreGets body.now gets.now }
-    requires tables { HasTables body.now state.now }
-    ensures { (kind : ActorKind)
-        → IsStateAt kind body.now path.now (length path.now) state.now
-        → IsBegun state.now
-        → IsMatch kind path_state body.now path.now result }
-{
-    match path_state {
-        PathState::Prefix => PathMatch::Fits,
-        PathState::Whole => {
-            if state.is_at(body.len()) {
-                PathMatch::Fits
-            } else {
-                PathMatch::Deviates(ExplainedPrefix {
-                    length: path.len(),
-                    excess: None,
-                    missing: state.missing_job(body, gets),
-                })
-            }
-        }
     }
 }

@@ -1,5 +1,4 @@
-//! The reasons why no joint walk over a body and a path continues, if jobs may belong to several
-//! classes.
+//! The reasons why no joint walk over a body and a path continues.
 
 ghost use Rattle.std.specs.Prelude.{◌≡◌, ◌+◌, ℕ, List, Some, length, slice_get};
 ghost use Rattle.job_bodies.specs.declared.action.Action.{Action};
@@ -14,12 +13,13 @@ ghost use Rattle.conformance.specs.Path.{Walks};
 ghost use Rattle.conformance.specs.WalkState.{is_at};
 ghost use Rattle.conformance.specs.WalkStates as spec;
 
-use crate::blocking_get::get_before_end;
+use crate::blocking_get::blocking_get;
 use crate::body_gets::BodyGet;
 use crate::furthest::{Reached, furthest};
 use crate::open_excess::OpenExcess;
 use crate::open_job::{count_in, first_in};
 use crate::row::has_submit_at;
+use crate::step::PathStep;
 use crate::walk_state::WalkState;
 use job_bodies::Action;
 
@@ -30,9 +30,31 @@ pub(crate) struct SubmitAhead {
     pub(crate) reached: Reached,
 }
 
+/// Returns the reason why no joint walk makes this step of the path, if none makes it. It is the
+/// excess of [`excess_in`] if the step is a submit, and `None` if it is a get.
+pub(crate) fn excess_at(
+    states: &[WalkState],
+    body: &[Action],
+    gets: &[Option<BodyGet>],
+    step: &PathStep,
+) -> Option<OpenExcess>
+    requires gets { AreGets body.now gets.now }
+    requires tables { spec.HaveTables body.now states.now }
+    ensures { (kind : ActorKind) (path : List PathStep) (place : ℕ)
+        → slice_get path place ≡ Some step.now
+        → spec.AreStatesAt kind body.now path place states.now
+        → ((index : ℕ) (jobs : List OpenJob) → ¬ Walks kind body.now path index (place + 1) jobs)
+        → IsReason kind body.now path place result }
+{
+    match step {
+        PathStep::Submits(classes) => excess_in(states, body, gets, classes),
+        PathStep::Gets(_) => None,
+    }
+}
+
 /// Returns the open jobs of the path that block the body before its next submit of one of the
 /// classes. Returns `None` if the body has no such submit left.
-pub(crate) fn excess_in(
+fn excess_in(
     states: &[WalkState],
     body: &[Action],
     gets: &[Option<BodyGet>],
@@ -48,7 +70,7 @@ pub(crate) fn excess_in(
 {
     let ahead = submit_ahead(states, body, classes)?;
     let state = states.get(ahead.reached.state)?;
-    let get = get_before_end(&state.row, &state.passes, gets, ahead.submit)?;
+    let get = blocking_get(&state.row, &state.passes, gets, ahead.submit)?;
     Some(OpenExcess {
         class: get.class,
         open_jobs: count_in(get.class, &state.jobs),
@@ -75,7 +97,7 @@ pub(crate) fn missing_in(
 {
     let reached = furthest(states, body.len())?;
     let state = states.get(reached.state)?;
-    let get = get_before_end(&state.row, &state.passes, gets, body.len())?;
+    let get = blocking_get(&state.row, &state.passes, gets, body.len())?;
     first_in(get.class, &state.jobs)
 }
 

@@ -1,9 +1,10 @@
-//! The joint walks over a body and a path in which jobs may belong to several classes. There is a
-//! [`WalkState`] for each list of jobs that can be open.
+//! The joint walks over a body and a path. The jobs of the path may belong to several classes. There
+//! is a [`WalkState`] for each list of jobs that can be open, with one class for each job.
 
-ghost use Rattle.std.specs.Prelude.{◌≡◌, ℕ, ◌+◌, ◌++◌, false, List, Some, IfOk, OnOk, IsTrue, map, slice_get};
+ghost use Rattle.std.specs.Prelude.{◌≡◌, ℕ, ◌+◌, ◌++◌, ◌∷◌, [], false, List, Some, IfOk, OnOk, IsTrue, map, slice_get};
 ghost use Rattle.std.specs.List.{list_any};
 ghost use Rattle.support.specs.In.{In};
+ghost use Rattle.conformance.specs.declared.step.ActorKind.{ActorKind};
 ghost use Rattle.conformance.specs.declared.step.PathStep.{PathStep};
 ghost use Rattle.conformance.specs.declared.walk_state.WalkState.{WalkState};
 ghost use Rattle.conformance.specs.BodyGets.{AreGets};
@@ -17,6 +18,22 @@ use crate::walk_state::WalkState;
 use job_bodies::Action;
 use std::alloc::{AllocError, Global};
 
+/// Returns the state before the first step of a path, as a list.
+///
+/// # Errors
+///
+/// Returns [`AllocError`] if memory runs out.
+pub(crate) fn start_states(alloc: Global, body: &[Action]) -> Result<Vec<WalkState>, AllocError>
+    ensures states { (kind : ActorKind) (path : List PathStep)
+        → IfOk result (λ states. spec.AreStatesAt kind body.now path 0 states.items) }
+    ensures some { IfOk result (λ states. spec.HasState states.items) }
+{
+    let state = WalkState::new(alloc, body)?;
+    let mut states = Vec::with_capacity(alloc, 1)?;
+    states.push(state)?;
+    Ok(states)
+}
+
 /// Returns the states after `step`, which is at index `place` of the path. `states` has the states
 /// before the step, and `gets` has the gets of the body. The result is empty if no joint walk makes
 /// the step.
@@ -26,7 +43,7 @@ use std::alloc::{AllocError, Global};
 /// Returns [`AllocError`] if memory runs out.
 pub(crate) fn states_after(
     alloc: Global,
-    states: &[WalkState],
+    states: Vec<WalkState>,
     kind: ActorKind,
     body: &[Action],
     gets: &[Option<BodyGet>],
@@ -34,21 +51,21 @@ pub(crate) fn states_after(
     step: &PathStep,
 ) -> Result<Vec<WalkState>, AllocError>
     requires gets { AreGets body.now gets.now }
-    requires tables { spec.HaveTables body.now states.now }
+    requires tables { spec.HaveTables body.now states.items }
     ensures states { (path : List PathStep)
         → slice_get path place ≡ Some step.now
-        → spec.AreStatesAt kind body.now path place states.now
+        → spec.AreStatesAt kind body.now path place states.items
         → IfOk result (λ next. spec.AreStatesAt kind body.now path (place + 1) next.items) }
     ensures distinct { IfOk result (λ next. spec.AreDistinct next.items) }
 {
     match step {
         PathStep::Submits(classes) => {
             let next = states_after_submit(alloc, states, body, gets, place, classes)?;
-            merged(alloc, &next)
+            merged(alloc, next)
         }
         PathStep::Gets(job) => {
             let next = states_after_get(alloc, states, kind, body, gets, *job)?;
-            merged(alloc, &next)
+            merged(alloc, next)
         }
     }
 }
@@ -57,16 +74,16 @@ pub(crate) fn states_after(
 /// the index of the submit in the path.
 fn states_after_submit(
     alloc: Global,
-    states: &[WalkState],
+    states: Vec<WalkState>,
     body: &[Action],
     gets: &[Option<BodyGet>],
     job: usize,
     classes: &[usize],
 ) -> Result<Vec<WalkState>, AllocError>
     requires gets { AreGets body.now gets.now }
-    requires tables { spec.HaveTables body.now states.now }
+    requires tables { spec.HaveTables body.now states.items }
     ensures { IfOk result (λ next.
-        spec.AreAfterSubmit body.now job (spec.choices states.now classes.now) next.items) }
+        spec.AreAfterSubmit body.now job (spec.choices states.items classes.now) next.items) }
 {
     let mut next = Vec::new(alloc);
     for state in states {
@@ -76,28 +93,76 @@ fn states_after_submit(
 }
 
 /// Appends the states that follow `state` after the submit, one for each class with which the body
-/// can make the submit.
+/// can make the submit. Only all but the last class need a copy of the state.
 fn push_after_submit(
     alloc: Global,
     next: &mut Vec<WalkState>,
-    state: &WalkState,
+    state: WalkState,
     body: &[Action],
     gets: &[Option<BodyGet>],
     job: usize,
     classes: &[usize],
 ) -> Result<(), AllocError>
     requires gets { AreGets body.now gets.now }
+    requires tables { HasTables body.now state }
+    ensures { (choices : List (WalkState × ℕ))
+        → spec.AreAfterSubmit body.now job choices next.old.items
+        → OnOk result
+        (spec.AreAfterSubmit body.now job (choices ++ map (λ class. (state, class)) classes.now) next.new.items) }
+{
+    if classes.is_empty() {
+        return Ok(());
+    }
+    let last = classes.len() - 1;
+    for index in 0..last {
+        push_copy_after_submit(alloc, next, &state, body, gets, job, classes[index])?;
+    }
+    push_submitted(next, state, body, gets, job, classes[last])
+}
+
+/// Appends a copy of the state after a submit of a job of the class, if the body can make it.
+fn push_copy_after_submit(
+    alloc: Global,
+    next: &mut Vec<WalkState>,
+    state: &WalkState,
+    body: &[Action],
+    gets: &[Option<BodyGet>],
+    job: usize,
+    class: usize,
+) -> Result<(), AllocError>
+    requires gets { AreGets body.now gets.now }
     requires tables { HasTables body.now state.now }
     ensures { (choices : List (WalkState × ℕ))
         → spec.AreAfterSubmit body.now job choices next.old.items
         → OnOk result
-        (spec.AreAfterSubmit body.now job (choices ++ map (λ class. (state.now, class)) classes.now) next.new.items) }
+        (spec.AreAfterSubmit body.now job (choices ++ (state.now, class) ∷ []) next.new.items) }
 {
-    for class in classes {
-        if state.can_submit(body, *class) {
-            let after = state.after_submit(alloc, body, gets, job, *class)?;
-            next.push(after)?;
-        }
+    if state.can_submit(body, class) {
+        let after = state.after_submit(alloc, body, gets, job, class)?;
+        next.push(after)?;
+    }
+    Ok(())
+}
+
+/// Appends the state after a submit of a job of the class, if the body can make it.
+fn push_submitted(
+    next: &mut Vec<WalkState>,
+    mut state: WalkState,
+    body: &[Action],
+    gets: &[Option<BodyGet>],
+    job: usize,
+    class: usize,
+) -> Result<(), AllocError>
+    requires gets { AreGets body.now gets.now }
+    requires tables { HasTables body.now state }
+    ensures { (choices : List (WalkState × ℕ))
+        → spec.AreAfterSubmit body.now job choices next.old.items
+        → OnOk result
+        (spec.AreAfterSubmit body.now job (choices ++ (state, class) ∷ []) next.new.items) }
+{
+    if state.can_submit(body, class) {
+        state.submit(body, gets, job, class)?;
+        next.push(state)?;
     }
     Ok(())
 }
@@ -106,35 +171,57 @@ fn push_after_submit(
 /// in which no walk is left.
 fn states_after_get(
     alloc: Global,
-    states: &[WalkState],
+    states: Vec<WalkState>,
     kind: ActorKind,
     body: &[Action],
     gets: &[Option<BodyGet>],
     job: usize,
 ) -> Result<Vec<WalkState>, AllocError>
     requires gets { AreGets body.now gets.now }
-    requires tables { spec.HaveTables body.now states.now }
-    ensures { IfOk result (λ next. spec.AreAfterGet kind body.now job states.now next.items) }
+    requires tables { spec.HaveTables body.now states.items }
+    ensures { IfOk result (λ next. spec.AreAfterGet kind body.now job states.items next.items) }
 {
     let mut next = Vec::new(alloc);
     for state in states {
-        let after = state.after_get(alloc, kind, body, gets, job)?;
-        if after.is_begun() {
-            next.push(after)?;
-        }
+        push_after_get(&mut next, state, kind, body, gets, job)?;
     }
     Ok(next)
 }
 
+/// Appends the state after a get of the job, if it still has a walk.
+fn push_after_get(
+    next: &mut Vec<WalkState>,
+    mut state: WalkState,
+    kind: ActorKind,
+    body: &[Action],
+    gets: &[Option<BodyGet>],
+    job: usize,
+) -> Result<(), AllocError>
+    requires gets { AreGets body.now gets.now }
+    requires tables { HasTables body.now state }
+    ensures { (states : List WalkState)
+        → spec.AreAfterGet kind body.now job states next.old.items
+        → OnOk result (spec.AreAfterGet kind body.now job (states ++ state ∷ []) next.new.items) }
+{
+    state.get(kind, body, gets, job);
+    if state.is_begun() {
+        next.push(state)?;
+    }
+    Ok(())
+}
+
 /// Returns the states, with one state in place of all that have the same open jobs. States that
 /// differ only in the class of a job have the same open jobs once the path has got this job.
-fn merged(alloc: Global, states: &[WalkState]) -> Result<Vec<WalkState>, AllocError>
-    ensures { IfOk result (λ merged. spec.AreMerged states.now merged.items) }
+fn merged(alloc: Global, states: Vec<WalkState>) -> Result<Vec<WalkState>, AllocError>
+    ensures { IfOk result (λ merged. spec.AreMerged states.items merged.items) }
 {
+    if states.len() <= 1 {
+        return Ok(states);
+    }
     let mut merged = Vec::new(alloc);
-    for state in states {
+    for state in &states {
         if !has_state_with(&merged, &state.jobs) {
-            let joined = merged_state(alloc, states, state)?;
+            let joined = merged_state(alloc, &states, state)?;
             merged.push(joined)?;
         }
     }

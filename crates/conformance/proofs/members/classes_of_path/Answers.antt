@@ -41,5 +41,8 @@ returns-clause-explained c = (class_whole c.args.plan.now c.args.label.now c.arg
 pub returns-clause-decided : goal.returns-clause-decided
 returns-clause-decided c = (class_whole c.args.plan.now c.args.label.now c.args.pool.now c.args.path_state c.args.path.now c.loop-class.reported c.loop-class.class (omega (arith, c.loop-class-test.false, c.loop-class.auto.class-end, ap length c.classes-class-end.ensures.value)) c.loop-class.invariant).decided
 
+pub returns-clause-many : goal.returns-clause-many
+returns-clause-many c = (class_whole c.args.plan.now c.args.label.now c.args.pool.now c.args.path_state c.args.path.now c.loop-class.reported c.loop-class.class (omega (arith, c.loop-class-test.false, c.loop-class.auto.class-end, ap length c.classes-class-end.ensures.value)) c.loop-class.invariant).many
+
 pub returns-clause-few : goal.returns-clause-few
 returns-clause-few c = (class_whole c.args.plan.now c.args.label.now c.args.pool.now c.args.path_state c.args.path.now c.loop-class.reported c.loop-class.class (omega (arith, c.loop-class-test.false, c.loop-class.auto.class-end, ap length c.classes-class-end.ensures.value)) c.loop-class.invariant).few

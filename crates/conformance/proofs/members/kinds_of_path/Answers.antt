@@ -41,5 +41,8 @@ returns-clause-explained c = (kind_whole c.args.plan.now c.args.label.now c.args
 pub returns-clause-decided : goal.returns-clause-decided
 returns-clause-decided c = (kind_whole c.args.plan.now c.args.label.now c.args.path_state c.args.path.now c.loop-kind.reported c.loop-kind.kind (omega (arith, c.loop-kind-test.false, c.loop-kind.auto.kind-end, ap length c.clients-kind-end.ensures.value)) c.loop-kind.invariant).decided
 
+pub returns-clause-many : goal.returns-clause-many
+returns-clause-many c = (kind_whole c.args.plan.now c.args.label.now c.args.path_state c.args.path.now c.loop-kind.reported c.loop-kind.kind (omega (arith, c.loop-kind-test.false, c.loop-kind.auto.kind-end, ap length c.clients-kind-end.ensures.value)) c.loop-kind.invariant).many
+
 pub returns-clause-few : goal.returns-clause-few
 returns-clause-few c = (kind_whole c.args.plan.now c.args.label.now c.args.path_state c.args.path.now c.loop-kind.reported c.loop-kind.kind (omega (arith, c.loop-kind-test.false, c.loop-kind.auto.kind-end, ap length c.clients-kind-end.ensures.value)) c.loop-kind.invariant).few

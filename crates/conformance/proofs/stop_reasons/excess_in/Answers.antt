@@ -23,8 +23,8 @@ returns-in_err-state c = λ kind path place at are none.
     let within = slice_get_within c.args.states.now c.in_ok-ahead.ahead.reached.state found.state found.state_is in
     absurd (false≢true (c.in_err-state.ensures.lookup.0 ∙ lt-ltb c.in_ok-ahead.ahead.reached.state (length c.args.states.now) within))
 
-pub get_before_end-requires-clause-row : goal.get_before_end-requires-clause-row
-get_before_end-requires-clause-row c =
+pub blocking_get-requires-clause-row : goal.blocking_get-requires-clause-row
+blocking_get-requires-clause-row c =
     let next = c.in_ok-ahead.ensures in
     let found = next.reached in
     let same : c.in_ok-state.state.now ≡ found.state = c.in_ok-state.ensures.lookup.1 ∙ get_or_from_slice_get c.args.states.now c.in_ok-ahead.ahead.reached.state found.state _ found.state_is in
@@ -33,8 +33,8 @@ get_before_end-requires-clause-row c =
     let within = next.in_body in
     omega (arith, long, within)
 
-pub get_before_end-requires-clause-passes : goal.get_before_end-requires-clause-passes
-get_before_end-requires-clause-passes c =
+pub blocking_get-requires-clause-passes : goal.blocking_get-requires-clause-passes
+blocking_get-requires-clause-passes c =
     let next = c.in_ok-ahead.ensures in
     let found = next.reached in
     let same : c.in_ok-state.state.now ≡ found.state = c.in_ok-state.ensures.lookup.1 ∙ get_or_from_slice_get c.args.states.now c.in_ok-ahead.ahead.reached.state found.state _ found.state_is in

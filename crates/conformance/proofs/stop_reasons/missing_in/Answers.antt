@@ -4,7 +4,7 @@ use Rattle.std.proofs.lemmas.Option.{slice_get_within, get_or_from_slice_get}
 use Rattle.support.specs.In.{In}
 use Rattle.support.proofs.Members.{In-slice_get}
 use Rattle.conformance.specs.declared.walk_state.WalkState.{WalkState}
-use Rattle.conformance.specs.BlockingGet.{IsBlocked, IsBlockingEnd}
+use Rattle.conformance.specs.BlockingGet.{IsBlocked, IsBlocking}
 use Rattle.conformance.specs.MissingJob.{first_in}
 use Rattle.conformance.proofs.StoppedStates.{none_reached, not_at_end, missing_at_end}
 use Rattle.conformance.proofs.stop_reasons.missing_in.Goals as goal
@@ -20,16 +20,16 @@ returns-in_err-state c = λ kind path place are index jobs w short.
     let within = slice_get_within c.args.states.now c.in_ok-reached.reached.state found.state found.state_is in
     absurd (false≢true (c.in_err-state.ensures.lookup.0 ∙ lt-ltb c.in_ok-reached.reached.state (length c.args.states.now) within))
 
-pub get_before_end-requires-clause-row : goal.get_before_end-requires-clause-row
-get_before_end-requires-clause-row c =
+pub blocking_get-requires-clause-row : goal.blocking_get-requires-clause-row
+blocking_get-requires-clause-row c =
     let found = c.in_ok-reached.ensures in
     let same : c.in_ok-state.state.now ≡ found.state = c.in_ok-state.ensures.lookup.1 ∙ get_or_from_slice_get c.args.states.now c.in_ok-reached.reached.state found.state _ found.state_is in
     let i = In-slice_get c.args.states.now c.in_ok-reached.reached.state found.state found.state_is in
     let long : length c.deref.result.now ≡ length c.args.body.now + 1 = ap length (c.deref.ensures.value ∙ ap (λ (s : WalkState). s.row.items) same) ∙ (c.requires.tables found.state i).row_length in
     omega (arith, long)
 
-pub get_before_end-requires-clause-passes : goal.get_before_end-requires-clause-passes
-get_before_end-requires-clause-passes c =
+pub blocking_get-requires-clause-passes : goal.blocking_get-requires-clause-passes
+blocking_get-requires-clause-passes c =
     let found = c.in_ok-reached.ensures in
     let same : c.in_ok-state.state.now ≡ found.state = c.in_ok-state.ensures.lookup.1 ∙ get_or_from_slice_get c.args.states.now c.in_ok-reached.reached.state found.state _ found.state_is in
     let i = In-slice_get c.args.states.now c.in_ok-reached.reached.state found.state found.state_is in
@@ -43,8 +43,8 @@ returns-in_err-get c = λ kind path place are index jobs w short.
     let found = c.in_ok-reached.ensures in
     let same : c.in_ok-state.state.now ≡ found.state = c.in_ok-state.ensures.lookup.1 ∙ get_or_from_slice_get a.states.now c.in_ok-reached.reached.state found.state _ found.state_is in
     let i = In-slice_get a.states.now c.in_ok-reached.reached.state found.state found.state_is in
-    let in_row = subst (λ (row : List Bool). IsBlockingEnd row c.deref-2.result.now a.gets.now end None) (c.deref.ensures.value ∙ ap (λ (s : WalkState). s.row.items) same) c.in_err-get.ensures in
-    let free = subst (λ (passes : List Bool). IsBlockingEnd found.state.row.items passes a.gets.now end None) (c.deref-2.ensures.value ∙ ap (λ (s : WalkState). s.passes.items) same) in_row in
+    let in_row = subst (λ (row : List Bool). IsBlocking row c.deref-2.result.now a.gets.now end None) (c.deref.ensures.value ∙ ap (λ (s : WalkState). s.row.items) same) c.in_err-get.ensures in
+    let free = subst (λ (passes : List Bool). IsBlocking found.state.row.items passes a.gets.now end None) (c.deref-2.ensures.value ∙ ap (λ (s : WalkState). s.passes.items) same) in_row in
     absurd (not_at_end kind a.body.now path place a.states.now are a.gets.now c.requires.gets short c.in_ok-reached.reached found i free)
 
 pub returns : goal.returns

@@ -1,31 +1,37 @@
-use Rattle.std.proofs.Common.{◌≡◌, List, ◌++◌, ◌∷◌, [], take, ap, sym, subst, ◌∙◌}
-use Rattle.std.specs.declared.alloc.Global.{Global}
-use Rattle.std.specs.declared.vec.Vec.{Vec}
-use Rattle.std.proofs.lemmas.Bool.{false≢true}
+use Rattle.std.proofs.Common.{◌≡◌, List, [], ◌++◌, ◌∷◌, sym, subst, ◌∙◌, append_assoc}
+use Rattle.std.proofs.lemmas.List.{nil_from_length}
 use Rattle.conformance.specs.declared.walk_state.WalkState.{WalkState}
 use Rattle.conformance.specs.WalkStates.{AreAfterGet}
-use Rattle.conformance.proofs.ReadStates.{read_in, take_read}
-use Rattle.conformance.proofs.StatesAfterGet.{one_after_get, none_more_after_get}
-use Rattle.conformance.proofs.WalkSteps.{begun_from_any, any_from_at}
-use Rattle.conformance.proofs.walk_states.states_after_get.Goals.{then-is_begun+in_ok-push, else-is_begun}
+use Rattle.conformance.proofs.ReadStates.{read_next, next_in, read_all}
+use Rattle.conformance.proofs.StatesAfterGet.{none_after_get}
 use Rattle.conformance.proofs.walk_states.states_after_get.Goals as goal
 
-pub after_get-requires-clause-tables : goal.after_get-requires-clause-tables
-after_get-requires-clause-tables c = c.requires.tables c.state-item.result (read_in c.args.states.now c.loop-state.state-index c.state-item.result c.loop-state-test.true c.state-item.is)
+pub loop-state-init : goal.loop-state-init
+loop-state-init c = record {
+  front = sym c.into_iter-state-iterator.ensures.into_iter_gives.0;
+  after = subst (λ (next : List WalkState). AreAfterGet c.args.kind c.args.body.now c.args.job [] next) (sym c.new-next.ensures.items) (none_after_get c.args.kind c.args.body.now c.args.job);
+}
+
+pub push_after_get-requires-clause-tables : goal.push_after_get-requires-clause-tables
+push_after_get-requires-clause-tables c =
+    let l = c.loop-state in
+    c.requires.tables c.in-Some.state
+    (next_in c.args.states.items l.yielded _ c.in-Some.state (read_next c.args.states.items l.yielded l.state-iterator.rest.items _ c.in-Some.state l.invariant.front c.in-Some.ensures.steps.0))
 
 pub loop-state-preserved : goal.loop-state-preserved
 loop-state-preserved c =
+    let l = c.loop-state in
+    let state = c.in-Some.state in
+    let front = read_next c.args.states.items l.yielded l.state-iterator.rest.items _ state l.invariant.front c.in-Some.ensures.steps.0 in
+    record {
+      front = front ∙ sym (append_assoc l.yielded (state ∷ []) _);
+      after = c.in_ok-push_after_get.ensures l.yielded l.invariant.after;
+    }
+
+pub returns : goal.returns
+returns c =
     let a = c.args in
-    let i = c.loop-state.state-index in
-    let after = c.in_ok-after.after in
-    let read = take i a.states.now ++ c.state-item.result ∷ [] in
-    subst (λ (states : List WalkState). AreAfterGet a.kind a.body.now a.job states c.if-is_begun.next.items) (sym (take_read a.states.now i c.state-item.result c.loop-state-test.true c.state-item.is))
-    (elim c.if-is_begun.branch [
-      | then-is_begun+in_ok-push w ↦
-          subst (λ (next : List WalkState). AreAfterGet a.kind a.body.now a.job read next) (sym (ap (λ (v : Vec WalkState Global). v.items) w.next-is ∙ w.in_ok-push.ensures.items))
-          (one_after_get a.kind a.body.now a.job (take i a.states.now) c.loop-state.next.items c.state-item.result after c.loop-state.invariant c.in_ok-after.ensures (begun_from_any after.row.items (sym c.is_begun.ensures ∙ w.if-is_begun.true)))
-      | else-is_begun w ↦
-          subst (λ (next : List WalkState). AreAfterGet a.kind a.body.now a.job read next) (sym (ap (λ (v : Vec WalkState Global). v.items) w.next-is))
-          (none_more_after_get a.kind a.body.now a.job (take i a.states.now) c.loop-state.next.items c.state-item.result after c.loop-state.invariant c.in_ok-after.ensures
-          (λ begun. false≢true (sym (sym c.is_begun.ensures ∙ w.if-is_begun.false) ∙ any_from_at after.row.items begun.0 begun.1)))
-    ])
+    let l = c.loop-state in
+    let rest = l.state-iterator.rest in
+    let none : rest.items ≡ [] = nil_from_length rest.items (sym rest.ok.0 ∙ c.in-None.ensures.steps.0) in
+    subst (λ (states : List WalkState). AreAfterGet a.kind a.body.now a.job states l.next.items) (sym (read_all a.states.items l.yielded rest.items l.invariant.front none)) l.invariant.after

@@ -3,7 +3,7 @@ use Rattle.job_bodies.specs.declared.action.Action.{Action}
 use Rattle.conformance.specs.declared.explained_prefix.ExplainedPrefix.{ExplainedPrefix}
 use Rattle.conformance.specs.declared.path_match.PathMatch.{PathMatch}
 use Rattle.conformance.specs.Path.{IsPathOf}
-use Rattle.conformance.specs.PathMatch.{OnFits, OnDeviates, IfDeviates, IsDecided, IsExplained, IsUnambiguous}
+use Rattle.conformance.specs.PathMatch.{OnFits, OnDeviates, IfDeviates, IsDecided, IsExplained, IsUnambiguous, HasManyOpenLists, OnUndecided}
 use Rattle.conformance.specs.FamilyResult.{IsCorrectResult}
 use Rattle.conformance.proofs.MatchedBodies.{reported_fits, reported_deviates, reported_undecided}
 use Rattle.conformance.proofs.family_match.FamilyMatch.match_body.Goals as goal
@@ -34,3 +34,4 @@ returns-in-Undecided c body_of matched same reported =
     let never : IsUnambiguous a.body.now a.path.now → ⊥ = λ only. subst IsDecided c.in-Undecided.is (c.in_ok-path_match.ensures.decided only) in
     reported_undecided a.kind body_of a.path_state a.path.now matched a.self.now.members.items a.self.now.explained a.self.now.is_decided a.number reported
     (λ only. never (subst (λ (body : List Action). IsUnambiguous body a.path.now) same only))
+    (subst (λ (body : List Action). HasManyOpenLists a.kind body a.path.now) (sym same) (subst (λ (m : PathMatch). OnUndecided m (HasManyOpenLists a.kind a.body.now a.path.now)) c.in-Undecided.is c.in_ok-path_match.ensures.many))
