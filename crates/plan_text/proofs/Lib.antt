@@ -17,3 +17,4 @@ pub mod EffectivePlans
 pub mod ReadSizes
 mod SpelledEntries
 mod SpelledPlan
+mod KeyNames

@@ -1,12 +1,12 @@
 -- Lemmas about the members of a table with one more member.
-use Rattle.std.proofs.Common.{◌≡◌, Bool, true, false, if◌then◌else◌, codes, List, [], ◌∷◌, String, Global, Ordering, Less, Equal, Greater, string_bytes, refl, ap}
+use Rattle.std.proofs.Common.{◌≡◌, Bool, true, false, codes, List, [], ◌∷◌, String, Global, Ordering, Less, Equal, Greater, string_bytes, refl, ap}
 use Rattle.std.specs.BTreeMap.{insert_entry}
 use Rattle.std.specs.Ordering.{match_ordering}
 use Rattle.std.specs.String.{string_cmp}
-use Rattle.toml.specs.Data.{Data, boolean, member, no_members}
+use Rattle.toml.specs.Data.{Data, member, no_members}
 use Rattle.toml.specs.View.{view, members_view}
 use Rattle.toml.specs.declared.value.Value.{Value}
-use Rattle.plan_text.specs.PlanDocument.{with_member, flag_and}
+use Rattle.plan_text.specs.PlanDocument.{with_member, with_flag, flag_and}
 
 -- the members of a table after a member was inserted before, at or after its first entry, as the order of the keys requires
 chosen : (o : Ordering) (k : String Global) (v : Value) (e : String Global × Value) (es more : List (String Global × Value)) → members_view more ≡ with_member (string_bytes k) (view v) (members_view es)
@@ -22,10 +22,8 @@ members_with k v (e ∷ es) = chosen (string_cmp k e.0) k v e es (insert_entry s
 
 -- inserting the keys of a pool in the order of the writer gives the members in ascending order
 pub pool_members : (core max name queue : Data) (prestart core_timeout may_reject : Bool)
-    → let named = with_member (codes "name") name (with_member (codes "max") max (with_member (codes "core") core no_members)) in
-    let started = if prestart then with_member (codes "prestart") (boolean true) named else named in
-    let timed = if core_timeout then with_member (codes "core_timeout") (boolean true) started else started in
-    with_member (codes "queue") queue (if may_reject then with_member (codes "may_reject") (boolean true) timed else timed)
+    → let sized = with_member (codes "queue") queue (with_member (codes "max") max (with_member (codes "core") core no_members)) in
+    with_flag (codes "may_reject") may_reject (with_flag (codes "core_timeout") core_timeout (with_flag (codes "prestart") prestart (with_member (codes "name") name sized)))
     ≡ member (codes "core") core
     (flag_and (codes "core_timeout") core_timeout (member (codes "max") max
     (flag_and (codes "may_reject") may_reject (member (codes "name") name (flag_and (codes "prestart") prestart (member (codes "queue") queue no_members))))))

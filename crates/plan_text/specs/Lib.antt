@@ -11,3 +11,6 @@ pub mod Spelling
 pub mod PlanDocument
 pub mod EffectivePlan
 pub mod TextPlace
+pub mod Tokens
+pub mod Outline
+pub mod Places

@@ -71,3 +71,7 @@ abbrev pub with_member : List ℕ → Data → Members → Members
 with_member key value no_members = member key value no_members
 with_member key value (member first there rest) =
     match_ordering (slice_cmp nat_cmp key first) (member key value (member first there rest)) (member first value rest) (member first there (with_member key value rest))
+
+-- the members after `true` is stored at `key` if the flag is set
+abbrev pub with_flag : List ℕ → Bool → Members → Members
+with_flag key flag members = if flag then with_member key (boolean true) members else members

@@ -17,6 +17,7 @@ mod laws;
 mod names;
 mod outline;
 mod parsed_action;
+mod part_search;
 mod place;
 mod places;
 mod plan_of;

@@ -1,33 +1,41 @@
-//! The outline of a text: a list of its tables. For each table, the outline has the offsets of the
-//! keys, of the values, and of the elements of arrays. [`Places`](crate::Places) uses the outline
-//! to find the parts of a plan. All offsets are in bytes.
+//! The outline of a text: the parts of its tables, in order. [`Places`](crate::Places) uses the
+//! outline to find the parts of a plan. All offsets are in bytes.
+
+ghost use Rattle.std.specs.Prelude.{◌≡◌, IfOk};
+ghost use Rattle.plan_text.specs.Outline.{range_of, header_at, key_at, ended_header, value_part, part_at, line_after, after_begin, after_header, after_key, after_value, parts_of};
 
 use crate::token::{Kind, Token};
 use std::alloc::{AllocError, Global};
 
-/// A key with its range in the text, from `start` to `end`, and the offset of the key's value.
-#[derive(Drop)]
-pub(crate) struct Key {
+/// A range of a text, from the byte at `start` up to, but not including, the byte at `end`.
+#[derive(Clone, Copy)]
+pub(crate) struct Range {
     pub(crate) start: usize,
     pub(crate) end: usize,
-    pub(crate) value: usize,
-    /// The offset of each element of an array, or of each key of an inline table. If the array or
-    /// inline table is empty or ends with a comma, the offset of its closing bracket is added at
-    /// the end. For any other value, the list is empty.
-    pub(crate) elements: Vec<usize>,
 }
 
-/// A table header, such as `[[pool]]`, with the keys after it. The first table of a text has no
-/// header, and its keys are those before the first header.
-#[derive(Drop)]
-pub(crate) struct Table {
-    /// The offset of the first bracket of the header, or 0 for the first table.
-    pub(crate) header: usize,
-    /// The range of the table's name in the header.
-    pub(crate) name: (usize, usize),
+/// A table header, such as `[[pool]]`.
+#[derive(Clone, Copy)]
+pub(crate) struct Header {
+    /// The offset of the first bracket.
+    pub(crate) start: usize,
+    /// The range of the table's name.
+    pub(crate) name: Range,
     /// Whether the header has double brackets.
     pub(crate) in_list: bool,
-    pub(crate) keys: Vec<Key>,
+}
+
+/// A part of a text. The parts of a table follow its header, the value of a key follows the key,
+/// and the elements of an array follow the array.
+#[derive(Clone, Copy)]
+pub(crate) enum Part {
+    Header(Header),
+    Key(Range),
+    /// The value of the last key, which begins at this offset.
+    Value(usize),
+    /// An element of an array, or a key of an inline table, which begins at this offset. If the
+    /// array or inline table is empty or ends with a comma, its closing bracket is an element too.
+    Element(usize),
 }
 
 /// The part of a line that the parser is in.
@@ -35,8 +43,8 @@ pub(crate) struct Table {
 enum LineState {
     /// At the start of a line.
     Begin,
-    /// In a table header, after this number of opening brackets.
-    Head(u8),
+    /// In a table header, which is read up to here.
+    Head(Header),
     /// After a key.
     Key,
     /// In a value, inside `depth` open brackets. If `is_next` is true, the next token begins the
@@ -47,164 +55,165 @@ enum LineState {
     Rest,
 }
 
-/// The parser of an outline: its state within the current line, and the tables that it has found so
-/// far.
-#[derive(Drop)]
-struct Outline {
-    at: LineState,
-    tables: Vec<Table>,
-}
-
-/// Returns the tables of a text, given its tokens.
-pub(crate) fn outline_of(alloc: Global, tokens: &[Token]) -> Result<Vec<Table>, AllocError> {
-    let mut outline = Outline {
-        at: LineState::Begin,
-        tables: Vec::new(alloc),
-    };
-    outline.tables.push(table_at(alloc, 0))?;
-    for token in tokens.iter().copied() {
-        outline.process(alloc, token)?;
-    }
-    Ok(outline.tables)
-}
-
-fn table_at(alloc: Global, header: usize) -> Table {
-    Table {
-        header,
-        name: (header, header),
-        in_list: false,
-        keys: Vec::new(alloc),
-    }
-}
-
-fn key_at(alloc: Global, token: Token) -> Key {
-    Key {
-        start: token.start,
-        end: token.end,
-        value: token.start,
-        elements: Vec::new(alloc),
-    }
-}
-
-impl Outline {
-    /// Processes one token.
-    fn process(&mut self, alloc: Global, token: Token) -> Result<(), AllocError> {
-        match self.at {
-            LineState::Begin => self.begin(alloc, token),
-            LineState::Head(brackets) => {
-                self.header(brackets, token);
-                Ok(())
-            }
-            LineState::Key => {
-                self.after_key(token);
-                Ok(())
-            }
-            LineState::Value { depth, is_next } => self.value(depth, is_next, token),
-            LineState::Rest => {
-                if token.kind == Kind::LineEnd {
-                    self.at = LineState::Begin;
-                }
-                Ok(())
-            }
+/// Returns the parts of a text, given its tokens.
+#[tactic(auto, unfolding(crate::specs::Outline::parts_of))]
+pub(crate) fn parts_of(alloc: Global, tokens: &[Token]) -> Result<Vec<Part>, AllocError>
+    ensures { IfOk result (λ parts. parts.items ≡ parts_of tokens.now) }
+{
+    let mut parts = Vec::new(alloc);
+    let mut line = LineState::Begin;
+    for token in tokens {
+        if let Some(part) = part_at(line, *token) {
+            parts.push(part)?;
         }
+        line = line_after(line, *token);
     }
+    Ok(parts)
+}
 
-    fn begin(&mut self, alloc: Global, token: Token) -> Result<(), AllocError> {
-        match token.kind {
-            Kind::LineEnd => Ok(()),
-            Kind::Mark(b'[') => {
-                self.tables.push(table_at(alloc, token.start))?;
-                self.at = LineState::Head(1);
-                Ok(())
-            }
-            Kind::Mark(_) => {
-                self.at = LineState::Rest;
-                Ok(())
-            }
-            Kind::Word | Kind::Quoted => {
-                self.at = LineState::Key;
-                if let Some(table) = self.tables.last_mut() {
-                    table.keys.push(key_at(alloc, token))?;
-                }
-                Ok(())
-            }
-        }
+/// Returns the part that begins at this token, or the header that ends before it. Returns `None` if
+/// there is none.
+#[tactic(auto, unfolding(crate::specs::Outline::part_at))]
+fn part_at(line: LineState, token: Token) -> Option<Part>
+    ensures { result ≡ part_at line token }
+{
+    match line {
+        LineState::Begin => key_at(token),
+        LineState::Head(header) => ended_header(header, token),
+        LineState::Value { depth, is_next } => value_part(depth, is_next, token),
+        LineState::Key | LineState::Rest => None,
     }
+}
 
-    fn header(&mut self, brackets: u8, token: Token) {
-        match token.kind {
-            Kind::LineEnd => self.at = LineState::Begin,
-            Kind::Mark(b'[') => {
-                self.at = LineState::Head(brackets.saturating_add(1));
-                if let Some(table) = self.tables.last_mut() {
-                    table.in_list = true;
-                }
-            }
-            Kind::Mark(_) => self.at = LineState::Rest,
-            Kind::Word | Kind::Quoted => {
-                if let Some(table) = self.tables.last_mut() {
-                    table.name = (token.start, token.end);
-                }
-            }
-        }
+fn key_at(token: Token) -> Option<Part>
+    ensures { result ≡ key_at token.kind token }
+{
+    match token.kind {
+        Kind::Word | Kind::Quoted => Some(Part::Key(range_of(token))),
+        Kind::Mark(_) | Kind::LineEnd => None,
     }
+}
 
-    fn after_key(&mut self, token: Token) {
-        self.at = match token.kind {
-            Kind::Mark(b'=') => LineState::Value {
-                depth: 0,
-                is_next: true,
-            },
+fn ended_header(header: Header, token: Token) -> Option<Part>
+    ensures { result ≡ ended_header token.kind header }
+{
+    match token.kind {
+        Kind::Mark(b'[') | Kind::Word | Kind::Quoted => None,
+        Kind::Mark(_) | Kind::LineEnd => Some(Part::Header(header)),
+    }
+}
+
+fn value_part(depth: usize, is_next: bool, token: Token) -> Option<Part>
+    ensures { result ≡ value_part token.kind depth is_next token.start }
+{
+    if !is_next || matches!(token.kind, Kind::LineEnd) {
+        return None;
+    }
+    match depth {
+        0 => Some(Part::Value(token.start)),
+        1 => Some(Part::Element(token.start)),
+        _ => None,
+    }
+}
+
+/// Returns the part of a line that the parser is in after this token.
+#[tactic(auto, unfolding(crate::specs::Outline::line_after))]
+fn line_after(line: LineState, token: Token) -> LineState
+    ensures { result ≡ line_after line token }
+{
+    match line {
+        LineState::Begin => after_begin(token),
+        LineState::Head(header) => after_header(header, token),
+        LineState::Key => after_key(token),
+        LineState::Value { depth, is_next } => after_value(depth, is_next, token),
+        LineState::Rest => match token.kind {
             Kind::LineEnd => LineState::Begin,
             Kind::Mark(_) | Kind::Word | Kind::Quoted => LineState::Rest,
-        };
+        },
     }
+}
 
-    fn value(&mut self, depth: usize, is_next: bool, token: Token) -> Result<(), AllocError> {
-        if token.kind == Kind::LineEnd {
-            if depth == 0 {
-                self.at = LineState::Begin;
-            }
-            return Ok(());
-        }
-        if is_next {
-            self.record_start(depth, token.start)?;
-        }
-        self.at = match token.kind {
-            Kind::Mark(b'[' | b'{') => LineState::Value {
-                depth: depth.saturating_add(1),
-                is_next: true,
-            },
-            Kind::Mark(b']' | b'}') => LineState::Value {
-                depth: depth.saturating_sub(1),
-                is_next: false,
-            },
-            Kind::Mark(b',') => LineState::Value {
-                depth,
-                is_next: true,
-            },
-            Kind::Mark(_) | Kind::Word | Kind::Quoted | Kind::LineEnd => LineState::Value {
-                depth,
-                is_next: false,
-            },
-        };
-        Ok(())
+fn after_begin(token: Token) -> LineState
+    ensures { result ≡ after_begin token }
+{
+    match token.kind {
+        Kind::LineEnd => LineState::Begin,
+        Kind::Mark(b'[') => LineState::Head(header_at(token.start)),
+        Kind::Mark(_) => LineState::Rest,
+        Kind::Word | Kind::Quoted => LineState::Key,
     }
+}
 
-    /// Records the offset of a token. With `depth` 0, the token begins the value of the last key.
-    /// With `depth` 1, it begins an element of this value. With a greater depth, does nothing.
-    fn record_start(&mut self, depth: usize, start: usize) -> Result<(), AllocError> {
-        let Some(table) = self.tables.last_mut() else {
-            return Ok(());
-        };
-        let Some(key) = table.keys.last_mut() else {
-            return Ok(());
-        };
-        match depth {
-            0 => key.value = start,
-            1 => key.elements.push(start)?,
-            _ => {}
-        }
-        Ok(())
+fn after_header(header: Header, token: Token) -> LineState
+    ensures { result ≡ after_header header token }
+{
+    match token.kind {
+        Kind::LineEnd => LineState::Begin,
+        Kind::Mark(b'[') => LineState::Head(Header {
+            in_list: true,
+            ..header
+        }),
+        Kind::Mark(_) => LineState::Rest,
+        Kind::Word | Kind::Quoted => LineState::Head(Header {
+            name: range_of(token),
+            ..header
+        }),
+    }
+}
+
+fn after_key(token: Token) -> LineState
+    ensures { result ≡ after_key token }
+{
+    match token.kind {
+        Kind::Mark(b'=') => LineState::Value {
+            depth: 0,
+            is_next: true,
+        },
+        Kind::LineEnd => LineState::Begin,
+        Kind::Mark(_) | Kind::Word | Kind::Quoted => LineState::Rest,
+    }
+}
+
+fn after_value(depth: usize, is_next: bool, token: Token) -> LineState
+    ensures { result ≡ after_value depth is_next token }
+{
+    match token.kind {
+        Kind::LineEnd if depth == 0 => LineState::Begin,
+        Kind::LineEnd => LineState::Value { depth, is_next },
+        Kind::Mark(b'[' | b'{') => LineState::Value {
+            depth: depth.saturating_add(1),
+            is_next: true,
+        },
+        Kind::Mark(b']' | b'}') => LineState::Value {
+            depth: depth.saturating_sub(1),
+            is_next: false,
+        },
+        Kind::Mark(b',') => LineState::Value {
+            depth,
+            is_next: true,
+        },
+        Kind::Mark(_) | Kind::Word | Kind::Quoted => LineState::Value {
+            depth,
+            is_next: false,
+        },
+    }
+}
+
+fn header_at(start: usize) -> Header
+    ensures { result ≡ header_at start }
+{
+    Header {
+        start,
+        name: Range { start, end: start },
+        in_list: false,
+    }
+}
+
+fn range_of(token: Token) -> Range
+    ensures { result ≡ range_of token }
+{
+    Range {
+        start: token.start,
+        end: token.end,
     }
 }

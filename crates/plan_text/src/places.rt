@@ -1,9 +1,14 @@
 //! The positions of the parts of a plan in its text.
 
-use crate::outline::{Key, Table, outline_of};
+ghost use Rattle.std.specs.Prelude.{◌≡◌, IfOk, IfSome};
+ghost use Rattle.plan_text.specs.Places.{start_of, entry_start, key_start, value_start, element_start, top_start, IsPlaceOf, IsNameAt};
+
+use crate::outline::{Part, parts_of};
+use crate::part_search::{element_in, entry_in, entry_key_in, start_of, top_in, value_in};
 use crate::place::{TextPlace, place_at};
 use crate::tokens::tokens_of;
 use std::alloc::{AllocError, Global};
+use std::marker::Model;
 
 /// An index of the positions of the parts of a plan in its text.
 ///
@@ -12,12 +17,23 @@ use std::alloc::{AllocError, Global};
 /// `[[client]]`. The methods return `None` for a part that the index lacks. The caller can then use
 /// the position of a larger part, such as that of the entry instead of a key.
 ///
-/// The contracts do not say at which byte a part begins. They only say, at [`place_at`], which line
-/// and column a byte has.
+/// In contracts, an index is the text that it was built for. Each method returns the position of the
+/// byte at an offset that a definition gives for this text, such as `key_start`.
 #[derive(Drop)]
 pub struct Places<'a> {
     text: &'a [u8],
-    tables: Vec<Table>,
+    parts: Vec<Part>,
+}
+
+impl<'a> Model for Places<'a> {
+    ghost use Rattle.std.specs.Prelude.{◌≡◌, List, ℕ};
+    ghost use Rattle.plan_text.specs.Outline.{outline_of};
+
+    ghost Value = { List ℕ };
+
+    ghost view = { λ places. places.text.now };
+
+    ghost invariant = { λ places. places.parts.items ≡ outline_of places.text.now };
 }
 
 impl<'a> Places<'a> {
@@ -26,94 +42,75 @@ impl<'a> Places<'a> {
     /// # Errors
     ///
     /// Returns [`AllocError`] if memory runs out.
-    pub fn of(alloc: Global, text: &'a [u8]) -> Result<Places<'a>, AllocError> {
+    #[tactic(auto, unfolding(crate::specs::Outline::outline_of))]
+    pub fn of(alloc: Global, text: &'a [u8]) -> Result<Places<'a>, AllocError>
+        ensures { IfOk result (λ places. places ≡ text.now) }
+    {
         let tokens = tokens_of(alloc, text)?;
-        let tables = outline_of(alloc, &tokens)?;
-        Ok(Places { text, tables })
+        let parts = parts_of(alloc, &tokens)?;
+        Ok(Places { text, parts })
     }
 
     /// Returns the position of an entry's header, such as `[[pool]]`. The entry is at `index`,
     /// counted from 0, in the list named `list`. Returns `None` if no such header was found.
-    pub fn entry(&self, list: &str, index: usize) -> Option<TextPlace> {
-        let table = self.table(list, index)?;
-        Some(place_at(self.text, table.header))
+    #[tactic(auto, unfolding(crate::specs::Places::entry_start))]
+    pub fn entry(&self, list: &str, index: usize) -> Option<TextPlace>
+        ensures { IsPlaceOf self.now (entry_start self.now list.now index) result }
+    {
+        let parts = entry_in(self.text, &self.parts, list, index)?;
+        place_of(self.text, parts)
     }
 
     /// Returns the position of a key in an entry. The key is named `key`, and the entry is at
     /// `index` in the list named `list`. Returns `None` if no such key was found.
-    pub fn key(&self, list: &str, index: usize, key: &str) -> Option<TextPlace> {
-        let key = self.key_of(self.table(list, index)?, key)?;
-        Some(place_at(self.text, key.start))
+    #[tactic(auto, unfolding(crate::specs::Places::key_start))]
+    pub fn key(&self, list: &str, index: usize, key: &str) -> Option<TextPlace>
+        ensures place { IsPlaceOf self.now (key_start self.now list.now index key.now) result }
+        ensures named { IfSome result (IsNameAt self.now key.now) }
+    {
+        let parts = entry_key_in(self.text, &self.parts, list, index, key)?;
+        place_of(self.text, parts)
     }
 
     /// Returns the position of a value in an entry. The key of the value is named `key`, and the
-    /// entry is at `index` in the list named `list`. Returns `None` if no such key was found.
-    pub fn value(&self, list: &str, index: usize, key: &str) -> Option<TextPlace> {
-        let key = self.key_of(self.table(list, index)?, key)?;
-        Some(place_at(self.text, key.value))
+    /// entry is at `index` in the list named `list`. Returns `None` if no such key was found. If
+    /// the key has no value, returns the position of the key.
+    #[tactic(auto, unfolding(crate::specs::Places::value_start))]
+    pub fn value(&self, list: &str, index: usize, key: &str) -> Option<TextPlace>
+        ensures { IsPlaceOf self.now (value_start self.now list.now index key.now) result }
+    {
+        let parts = entry_key_in(self.text, &self.parts, list, index, key)?;
+        place_of(self.text, value_in(parts))
     }
 
     /// Returns the position of an element of an array, such as an action of a body. The array is a
     /// value in an entry. The key of the array is named `key`, and the entry is at `index` in the
     /// list named `list`. Elements are counted from 0. Returns `None` if no such element was found.
-    pub fn element(
-        &self,
-        list: &str,
-        index: usize,
-        key: &str,
-        element: usize,
-    ) -> Option<TextPlace> {
-        let key = self.key_of(self.table(list, index)?, key)?;
-        let start = key.elements.get(element)?;
-        Some(place_at(self.text, *start))
+    #[tactic(auto, unfolding(crate::specs::Places::element_start))]
+    pub fn element(&self, list: &str, index: usize, key: &str, element: usize) -> Option<TextPlace>
+        ensures { IsPlaceOf self.now
+            (element_start self.now list.now index key.now element)
+            result }
+    {
+        let parts = entry_key_in(self.text, &self.parts, list, index, key)?;
+        place_of(self.text, element_in(parts, element)?)
     }
 
     /// Returns the position of the header of the first table with this name. If there is no such
     /// table, returns the position of the first key with this name before all headers. Returns
     /// `None` if there is no such key either.
-    pub fn top(&self, name: &str) -> Option<TextPlace> {
-        for table in &self.tables {
-            if self.is_named(table.name, name) {
-                return Some(place_at(self.text, table.header));
-            }
-        }
-        let key = self.key_of(self.tables.first()?, name)?;
-        Some(place_at(self.text, key.start))
-    }
-
-    fn table(&self, list: &str, index: usize) -> Option<&Table> {
-        let mut before = 0usize;
-        for table in &self.tables {
-            if table.in_list && self.is_named(table.name, list) {
-                if before == index {
-                    return Some(table);
-                }
-                before = before.saturating_add(1);
-            }
-        }
-        None
-    }
-
-    fn key_of<'t>(&self, table: &'t Table, name: &str) -> Option<&'t Key> {
-        table
-            .keys
-            .iter()
-            .find(|key| self.is_named((key.start, key.end), name))
-    }
-
-    /// Returns true if this range of the text is the name, with or without quotes.
-    fn is_named(&self, range: (usize, usize), name: &str) -> bool {
-        let (start, end) = range;
-        match self.text.get(start..end) {
-            Some(found) => without_quotes(found) == name.as_bytes(),
-            None => false,
-        }
+    #[tactic(auto, unfolding(crate::specs::Places::top_start))]
+    pub fn top(&self, name: &str) -> Option<TextPlace>
+        ensures { IsPlaceOf self.now (top_start self.now name.now) result }
+    {
+        let parts = top_in(self.text, &self.parts, name)?;
+        place_of(self.text, parts)
     }
 }
 
-fn without_quotes(name: &[u8]) -> &[u8] {
-    match name {
-        [b'"', inner @ .., b'"'] | [b'\'', inner @ .., b'\''] => inner,
-        _ => name,
-    }
+/// Returns the position of the first of the parts.
+fn place_of(text: &[u8], parts: &[Part]) -> Option<TextPlace>
+    ensures { IsPlaceOf text.now (start_of parts.now) result }
+{
+    Some(place_at(text, start_of(parts)?))
 }

@@ -1,7 +1,28 @@
 //! A tokenizer of TOML that skips white space and comments.
 
+ghost use Rattle.std.specs.Prelude.{◌≡◌, ◌<◌, ◌++◌, OnOk, IfOk};
+ghost use Rattle.std.specs.Option.{option_to_list};
+ghost use Rattle.plan_text.specs.Tokens.{class_of, string_at, string_after, begin, end, continued, ended, word_step, line_step, lines_step, step, tokens_of};
+
 use crate::token::{Kind, Token};
 use std::alloc::{AllocError, Global};
+
+/// The class of a byte that is not part of a string or a comment.
+#[derive(Clone, Copy)]
+enum ByteClass {
+    /// White space within a line.
+    Blank,
+    /// The end of a line.
+    LineEnd,
+    /// The character `#`, which begins a comment.
+    Hash,
+    /// A quote, which begins a string.
+    Quote,
+    /// One of the characters `[ ] { } = , .`
+    Mark,
+    /// A byte of a word.
+    Word,
+}
 
 /// A token or comment whose end has not been read yet.
 #[derive(Clone, Copy)]
@@ -11,14 +32,14 @@ enum OpenToken {
     /// A token of the kind [`Kind::Word`] that began at this offset.
     Word(usize),
     /// A single-line string.
-    Line(Text),
+    Line(OpenString),
     /// A multi-line string.
-    Lines(Text),
+    Lines(OpenString),
 }
 
 /// A string whose end has not been read yet.
 #[derive(Clone, Copy)]
-struct Text {
+struct OpenString {
     start: usize,
     quote: u8,
     /// Whether the last byte was a `\` that escapes the next byte.
@@ -28,149 +49,211 @@ struct Text {
     quotes: u8,
 }
 
-impl Text {
-    fn new(start: usize, quote: u8) -> Text {
-        Text {
-            start,
-            quote,
-            escaped: false,
-            quotes: 0,
-        }
-    }
-
-    /// Returns the state of the string after this byte.
-    fn after(self, byte: u8) -> Text {
-        let is_quote = byte == self.quote && !self.escaped;
-        Text {
-            escaped: byte == b'\\' && self.quote == b'"' && !self.escaped,
-            quotes: if is_quote {
-                self.quotes.saturating_add(1)
-            } else {
-                0
-            },
-            ..self
-        }
-    }
-}
-
-/// The complete tokens, and the token or comment whose end has not been read yet.
-#[derive(Drop)]
-struct Tokens {
-    open: OpenToken,
-    found: Vec<Token>,
+/// A step of the tokenizer: the result of reading a byte.
+#[derive(Clone, Copy)]
+struct ByteStep {
+    /// The token that ends before the byte.
+    before: Option<Token>,
+    /// The token that ends with the byte.
+    ended: Option<Token>,
+    /// The token or comment that the next byte may continue.
+    state: OpenToken,
 }
 
 /// Returns the tokens of a text, in order.
-pub(crate) fn tokens_of(alloc: Global, text: &[u8]) -> Result<Vec<Token>, AllocError> {
-    let mut tokens = Tokens {
-        open: OpenToken::Nothing,
-        found: Vec::new(alloc),
-    };
+#[tactic(auto, unfolding(crate::specs::Tokens::tokens_of))]
+pub(crate) fn tokens_of(alloc: Global, text: &[u8]) -> Result<Vec<Token>, AllocError>
+    ensures { IfOk result (λ tokens. tokens.items ≡ tokens_of text.now) }
+{
+    let mut tokens = Vec::new(alloc);
+    let mut state = OpenToken::Nothing;
     for (offset, byte) in text.iter().enumerate() {
-        tokens.process(offset, *byte)?;
+        let next = step(state, offset, *byte);
+        push_ended(&mut tokens, next)?;
+        state = next.state;
     }
-    tokens.process(text.len(), b'\n')?;
-    Ok(tokens.found)
+    // The end of the text ends its last line.
+    push_ended(&mut tokens, step(state, text.len(), b'\n'))?;
+    Ok(tokens)
 }
 
-impl Tokens {
-    fn push(&mut self, kind: Kind, start: usize, end: usize) -> Result<(), AllocError> {
-        self.found.push(Token { kind, start, end })?;
-        Ok(())
-    }
+/// Appends the tokens that the byte ended.
+fn push_ended(tokens: &mut Vec<Token>, step: ByteStep) -> Result<(), AllocError>
+    ensures { OnOk result (tokens.new.items
+        ≡ tokens.old.items ++ (option_to_list step.before ++ option_to_list step.ended)) }
+{
+    push_some(tokens, step.before)?;
+    push_some(tokens, step.ended)
+}
 
-    /// Processes the byte at this offset.
-    fn process(&mut self, offset: usize, byte: u8) -> Result<(), AllocError> {
-        match self.open {
-            OpenToken::Nothing => self.begin(offset, byte),
-            OpenToken::Comment => {
-                if byte == b'\n' {
-                    self.begin(offset, byte)
-                } else {
-                    Ok(())
-                }
-            }
-            OpenToken::Word(start) => self.word(start, offset, byte),
-            OpenToken::Line(text) => self.line(text, offset, byte),
-            OpenToken::Lines(text) => self.lines(text, offset, byte),
-        }
+fn push_some(tokens: &mut Vec<Token>, token: Option<Token>) -> Result<(), AllocError>
+    ensures { OnOk result (tokens.new.items ≡ tokens.old.items ++ option_to_list token) }
+{
+    if let Some(token) = token {
+        tokens.push(token)?;
     }
+    Ok(())
+}
 
-    /// Processes a byte that does not continue an earlier token or comment. The byte can begin a
-    /// new one.
-    fn begin(&mut self, offset: usize, byte: u8) -> Result<(), AllocError> {
-        self.open = OpenToken::Nothing;
-        match byte {
-            b' ' | b'\t' | b'\r' => Ok(()),
-            b'\n' => self.push(Kind::LineEnd, offset, offset),
-            b'#' => {
-                self.open = OpenToken::Comment;
-                Ok(())
-            }
-            b'"' | b'\'' => {
-                self.open = OpenToken::Line(Text::new(offset, byte));
-                Ok(())
-            }
-            b'[' | b']' | b'{' | b'}' | b'=' | b',' | b'.' => {
-                self.push(Kind::Mark(byte), offset, offset.saturating_add(1))
-            }
-            _ => {
-                self.open = OpenToken::Word(offset);
-                Ok(())
-            }
-        }
+fn class_of(byte: u8) -> ByteClass
+    ensures { result ≡ class_of byte }
+{
+    match byte {
+        b' ' | b'\t' | b'\r' => ByteClass::Blank,
+        b'\n' => ByteClass::LineEnd,
+        b'#' => ByteClass::Hash,
+        b'"' | b'\'' => ByteClass::Quote,
+        b'[' | b']' | b'{' | b'}' | b'=' | b',' | b'.' => ByteClass::Mark,
+        _ => ByteClass::Word,
     }
+}
 
-    fn word(&mut self, start: usize, offset: usize, byte: u8) -> Result<(), AllocError> {
-        match byte {
-            b' '
-            | b'\t'
-            | b'\r'
-            | b'\n'
-            | b'#'
-            | b'"'
-            | b'\''
-            | b'['
-            | b']'
-            | b'{'
-            | b'}'
-            | b'='
-            | b','
-            | b'.' => {
-                self.push(Kind::Word, start, offset)?;
-                self.begin(offset, byte)
+/// Reads the byte at this offset, in this state.
+#[tactic(auto, unfolding(crate::specs::Tokens::step))]
+fn step(state: OpenToken, offset: usize, byte: u8) -> ByteStep
+    requires { offset < usize.MAX }
+    ensures { result ≡ step state offset byte }
+{
+    match state {
+        OpenToken::Nothing => begin(offset, byte),
+        OpenToken::Comment => {
+            if byte == b'\n' {
+                begin(offset, byte)
+            } else {
+                continued(OpenToken::Comment)
             }
-            _ => Ok(()),
         }
+        OpenToken::Word(start) => word_step(start, offset, byte),
+        OpenToken::Line(string) => line_step(string, offset, byte),
+        OpenToken::Lines(string) => lines_step(string, offset, byte),
     }
+}
 
-    /// Processes the next byte of a string. At first, each string is treated as a single-line
-    /// string. If its first three bytes are quotes, it becomes a multi-line string.
-    fn line(&mut self, text: Text, offset: usize, byte: u8) -> Result<(), AllocError> {
-        if text.quotes == 1 {
-            if byte == text.quote && offset == text.start.saturating_add(2) {
-                self.open = OpenToken::Lines(Text::new(text.start, text.quote));
-                return Ok(());
-            }
-            self.push(Kind::Quoted, text.start, offset)?;
-            return self.begin(offset, byte);
-        }
-        // A single-line string that is not closed ends at the end of its line.
-        if byte == b'\n' {
-            self.push(Kind::Quoted, text.start, offset)?;
-            return self.begin(offset, byte);
-        }
-        self.open = OpenToken::Line(text.after(byte));
-        Ok(())
+/// Reads a byte that does not continue an earlier token or comment. The byte can begin a new one.
+fn begin(offset: usize, byte: u8) -> ByteStep
+    requires { offset < usize.MAX }
+    ensures { result ≡ begin offset byte }
+{
+    match class_of(byte) {
+        ByteClass::Blank => continued(OpenToken::Nothing),
+        ByteClass::LineEnd => ended(Kind::LineEnd, offset, offset),
+        ByteClass::Hash => continued(OpenToken::Comment),
+        ByteClass::Quote => continued(OpenToken::Line(string_at(offset, byte))),
+        ByteClass::Mark => ended(Kind::Mark(byte), offset, offset + 1),
+        ByteClass::Word => continued(OpenToken::Word(offset)),
     }
+}
 
-    fn lines(&mut self, text: Text, offset: usize, byte: u8) -> Result<(), AllocError> {
-        let text = text.after(byte);
-        if text.quotes == 3 {
-            self.open = OpenToken::Nothing;
-            return self.push(Kind::Quoted, text.start, offset.saturating_add(1));
+/// Reads a byte after a word that began at `start`.
+fn word_step(start: usize, offset: usize, byte: u8) -> ByteStep
+    requires { offset < usize.MAX }
+    ensures { result ≡ word_step start offset byte }
+{
+    match class_of(byte) {
+        ByteClass::Word => continued(OpenToken::Word(start)),
+        ByteClass::Blank
+        | ByteClass::LineEnd
+        | ByteClass::Hash
+        | ByteClass::Quote
+        | ByteClass::Mark => end(Kind::Word, start, offset, byte),
+    }
+}
+
+/// Reads the next byte of a string. At first, each string is treated as a single-line string. If
+/// its first three bytes are quotes, it becomes a multi-line string. A single-line string that is
+/// not closed ends at the end of its line.
+fn line_step(string: OpenString, offset: usize, byte: u8) -> ByteStep
+    requires { offset < usize.MAX }
+    ensures { result ≡ line_step string offset byte }
+{
+    if string.quotes == 1 {
+        if byte == string.quote && offset.saturating_sub(string.start) == 2 {
+            continued(OpenToken::Lines(string_at(string.start, string.quote)))
+        } else {
+            end(Kind::Quoted, string.start, offset, byte)
         }
-        self.open = OpenToken::Lines(text);
-        Ok(())
+    } else if byte == b'\n' {
+        end(Kind::Quoted, string.start, offset, byte)
+    } else {
+        continued(OpenToken::Line(string_after(string, byte)))
+    }
+}
+
+/// Reads the next byte of a multi-line string.
+fn lines_step(string: OpenString, offset: usize, byte: u8) -> ByteStep
+    requires { offset < usize.MAX }
+    ensures { result ≡ lines_step string offset byte }
+{
+    let string = string_after(string, byte);
+    if string.quotes == 3 {
+        ended(Kind::Quoted, string.start, offset + 1)
+    } else {
+        continued(OpenToken::Lines(string))
+    }
+}
+
+/// Ends a token before this byte. The byte can begin a new one.
+fn end(kind: Kind, start: usize, offset: usize, byte: u8) -> ByteStep
+    requires { offset < usize.MAX }
+    ensures { result ≡ end kind start offset byte }
+{
+    let next = begin(offset, byte);
+    ByteStep {
+        before: Some(Token {
+            kind,
+            start,
+            end: offset,
+        }),
+        ended: next.ended,
+        state: next.state,
+    }
+}
+
+/// Returns the step of a byte that ends no token.
+fn continued(state: OpenToken) -> ByteStep
+    ensures { result ≡ continued state }
+{
+    ByteStep {
+        before: None,
+        ended: None,
+        state,
+    }
+}
+
+/// Returns the step of the last byte of a token.
+fn ended(kind: Kind, start: usize, end: usize) -> ByteStep
+    ensures { result ≡ ended kind start end }
+{
+    ByteStep {
+        before: None,
+        ended: Some(Token { kind, start, end }),
+        state: OpenToken::Nothing,
+    }
+}
+
+fn string_at(start: usize, quote: u8) -> OpenString
+    ensures { result ≡ string_at start quote }
+{
+    OpenString {
+        start,
+        quote,
+        escaped: false,
+        quotes: 0,
+    }
+}
+
+/// Returns the state of the string after this byte.
+fn string_after(string: OpenString, byte: u8) -> OpenString
+    ensures { result ≡ string_after string byte }
+{
+    let is_quote = byte == string.quote && !string.escaped;
+    OpenString {
+        escaped: byte == b'\\' && string.quote == b'"' && !string.escaped,
+        quotes: if is_quote {
+            string.quotes.saturating_add(1)
+        } else {
+            0
+        },
+        ..string
     }
 }

@@ -6,4 +6,4 @@ use Rattle.plan_text.proofs.plan_values.client_value.Goals as goal
 
 pub returns : goal.returns
 unfolding client_data
-returns c = view-Table _ ∙ ap table (rw (c.in_ok-insert_value-4.ensures, c.in_ok-insert_value-3.ensures, c.in_ok-insert_value-2.ensures, c.in_ok-insert_value.ensures, c.new-table.ensures.empty, c.in_ok-body_value.ensures, c.number_value.ensures, c.in_ok-string.ensures, c.as_str.ensures.value, c.deref.ensures.value, view-Boolean c.client.inside.repeat, ← c.client.view_is) refl)
+returns c = view-Table _ ∙ ap table (rw (c.in_ok-insert_value-2.ensures, c.in_ok-insert_text.ensures, c.in_ok-insert_value.ensures, c.in_ok-insert_body.ensures, c.new-table.ensures.empty, c.number_value.ensures, c.as_str.ensures.value, c.deref.ensures.value, view-Boolean c.client.inside.repeat, ← c.client.view_is) refl)
