@@ -18,3 +18,6 @@ pub mod ReadSizes
 mod SpelledEntries
 mod SpelledPlan
 mod KeyNames
+mod JoinedSteps
+mod PoolParts
+mod NamedPlans

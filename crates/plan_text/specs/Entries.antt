@@ -8,7 +8,9 @@ use Rattle.job_bodies.specs.declared.fault.Part.TheVariants as part
 use Rattle.job_bodies.specs.declared.limits.TheConstants.{MAX_POOLS, MAX_CLASSES, MAX_CLIENT_KINDS, MAX_ACTIONS}
 use Rattle.job_bodies.specs.Plan.{Pool}
 use Rattle.plan_text.specs.Document.{list_at}
-use Rattle.plan_text.specs.Entry.{entry_of, text_at, number_at, size_at, flag_at, texts_at}
+use Rattle.plan_text.specs.declared.entries.PoolNumbers.{PoolNumbers}
+use Rattle.plan_text.specs.declared.entries.PoolFlags.{PoolFlags}
+use Rattle.plan_text.specs.Entry.{Entry, entry_of, text_at, number_at, size_at, flag_at, texts_at}
 use Rattle.plan_text.specs.Sizes.{sizes_of}
 
 -- a class as its text gives it: the pool is a name, and the actions are texts
@@ -37,6 +39,39 @@ pub record AreWithinLimits (entries : Entries) : Type 0 where
   pub few_clients : nat_le (length entries.clients) MAX_CLIENT_KINDS ≡ true
   pub classes : (i : ℕ) (class : ClassEntry) → slice_get entries.classes i ≡ Some class → nat_le (length class.body) MAX_ACTIONS ≡ true
   pub clients : (i : ℕ) (client : ClientEntry) → slice_get entries.clients i ≡ Some client → nat_le (length client.body) MAX_ACTIONS ≡ true
+
+-- the core size, the maximum and the capacity of the queue of a pool, or the first fault among them
+abbrev pub numbers_of : Entry → Result PoolNumbers PlanFault
+numbers_of entry =
+    number_at entry (codes "core") >>= λ core.
+    size_at entry (codes "max") >>= λ max.
+    size_at entry (codes "queue") >>= λ queue.
+    Ok (record { core = core; max = max; queue = queue })
+
+-- the flags of a pool, or the first fault among them
+abbrev pub flags_of : Entry → Result PoolFlags PlanFault
+flags_of entry =
+    flag_at entry (codes "prestart") >>= λ prestart.
+    flag_at entry (codes "core_timeout") >>= λ core_timeout.
+    flag_at entry (codes "may_reject") >>= λ may_reject.
+    Ok (record { prestart = prestart; core_timeout = core_timeout; may_reject = may_reject })
+
+-- the values of a class, or the first fault among them
+abbrev pub class_in : Entry → Result ClassEntry PlanFault
+class_in entry =
+    text_at entry (codes "name") >>= λ name.
+    text_at entry (codes "pool") >>= λ pool.
+    texts_at entry (codes "body") >>= λ body.
+    Ok (record { name = name; pool = pool; body = body })
+
+-- the values of a client kind, or the first fault among them
+abbrev pub client_in : Entry → Result ClientEntry PlanFault
+client_in entry =
+    text_at entry (codes "name") >>= λ name.
+    number_at entry (codes "count") >>= λ count.
+    flag_at entry (codes "repeat") >>= λ repeat.
+    texts_at entry (codes "body") >>= λ body.
+    Ok (record { name = name; count = count; repeat = repeat; body = body })
 
 unfoldable pub read_pool : ℕ → Data → Result Pool PlanFault
 read_pool index value =

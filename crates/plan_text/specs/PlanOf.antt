@@ -15,6 +15,13 @@ plan_of_named pool_names class_names entries =
     read_each (client_of class_names) 0 entries.clients >>= λ clients.
     Ok (record { pools = entries.pools; classes = classes; clients = clients })
 
+-- the names of the pools and of the classes of these entries, or the first fault in the names and numbers
+unfoldable pub names_of : Entries → Result (List (List ℕ) × List (List ℕ)) PlanFault
+names_of entries =
+    check_pools entries.pools >>= λ pool_names.
+    check_classes pool_names entries.classes >>= λ class_names.
+    check_clients entries.clients >>= λ _. Ok (pool_names, class_names)
+
 -- the plan with these entries, or the first fault in the names and numbers, or in the bodies
 unfoldable pub plan_of_entries : Entries → Result Plan PlanFault
 plan_of_entries entries =

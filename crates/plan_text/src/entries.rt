@@ -6,6 +6,7 @@ ghost use Rattle.toml.specs.View.{view, table_view};
 ghost use Rattle.support.specs.Reading as each;
 ghost use Rattle.support.specs.Results.{Gives};
 ghost use Rattle.plan_text.specs.Entries as spec;
+ghost use Rattle.plan_text.specs.Entry.{entry_view};
 
 use crate::document::list_at;
 use crate::entry::Entry;
@@ -75,22 +76,58 @@ fn read_pool(alloc: Global, index: usize, value: &Value) -> Result<Pool, TextErr
     ];
     let entry = Entry::of(value, Part::Pool, index, &keys)?;
     let name = entry.text("name")?;
+    let numbers = numbers_of(&entry)?;
+    let flags = flags_of(&entry)?;
+    let sizes = sizes_of(numbers.core, flags.core_timeout, numbers.max, numbers.queue);
+    Ok(Pool {
+        name: String::from_str(alloc, name)?,
+        core: numbers.core,
+        max: sizes.max,
+        queue: sizes.queue,
+        prestart: flags.prestart,
+        may_reject: flags.may_reject,
+        unbounded: sizes.unbounded,
+        core_timeout: flags.core_timeout,
+    })
+}
+
+/// The numbers of a pool as the text gives them. A size is `None` if it is `unbounded` in the text.
+#[derive(Clone, Copy)]
+struct PoolNumbers {
+    core: u64,
+    max: Option<u64>,
+    queue: Option<u64>,
+}
+
+/// Reads the numbers of a pool. Returns the first fault among them.
+fn numbers_of(entry: &Entry<'_>) -> Result<PoolNumbers, TextError>
+    ensures { Gives (λ numbers. numbers) result (spec.numbers_of (entry_view entry.now)) }
+{
     let core = entry.number("core")?;
     let max = entry.size("max")?;
     let queue = entry.size("queue")?;
+    Ok(PoolNumbers { core, max, queue })
+}
+
+/// The flags of a pool.
+#[derive(Clone, Copy)]
+struct PoolFlags {
+    prestart: bool,
+    core_timeout: bool,
+    may_reject: bool,
+}
+
+/// Reads the flags of a pool. Returns the first fault among them.
+fn flags_of(entry: &Entry<'_>) -> Result<PoolFlags, TextError>
+    ensures { Gives (λ flags. flags) result (spec.flags_of (entry_view entry.now)) }
+{
     let prestart = entry.flag("prestart")?;
     let core_timeout = entry.flag("core_timeout")?;
     let may_reject = entry.flag("may_reject")?;
-    let sizes = sizes_of(core, core_timeout, max, queue);
-    Ok(Pool {
-        name: String::from_str(alloc, name)?,
-        core,
-        max: sizes.max,
-        queue: sizes.queue,
+    Ok(PoolFlags {
         prestart,
-        may_reject,
-        unbounded: sizes.unbounded,
         core_timeout,
+        may_reject,
     })
 }
 
@@ -100,6 +137,13 @@ fn read_class(alloc: Global, index: usize, value: &Value) -> Result<ClassEntry<'
 {
     let keys = ["name", "pool", "body"];
     let entry = Entry::of(value, Part::Class, index, &keys)?;
+    class_in(alloc, &entry)
+}
+
+/// Reads the values of a class.
+fn class_in<'a>(alloc: Global, entry: &Entry<'a>) -> Result<ClassEntry<'a>, TextError>
+    ensures { Gives (λ class. class) result (spec.class_in (entry_view entry.now)) }
+{
     let name = entry.text("name")?;
     let pool = entry.text("pool")?;
     let body = entry.texts(alloc, "body")?;
@@ -112,6 +156,13 @@ fn read_client(alloc: Global, index: usize, value: &Value) -> Result<ClientEntry
 {
     let keys = ["name", "count", "repeat", "body"];
     let entry = Entry::of(value, Part::Client, index, &keys)?;
+    client_in(alloc, &entry)
+}
+
+/// Reads the values of a client kind.
+fn client_in<'a>(alloc: Global, entry: &Entry<'a>) -> Result<ClientEntry<'a>, TextError>
+    ensures { Gives (λ client. client) result (spec.client_in (entry_view entry.now)) }
+{
     let name = entry.text("name")?;
     let count = entry.number("count")?;
     let repeat = entry.flag("repeat")?;

@@ -75,7 +75,6 @@ struct Bodies {
     clients: Vec<Client>,
 }
 
-#[tactic(auto, unfolding(crate::specs::PlanOf::plan_of_entries))]
 fn bodies_of<'p, 'd: 'p>(
     alloc: Global,
     pools: &'p [Pool],
@@ -86,10 +85,33 @@ fn bodies_of<'p, 'd: 'p>(
         (spec.plan_of_entries
         (record { pools = pools.now; classes = classes.entry.items; clients = clients.now })) }
 {
-    let pool_names = check_pools(alloc, pools)?;
-    let class_names = check_classes(alloc, &pool_names, &classes)?;
+    let names = names_of(alloc, pools, &classes, clients)?;
+    named_bodies(alloc, &names.pools, &names.classes, classes, clients)
+}
+
+/// The names of the pools and of the classes of a plan.
+#[derive(Drop)]
+struct PlanNames<'p> {
+    pools: Names<'p>,
+    classes: Names<'p>,
+}
+
+/// Checks the names and numbers of a plan, and returns the names of its pools and classes.
+#[tactic(auto, unfolding(crate::specs::PlanOf::names_of))]
+fn names_of<'p>(
+    alloc: Global,
+    pools: &'p [Pool],
+    classes: &[ClassEntry<'p>],
+    clients: &[ClientEntry<'p>],
+) -> Result<PlanNames<'p>, TextError>
+    ensures { Gives (λ names. (names.pools, names.classes)) result
+        (spec.names_of
+        (record { pools = pools.now; classes = classes.now; clients = clients.now })) }
+{
+    let pools = check_pools(alloc, pools)?;
+    let classes = check_classes(alloc, &pools, classes)?;
     check_clients(alloc, clients)?;
-    named_bodies(alloc, &pool_names, &class_names, classes, clients)
+    Ok(PlanNames { pools, classes })
 }
 
 fn named_bodies<'p, 'd: 'p>(
