@@ -1,5 +1,5 @@
 -- The results that `clap` has for the application `sizing`.
-use Rattle.std.proofs.Common.{◌≡◌, true, false, refl, subst, inl, inr, List, [], ◌∷◌, Option, Result, Ok, Err}
+use Rattle.std.proofs.Common.{◌≡◌, true, false, refl, sym, subst, inl, inr, List, [], ◌∷◌, Option, Result, Ok, Err}
 use Rattle.std.specs.Prelude.{IsErrAnd}
 use Rattle.std.proofs.lemmas.Bool.{and_parts}
 use Rattle.clap.specs.Words.{App, FailsBy, HasKind, IsAmong, Kinds, Row, Text, fault_of, is_simple, is_simple_and_free, kind_of, subcommand_of}
@@ -11,7 +11,7 @@ use Rattle.clap.specs.declared.error.Error.{Error}
 use Rattle.clap.specs.declared.error.kind.ErrorKind.{ErrorKind}
 use Rattle.clap.proofs.OnLiterals.{clap_on_literals}
 use Rattle.command_line.specs.Application.{sizing}
-use Rattle.command_line.specs.Command.{is_refused, faults_of}
+use Rattle.command_line.specs.Command.{kinds_of_refusal, faults_of}
 
 -- the application uses only features that the model of `clap` covers
 pub sizing_is_simple : is_simple_and_free sizing ≡ true
@@ -45,15 +45,6 @@ fails_by_clap made words error (Err e) is fails same =
     let P : App → Type 0 = λ a. is_simple_and_free a ≡ true → HasKind (fault_of a words) error in
     rw same (has_kind_first (fault_of sizing words) _ error (subst P is fails sizing_is_simple))
 
--- if `clap` finds no fault, and no number or option of the subcommand is invalid, then the arguments have no fault
-pub no_faults : {A : Type 0} (made : App) (words : List Text) (rows : Option (Text × List Row)) → made ≡ sizing → fault_of sizing words ≡ []
-    → (is_simple made ≡ true → A × (rows ≡ subcommand_of made words)) → is_refused rows ≡ false → faults_of words ≡ []
-no_faults {A} made words rows is none same within =
-    let P : App → Type 0 = λ a. is_simple a ≡ true → A × (rows ≡ subcommand_of a words) in
-    let rows_are : rows ≡ subcommand_of sizing words = (subst P is same sizing_is_plain).1 in
-    let inside : is_refused (subcommand_of sizing words) ≡ false = rw (← rows_are) within in
-    rw (none, inside) refl
-
 -- the parsed arguments for an application that equals `sizing` are the parsed arguments for `sizing`
 pub rows_of_parse : {A : Type 0} (made : App) (words : List Text) (rows : Option (Text × List Row)) → made ≡ sizing
     → (is_simple made ≡ true → A × (rows ≡ subcommand_of made words)) → rows ≡ subcommand_of sizing words
@@ -61,9 +52,9 @@ rows_of_parse {A} made words rows is same =
     let P : App → Type 0 = λ a. is_simple a ≡ true → A × (rows ≡ subcommand_of a words) in
     (subst P is same sizing_is_plain).1
 
--- if `clap` finds no fault and a number or an option of the subcommand is invalid, then the error has one of the kinds of `faults_of`
-pub fails_refused : (words : List Text) (rows : Option (Text × List Row)) (error : Error) → fault_of sizing words ≡ [] → rows ≡ subcommand_of sizing words
-    → is_refused rows ≡ true → kind_of error ≡ ValueValidation → HasKind (faults_of words) error
-fails_refused words rows error none same beyond is =
-    let outside : is_refused (subcommand_of sizing words) ≡ true = rw (← same) beyond in
-    rw (none, outside) (inr (inl is))
+-- if `clap` finds no fault, a result that has the kinds of a refusal has the kinds of `faults_of`
+pub fails_by_refusal : {T : Type 0} (words : List Text) (rows : Option (Text × List Row)) (result : Result T Error) → fault_of sizing words ≡ [] → rows ≡ subcommand_of sizing words
+    → FailsBy (kinds_of_refusal rows) result → FailsBy (faults_of words) result
+fails_by_refusal {T} words rows result none same fails =
+    let first : FailsBy (kinds_of_refusal (subcommand_of sizing words)) result = subst (λ (entered : Option (Text × List Row)). FailsBy (kinds_of_refusal entered) result) same fails in
+    subst (λ (kinds : Kinds). FailsBy (or_else kinds (kinds_of_refusal (subcommand_of sizing words))) result) (sym none) first

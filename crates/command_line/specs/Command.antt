@@ -165,6 +165,10 @@ certificate_of_cli cli = option_map (λ name. name.now) cli.certificate
 abbrev pub is_refused : Option (Text × List Row) → Bool
 is_refused entered = is_some entered && not (is_some (command_among entered))
 
+-- the kind of error of options that name no command (`is_refused`), or none
+abbrev pub kinds_of_refusal : Option (Text × List Row) → Kinds
+kinds_of_refusal entered = if is_refused entered then ValueValidation ∷ [] else []
+
 -- The kinds of error that the arguments of a command line can have. If `clap` finds a fault, they are the kinds of the first
 -- fault. Otherwise they are the kind for options that name no command (`is_refused`), or none.
 abbrev pub faults_of : List Text → Kinds

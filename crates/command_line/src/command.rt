@@ -9,7 +9,7 @@ use crate::form::form_in;
 use crate::number::number_of;
 use crate::refusal::refusal;
 use crate::text::{names_file, text_of};
-use clap::{ArgMatches, Error};
+use clap::{ArgMatches, Command as Application, Error};
 use job_bodies::{MAX_ROUNDS, MAX_STATES, MAX_WORKERS};
 use std::alloc::Global;
 
@@ -187,10 +187,31 @@ pub fn read_words<'a>(alloc: Global, words: &'a [&'a str]) -> Result<Option<Cli<
 {
     let mut sizing = application(alloc)?;
     let matches = sizing.try_get_matches_from_mut(words)?;
-    if is_refused(&matches) {
-        return Err(refusal(alloc, &mut sizing, &matches)?);
+    accepted_args(alloc, &mut sizing, &matches)
+}
+
+// Returns the parsed arguments, or an error if the options are invalid although `clap` accepts
+// them.
+fn accepted_args<'a>(
+    alloc: Global,
+    sizing: &mut Application<'_>,
+    matches: &ArgMatches<'a>,
+) -> Result<Option<Cli<'a>>, Error>
+    ensures command { IfOk result (λ found.
+        option_map (λ cli. cli.command) found ≡ spec.command_among (subcommand_rows_of matches.now)) }
+    ensures files { IfOk result (λ found.
+        IfSome found
+        (λ cli. spec.files_of_cli cli ≡ spec.files_among (subcommand_rows_of matches.now))) }
+    ensures certificate { IfOk result (λ found.
+        IfSome found (λ cli.
+        spec.certificate_of_cli cli ≡ spec.certificate_among (subcommand_rows_of matches.now))) }
+    ensures in_range { IfOk result (λ found. IfSome found (λ cli. spec.IsInRange cli.command)) }
+    ensures fails { FailsBy (spec.kinds_of_refusal (subcommand_rows_of matches.now)) result }
+{
+    if is_refused(matches) {
+        return Err(refusal(alloc, sizing, matches)?);
     }
-    Ok(parsed_args(&matches))
+    Ok(parsed_args(matches))
 }
 
 // Returns the parsed arguments, or `None` if no subcommand was entered or its options are invalid.
