@@ -1,5 +1,6 @@
--- Lemmas about the names in the lines after one more line.
-use Rattle.std.proofs.Common.{◌≡◌, ◌≤◌, ◌+◌, length, if◌then◌else◌, List, [], ◌∷◌, ◌++◌, ◌∙◌, ap, sym, subst, arith}
+-- Lemmas about the names in the lines after one more line, and about the errors of the first pass.
+use Rattle.std.proofs.Common.{◌≡◌, ◌≤◌, ◌+◌, length, if◌then◌else◌, List, [], ◌∷◌, ◌++◌, ◌∙◌, Option, Result, Ok, Err, IfErr, ap, sym, subst, arith}
+use Rattle.std.specs.Result.{IsErrAnd}
 use Rattle.std.proofs.lemmas.List.Sums.{sum_by_push}
 use Rattle.job_bodies.specs.declared.limits.TheConstants.{MAX_POOLS}
 use Rattle.job_bodies.specs.Plan.{Pool}
@@ -8,8 +9,10 @@ use Rattle.recordings.specs.LineParts.{is_begin, is_submit}
 use Rattle.recordings.specs.Before.{begins, submits}
 use Rattle.learning.specs.Unfinished.{is_round_end, is_job_start, is_job_end, is_failed_get, round_ends, job_starts, job_ends, failed_gets}
 use Rattle.learning.specs.declared.recorded_names.RecordedNames.{RecordedNames}
+use Rattle.learning.specs.declared.learn_error.LearnError.{LearnError}
 use Rattle.learning.specs.Pools.{pool_of_line, recorded_pools, with_first_of}
 use Rattle.learning.specs.LearningState.{AreNamesOf}
+use Rattle.learning.specs.FirstPass.{IsLearnErrorAt}
 use Rattle.learning.proofs.Firsts.{pools_more}
 
 begins_more : (before : List RecordedLine) (line : RecordedLine) → begins (before ++ line ∷ []) ≡ begins before + (if is_begin line then 1 else 0)
@@ -63,3 +66,8 @@ pub same_names : (old new : RecordedNames) (lines : List RecordedLine) → new �
 same_names old new lines same named =
     subst (λ (names : RecordedNames). AreNamesOf names lines) (sym same)
     (record { pools = named.pools; few_pools = named.few_pools; rounds = named.rounds; jobs = named.jobs; ended_rounds = named.ended_rounds; started_jobs = named.started_jobs; ended_jobs = named.ended_jobs; failed_gets = named.failed_gets })
+
+-- An error of a call is an error of its caller.
+pub still_stops_at : {A : Type 0} (all : List (Option RecordedLine)) (one : LearnError) (result : Result A LearnError) → IsErrAnd result (λ other. other ≡ one) → IsLearnErrorAt all one → IfErr result (IsLearnErrorAt all)
+still_stops_at all one (Ok value) is stops = absurd is
+still_stops_at all one (Err other) is stops = subst (IsLearnErrorAt all) (sym is) stops

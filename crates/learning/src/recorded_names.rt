@@ -1,12 +1,14 @@
 //! The names in the lines of a recording, and the counts of its rounds and jobs.
 
-ghost use Rattle.std.specs.Prelude.{◌≡◌, ◌+◌, ◌++◌, ◌∷◌, [], List, None, OnOk, IfOk, IfErr, if◌then◌else◌};
+ghost use Rattle.std.specs.Prelude.{◌≡◌, ◌+◌, ◌++◌, ◌∷◌, [], List, Some, None, OnOk, IfOk, IfErr, if◌then◌else◌};
 ghost use Rattle.recordings.specs.LineParts as parts;
+ghost use Rattle.recordings.specs.CheckedLines.{IsCheckerState};
+ghost use Rattle.recordings.specs.Faults.{IsFirstFault, lines_before};
 ghost use Rattle.recordings.specs.Rules.{first_broken_rule};
 ghost use Rattle.recordings.specs.RecordingLine.{RecordedLine, line_view, lines_read};
 ghost use Rattle.learning.specs.LearningState.{AreNamesOf, IsDraftOf, IsLearnError};
 ghost use Rattle.learning.specs.LabelRounds.{AreLabelRoundsOf};
-ghost use Rattle.learning.specs.FirstPass.{IsNamed, IsLearnErrorAt, Counts, well_formed};
+ghost use Rattle.learning.specs.FirstPass.{AreNamesOfAll, IsNamed, IsLearnErrorAt, Counts, well_formed};
 ghost use Rattle.learning.specs.Unfinished as unfinished;
 
 use crate::draft::PlanDraft;
@@ -50,17 +52,11 @@ pub(crate) fn recorded_names(
     ensures err { IfErr result (IsLearnErrorAt (lines_read recording.now)) }
 {
     let mut names = RecordedNames::new(alloc)?;
-    let mut lines = CheckedLines::new(alloc, recording);
-    while let Some(line) = lines.next()? {
-        let line = match line {
-            Ok(line) => line,
-            Err(fault) => return Ok(Err(fault)),
-        };
-        if let Err(learn_error) = names.note(&line) {
-            return fault_or_error(alloc, recording, learn_error);
-        }
+    let fault = names.note_lines(&mut CheckedLines::new(alloc, recording), recording);
+    match fault? {
+        Some(fault) => Ok(Err(fault)),
+        None => Ok(Ok(names)),
     }
-    Ok(Ok(names))
 }
 
 // Returns the first invalid line or, if all lines are valid, `learn_error` as an error. A line
@@ -69,13 +65,13 @@ fn fault_or_error(
     alloc: Global,
     recording: &[u8],
     learn_error: LearnError,
-) -> Result<Result<RecordedNames, RecordingFault>, LearnError>
-    ensures ok { IfOk result (IsNamed (lines_read recording.now)) }
+) -> Result<RecordingFault, LearnError>
+    ensures ok { IfOk result (λ fault. IsFirstFault (lines_read recording.now) (Some fault)) }
     ensures err { IsLearnError (well_formed (lines_read recording.now)) learn_error
         → IfErr result (IsLearnErrorAt (lines_read recording.now)) }
 {
     match first_fault(alloc, recording)? {
-        Some(fault) => Ok(Err(fault)),
+        Some(fault) => Ok(fault),
         None => Err(learn_error),
     }
 }
@@ -102,6 +98,36 @@ impl RecordedNames {
         })
     }
 
+    // Adds the names and counts of the lines that `lines` has not returned yet. If one of them is
+    // invalid, returns the first fault of the recording.
+    fn note_lines(
+        &mut self,
+        lines: &mut CheckedLines<'_>,
+        recording: &[u8],
+    ) -> Result<Option<RecordingFault>, LearnError>
+        requires checked { IsCheckerState (lines_read recording.now) lines.old }
+        requires names { AreNamesOf self.old (lines_before (lines_read recording.now) lines.old.number) }
+        requires rounds { AreLabelRoundsOf self.old.label_rounds
+            (lines_before (lines_read recording.now) lines.old.number) }
+        requires draft { IsDraftOf (well_formed (lines_read recording.now)) self.old.draft }
+        ensures fault { IfOk result (IsFirstFault (lines_read recording.now)) }
+        ensures named { IfOk result (λ fault. fault ≡ None
+            → AreNamesOfAll (lines_read recording.now) self.new) }
+        ensures err { IfErr result (IsLearnErrorAt (lines_read recording.now)) }
+    {
+        while let Some(line) = lines.next()? {
+            let line = match line {
+                Ok(line) => line,
+                Err(fault) => return Ok(Some(fault)),
+            };
+            if let Err(learn_error) = self.note(&line) {
+                return Ok(Some(fault_or_error(self.alloc, recording, learn_error)?));
+            }
+        }
+        Ok(None)
+    }
+
+    // Adds the names and counts of the next line.
     fn note(&mut self, line: &Line<'_>) -> Result<(), LearnError>
         ensures names { (before : List RecordedLine)
             → AreNamesOf self.old before
