@@ -3,9 +3,10 @@
 use crate::carriers::carriers;
 use crate::progress::Progress;
 use crate::{CertifiedWorld, ThreadFault};
+use cert_check::Certified;
 use held_machines::{Held, Locked, Receipt};
 use interleaving::{Event, Outcome};
-use job_bodies::Plan;
+use job_bodies::{Plan, Pool};
 use std::alloc::{AllocError, Global};
 use std::collections::VecDeque;
 use std::sync::{Condvar, Mutex, MutexGuard, Wait};
@@ -58,6 +59,16 @@ pub(crate) struct Work {
     pub(crate) taken: Option<Receipt<Event>>,
 }
 
+impl HandoffQueue {
+    /// Creates the hand-off queue of a pool with this number of threads.
+    fn new(alloc: Global, threads: usize) -> Result<HandoffQueue, AllocError> {
+        Ok(HandoffQueue {
+            started: Mutex::new(VecDeque::with_capacity(alloc, threads)?),
+            job_ready: Condvar::new(),
+        })
+    }
+}
+
 impl<'a> SharedState<'a> {
     /// Creates the shared state of a run with `clients` clients, before the first event.
     ///
@@ -66,18 +77,12 @@ impl<'a> SharedState<'a> {
     /// Returns `AllocError` if there is not enough memory.
     pub(crate) fn new(
         alloc: Global,
-        plan: &'a Plan,
-        held: Held<CertifiedWorld<'a>>,
+        certified: &'a Certified,
         clients: usize,
     ) -> Result<SharedState<'a>, AllocError> {
-        let mut handoffs = Vec::with_capacity(alloc, plan.pools().len())?;
-        for pool in plan.pools() {
-            let threads = carriers(pool) as usize;
-            handoffs.push(HandoffQueue {
-                started: Mutex::new(VecDeque::with_capacity(alloc, threads)?),
-                job_ready: Condvar::new(),
-            })?;
-        }
+        let plan = certified.plan();
+        let handoffs = handoff_queues(alloc, plan.pools())?;
+        let held = Held::new(alloc, CertifiedWorld::new(certified))?;
         Ok(SharedState {
             plan,
             machine: Locked::new(held),
@@ -283,6 +288,16 @@ impl<'a> SharedState<'a> {
             handoff.job_ready.notify_all();
         }
     }
+}
+
+/// Creates an empty hand-off queue for each pool. Each queue has room for a job of each thread of
+/// its pool.
+fn handoff_queues(alloc: Global, pools: &[Pool]) -> Result<Vec<HandoffQueue>, AllocError> {
+    let mut handoffs = Vec::with_capacity(alloc, pools.len())?;
+    for pool in pools {
+        handoffs.push(HandoffQueue::new(alloc, carriers(pool) as usize)?)?;
+    }
+    Ok(handoffs)
 }
 
 /// Returns the job that the last event took from a queue. `receipt` is the receipt of that event,

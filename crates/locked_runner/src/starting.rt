@@ -3,11 +3,9 @@
 use crate::shared::SharedState;
 use crate::threads::Runner;
 use crate::{
-    CertifiedWorld, CompactReceipt, Gate, Owner, ThreadFault, ThreadResults, kinds_of, lists_of,
-    rounds_of_client,
+    CompactReceipt, Gate, Owner, ThreadFault, ThreadResults, kinds_of, lists_of, rounds_of_client,
 };
 use cert_check::Certified;
-use held_machines::Held;
 use job_bodies::{Client, Plan};
 use std::alloc::{AllocError, Global};
 use std::sync::Wait;
@@ -32,20 +30,35 @@ pub(crate) fn run_threads<R: Threads + Wait + Sync, G: Gate>(
     let plan = certified.plan();
     let kinds = kinds_of(alloc, plan)?;
     let owners = lists_of(alloc, plan, &kinds)?;
-    let held = Held::new(alloc, CertifiedWorld::new(certified))?;
+    run_owners(rt, alloc, certified, rounds, gate, &kinds, &owners)
+}
+
+/// Runs a thread for each owner, and returns the results of all threads. `kinds` has, for each
+/// client, the index of its kind.
+///
+/// # Errors
+///
+/// Returns `AllocError` if there is not enough memory before the first thread is started.
+fn run_owners<R: Threads + Wait + Sync, G: Gate>(
+    rt: &R,
+    alloc: Global,
+    certified: &Certified,
+    rounds: u64,
+    gate: &G,
+    kinds: &[usize],
+    owners: &[Owner],
+) -> Result<ThreadResults, AllocError> {
     let mut receipts = Vec::with_capacity(alloc, owners.len())?;
-    let shared = SharedState::new(alloc, plan, held, kinds.len())?;
+    let shared = SharedState::new(alloc, certified, kinds.len())?;
     let state = &shared;
-    let kinds = kinds.as_slice();
-    let all = owners.as_slice();
     let lists = &mut receipts;
     thread::scope(thread::scope_env(), rt, |scope| {
         let mut handles = Vec::new(alloc);
-        if handles.reserve(all.len()).is_err() {
+        if handles.reserve(owners.len()).is_err() {
             state.fail(rt, ThreadFault::Memory);
             return;
         }
-        for owner in all {
+        for owner in owners {
             let owner = *owner;
             match scope.spawn(move || run_one(rt, alloc, state, gate, kinds, owner, rounds)) {
                 Ok(handle) => {
