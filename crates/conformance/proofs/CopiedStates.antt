@@ -1,5 +1,5 @@
 -- What holds of a copy of a state holds of the state.
-use Rattle.std.proofs.Common.{◌≡◌, ℕ, ◌&&◌, ◌||◌, false, ltb, Bool, List, [], ◌∷◌, ◌++◌, get_or, ap, ◌∙◌, ◌+◌}
+use Rattle.std.proofs.Common.{◌≡◌, ℕ, ◌&&◌, ◌||◌, false, Bool, List, [], ◌∷◌, ◌++◌, get_or, ap, ◌∙◌}
 use Rattle.job_bodies.specs.declared.action.Action.{Action}
 use Rattle.conformance.specs.declared.open_job.OpenJob.{OpenJob}
 use Rattle.conformance.specs.declared.walk_state.WalkState.{WalkState}

@@ -1,17 +1,16 @@
 -- If each job of a path can have one class only, one list of jobs is open at each moment.
-use Rattle.std.proofs.Common.{◌≡◌, ℕ, zero, suc, ◌<◌, ◌≤◌, true, List, [], ◌∷◌, ◌++◌, length, get_or, Option, Some, refl, sym, ap, subst, ◌∙◌, slice_get, arith}
+use Rattle.std.proofs.Common.{◌≡◌, ℕ, zero, suc, true, List, [], ◌∷◌, ◌++◌, get_or, Some, refl, sym, ap, subst, ◌∙◌, slice_get, arith}
 use Rattle.std.proofs.lemmas.Bool.{eq-eqb}
 use Rattle.std.proofs.lemmas.Option.{same_Some, slice_get_within, slice_get-get_or, get_or_from_slice_get}
 use Rattle.support.proofs.Members.{In-slice_get, list_any_at_In}
 use Rattle.job_bodies.specs.declared.action.Action.{Action}
 use Rattle.job_bodies.specs.declared.action.Action.TheVariants.{Submit}
 use Rattle.conformance.specs.declared.open_job.OpenJob.{OpenJob}
-use Rattle.conformance.specs.declared.path_match.TheConstants.{MAX_OPEN_LISTS}
 use Rattle.conformance.specs.declared.step.ActorKind.{ActorKind}
 use Rattle.conformance.specs.declared.step.PathStep.{PathStep}
 use Rattle.conformance.specs.declared.step.PathStep.TheVariants as step
 use Rattle.conformance.specs.PathStep.{submits}
-use Rattle.conformance.specs.Path.{Walks, starts, body_moves, HasOneClass, is_submit_of, has_submit_of, without, open_class}
+use Rattle.conformance.specs.Path.{Walks, starts, body_moves, HasOneClass, is_submit_of, has_submit_of, without}
 use Rattle.conformance.specs.PathMatch.{IsUnambiguous, HasManyOpenLists}
 use Rattle.conformance.proofs.Walks.{walk_last}
 use Rattle.conformance.proofs.WalkStates.{no_submit_of_get, same_get}

@@ -1,5 +1,5 @@
 -- The furthest index that the body reaches in the states that were read.
-use Rattle.std.proofs.Common.{◌≡◌, ◌≤◌, ◌<◌, ℕ, suc, Bool, true, false, ⊎_elim, leb, cond, List, [], ◌∷◌, ◌++◌, Option, Some, None, refl, sym, ap, subst, ◌∙◌, slice_get, arith}
+use Rattle.std.proofs.Common.{◌≡◌, ◌≤◌, ℕ, suc, Bool, true, false, ⊎_elim, leb, cond, List, [], ◌∷◌, ◌++◌, Option, Some, None, refl, sym, subst, ◌∙◌, slice_get, arith}
 use Rattle.std.proofs.lemmas.Bool.{cases_lt, false≢true, leb-true, leb-false}
 use Rattle.support.specs.In.{In}
 use Rattle.support.proofs.Members.{not_In_nil, In-push_cases}
@@ -7,7 +7,7 @@ use Rattle.conformance.specs.declared.walk_state.WalkState.{WalkState}
 use Rattle.conformance.specs.declared.furthest.Reached.{Reached}
 use Rattle.conformance.specs.BlockingGet.{IsLastReached}
 use Rattle.conformance.specs.WalkState.{is_at}
-use Rattle.conformance.specs.WalkStates.{IsLastAt, IsFurthestAt, IsFurthest, further}
+use Rattle.conformance.specs.WalkStates.{IsLastAt, IsFurthest, further}
 
 pub record IsFurthestIn (states read : List WalkState) (end : ℕ) (reached : Reached) : Type 0 where
   pub state : WalkState

@@ -1,9 +1,8 @@
 -- The last index up to an end at which the body can be.
-use Rattle.std.proofs.Common.{◌≡◌, ℕ, suc, ◌+◌, ◌<◌, ◌≤◌, ⊎_elim, true, false, Bool, List, length, get_or, Option, Some, None, refl, sym, subst, ◌∙◌, arith}
+use Rattle.std.proofs.Common.{◌≡◌, ℕ, ◌+◌, ◌<◌, ◌≤◌, ⊎_elim, true, false, Bool, List, length, get_or, Option, Some, None, subst, arith}
 use Rattle.std.proofs.lemmas.Bool.{cases_lt}
 use Rattle.std.proofs.lemmas.List.{get_or_past}
 use Rattle.conformance.specs.declared.walk_state.WalkState.{WalkState}
-use Rattle.conformance.specs.WalkState.{is_at}
 use Rattle.conformance.specs.WalkStates.{IsLastAt}
 
 -- The last index below `n` and up to `end` at which the row is true.

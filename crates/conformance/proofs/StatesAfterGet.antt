@@ -1,8 +1,8 @@
 -- The states after a get, if jobs may belong to several classes.
-use Rattle.std.proofs.Common.{◌≡◌, ◌<◌, ◌≤◌, ℕ, suc, ◌+◌, Bool, true, false, ◌&&◌, ltb, ⊎_elim, List, [], ◌∷◌, ◌++◌, length, Option, Some, None, refl, sym, ap, subst, ◌∙◌, slice_get, arith}
+use Rattle.std.proofs.Common.{◌≡◌, ◌<◌, ℕ, suc, Bool, true, false, ltb, ⊎_elim, List, [], ◌∷◌, ◌++◌, length, Option, Some, None, refl, sym, ap, subst, ◌∙◌, slice_get, arith}
 use Rattle.std.specs.Prelude.{slice_index_or}
 use Rattle.std.proofs.lemmas.Bool.{false≢true, and_from}
-use Rattle.std.proofs.lemmas.Option.{slice_get_within, same_Some, none-some}
+use Rattle.std.proofs.lemmas.Option.{slice_get_within, same_Some}
 use Rattle.support.specs.In.{In, here}
 use Rattle.support.proofs.Members.{not_In_nil, In-append_left, In-append_right, In-push_cases}
 use Rattle.job_bodies.specs.declared.action.Action.{Action}
@@ -11,9 +11,9 @@ use Rattle.conformance.specs.declared.step.ActorKind.{ActorKind}
 use Rattle.conformance.specs.declared.step.PathStep.{PathStep}
 use Rattle.conformance.specs.declared.step.PathStep.TheVariants as step
 use Rattle.conformance.specs.declared.walk_state.WalkState.{WalkState}
-use Rattle.conformance.specs.Path.{Walks, MayGet, open_class, without}
+use Rattle.conformance.specs.Path.{Walks, open_class, without}
 use Rattle.conformance.specs.BodyGets.{get_at, can_pass}
-use Rattle.conformance.specs.WalkState.{is_at, HasTables, IsAfterGetOf, IsAfterGet, IsBegun}
+use Rattle.conformance.specs.WalkState.{is_at, HasTables, IsAfterGet, IsBegun}
 use Rattle.conformance.specs.WalkStates.{AreStatesAt, IsStateOf, IsRepresented, AreAfterGet, IsMerged, AreMerged}
 use Rattle.conformance.proofs.OpenCounts.{can_pass_from_within}
 use Rattle.conformance.proofs.Walks.{walk_last, walk_in_body}

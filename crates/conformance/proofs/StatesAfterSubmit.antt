@@ -1,5 +1,5 @@
 -- The states after a submit of a job that may belong to several classes.
-use Rattle.std.proofs.Common.{◌≡◌, ℕ, suc, ◌+◌, Bool, true, false, ◌==◌, ⊎_elim, List, [], ◌∷◌, ◌++◌, map, take, length, refl, sym, ap, subst, ◌∙◌, slice_get, Some}
+use Rattle.std.proofs.Common.{◌≡◌, ℕ, suc, true, ◌==◌, ⊎_elim, List, [], ◌∷◌, ◌++◌, map, refl, sym, ap, subst, ◌∙◌, slice_get, Some}
 use Rattle.std.specs.declared.alloc.Global.{Global}
 use Rattle.std.specs.declared.vec.Vec.{Vec}
 use Rattle.std.specs.List.{list_any}
@@ -8,7 +8,6 @@ use Rattle.std.proofs.lemmas.Option.{slice_get_within, same_Some}
 use Rattle.support.specs.In.{In, here}
 use Rattle.support.proofs.Members.{not_In_nil, In-append_left, In-append_right, In-push_cases, In-map, In-map_from, In-flat_map, In-flat_map_from, In-from_list_any, list_any_at_In}
 use Rattle.job_bodies.specs.declared.action.Action.{Action}
-use Rattle.job_bodies.specs.declared.action.Action.TheVariants.{Submit}
 use Rattle.conformance.specs.declared.open_job.OpenJob.{OpenJob}
 use Rattle.conformance.specs.declared.step.ActorKind.{ActorKind}
 use Rattle.conformance.specs.declared.step.PathStep.{PathStep}
@@ -17,7 +16,7 @@ use Rattle.conformance.specs.declared.walk_state.WalkState.{WalkState}
 use Rattle.conformance.specs.PathStep.{submits}
 use Rattle.conformance.specs.Path.{Walks, is_submit_of}
 use Rattle.conformance.specs.BodyGets.{get_at, can_pass}
-use Rattle.conformance.specs.WalkState.{is_at, IsAfterSubmit, CanSubmit}
+use Rattle.conformance.specs.WalkState.{IsAfterSubmit, CanSubmit}
 use Rattle.conformance.specs.WalkStates.{AreStatesAt, IsStateOf, IsRepresented, AreAfterSubmit, choices}
 use Rattle.conformance.proofs.OpenCounts.{can_pass_from_within}
 use Rattle.conformance.proofs.Walks.{walk_last}

@@ -1,12 +1,12 @@
 -- Where the walks stop, and why.
-use Rattle.std.proofs.Common.{◌≡◌, ℕ, zero, suc, ◌+◌, map, ◌<◌, ◌≤◌, ⊎_elim, inl, inr, true, false, eqb, List, [], ◌∷◌, ◌++◌, length, Option, Some, None, refl, sym, ap, subst, ◌∙◌, slice_get, add-one, arith}
+use Rattle.std.proofs.Common.{◌≡◌, ℕ, zero, suc, ◌+◌, map, ◌<◌, ◌≤◌, inl, inr, true, eqb, List, [], ◌∷◌, ◌++◌, length, Option, Some, None, refl, sym, ap, subst, ◌∙◌, slice_get, add-one, arith}
 use Rattle.std.specs.declared.alloc.Global.{Global}
 use Rattle.std.specs.declared.vec.Vec.{Vec}
 use Rattle.std.proofs.lemmas.Bool.{cases_lt, false≢true, eq-eqb}
 use Rattle.std.proofs.lemmas.List.{length-map}
 use Rattle.std.proofs.lemmas.Option.{slice_get_within, same_Some}
-use Rattle.support.specs.In.{In, here}
-use Rattle.support.proofs.Members.{list_any_at_In, In-from_list_any, In-cons_cases, In-slice_get, not_In_nil}
+use Rattle.support.specs.In.{In}
+use Rattle.support.proofs.Members.{list_any_at_In, In-from_list_any, In-slice_get, not_In_nil}
 use Rattle.job_bodies.specs.declared.action.Action.{Action}
 use Rattle.job_bodies.specs.declared.action.Action.TheVariants.{Submit}
 use Rattle.conformance.specs.declared.body_gets.BodyGet.{BodyGet}
@@ -19,7 +19,7 @@ use Rattle.conformance.specs.declared.step.PathStep.{PathStep}
 use Rattle.conformance.specs.declared.step.PathStep.TheVariants as step
 use Rattle.conformance.specs.declared.step.PathState.{PathState}
 use Rattle.conformance.specs.declared.step.PathState.TheVariants.{Whole, Prefix}
-use Rattle.conformance.specs.declared.path_match.PathMatch.TheVariants.{Fits, Deviates}
+use Rattle.conformance.specs.declared.path_match.PathMatch.TheVariants.{Deviates}
 use Rattle.conformance.specs.declared.walk_state.WalkState.{WalkState}
 use Rattle.conformance.specs.PathStep.{submits}
 use Rattle.conformance.specs.Path.{Walks, both_submit, IsPathOf, count_in, is_submit_of}
@@ -30,14 +30,14 @@ use Rattle.conformance.specs.BlockingGet.{IsLastReached, IsFree, IsBlocked, IsBl
 use Rattle.conformance.specs.OpenExcess.{IsSubmitAhead, IsOpenExcess, IsReason}
 use Rattle.conformance.specs.MissingJob.{first_in, IsMissingJob}
 use Rattle.conformance.specs.WalkState.{is_at}
-use Rattle.conformance.specs.WalkStates.{AreStatesAt, AreDistinct, IsStateOf, HasState, IsFurthestAt, IsFurthest, IsAhead, IsNextSubmit, AreAhead}
+use Rattle.conformance.specs.WalkStates.{AreStatesAt, AreDistinct, HasState, IsFurthestAt, IsFurthest, IsAhead, IsNextSubmit, AreAhead}
 use Rattle.conformance.proofs.OpenCounts.{within_submit}
 use Rattle.conformance.proofs.PassedGets as passed
 use Rattle.conformance.proofs.OpenExcesses.{open_excess}
 use Rattle.conformance.proofs.MissingJobs.{missing_job}
 use Rattle.conformance.proofs.Walks.{walk_within, walk_in_body, explained_from_walks, explained_to_end, no_path_from_walks}
-use Rattle.conformance.proofs.WalkStates.{submit_is, walk_moves}
-use Rattle.conformance.proofs.StoppedWalks.{none_ahead_of_get, none_ahead_at_end}
+use Rattle.conformance.proofs.WalkStates.{submit_is}
+use Rattle.conformance.proofs.StoppedWalks.{none_ahead_at_end}
 use Rattle.conformance.proofs.StatesAfterSubmit.{any_is_in}
 
 module _ (kind : ActorKind) (body : List Action) (path : List PathStep) (place : ℕ) (states : List WalkState) (are : AreStatesAt kind body path place states) where

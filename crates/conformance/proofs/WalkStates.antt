@@ -1,12 +1,11 @@
 -- The state of the walks after a step of the path.
-use Rattle.std.proofs.Common.{◌≡◌, ℕ, zero, suc, ◌+◌, ◌<◌, ◌≤◌, ⊎_elim, Bool, true, false, ◌&&◌, ltb, List, [], ◌∷◌, ◌++◌, length, get_or, Option, Some, None, refl, sym, ap, subst, ◌∙◌, add-one, arith}
+use Rattle.std.proofs.Common.{◌≡◌, ℕ, zero, suc, ◌+◌, ◌<◌, ◌≤◌, ⊎_elim, Bool, true, false, ◌&&◌, ltb, List, length, get_or, Option, Some, None, sym, ap, subst, ◌∙◌, add-one, arith}
 use Rattle.std.specs.Prelude.{slice_get}
 use Rattle.std.specs.declared.alloc.Global.{Global}
 use Rattle.std.specs.declared.vec.Vec.{Vec}
-use Rattle.std.proofs.lemmas.Bool.{cases_lt, false≢true, and_parts, and_from, or_cases, or_left, or_right, eq-eqb, eqb-true}
+use Rattle.std.proofs.lemmas.Bool.{cases_lt, false≢true, and_parts, and_from, or_cases, or_left, or_right, eqb-true}
 use Rattle.std.proofs.lemmas.List.{get_or_past}
-use Rattle.std.proofs.lemmas.Option.{slice_get_within, slice_get-get_or, same_Some, none-some}
-use Rattle.support.proofs.Members.{In-slice_get, list_any_at_In}
+use Rattle.std.proofs.lemmas.Option.{slice_get_within, slice_get-get_or}
 use Rattle.job_bodies.specs.declared.action.Action.{Action}
 use Rattle.job_bodies.specs.declared.action.Action.TheVariants.{Work, Submit, Get}
 use Rattle.conformance.specs.declared.open_job.OpenJob.{OpenJob}
@@ -15,11 +14,11 @@ use Rattle.conformance.specs.declared.step.PathStep.{PathStep}
 use Rattle.conformance.specs.declared.step.PathStep.TheVariants as step
 use Rattle.conformance.specs.declared.walk_state.WalkState.{WalkState}
 use Rattle.conformance.specs.PathStep.{submits}
-use Rattle.conformance.specs.Path.{Walks, body_moves, both_submit, path_gets, MayGet, open_class, without, is_submit_of, has_submit_of}
+use Rattle.conformance.specs.Path.{Walks, body_moves, both_submit, path_gets, open_class, is_submit_of}
 use Rattle.conformance.specs.BodyGets.{get_at, can_pass}
 use Rattle.conformance.specs.WalkState.{is_at, HasTables, IsAfterSubmit, IsAfterGetOf}
-use Rattle.conformance.proofs.OpenCounts.{within_next, can_pass_from_within, within_submit, within_without}
-use Rattle.conformance.proofs.Walks.{walk_within, walk_in_body, walk_last}
+use Rattle.conformance.proofs.OpenCounts.{within_next, within_submit, within_without}
+use Rattle.conformance.proofs.Walks.{walk_within, walk_in_body}
 
 -- ---- rows
 pub at_in_body : (body : List Action) (state : WalkState) → HasTables body state → (q : ℕ) → is_at state q ≡ true → q ≤ length body

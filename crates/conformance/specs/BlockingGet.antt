@@ -1,10 +1,8 @@
 -- The get that keeps a body from an index: from a submit, or from its end.
-use Rattle.std.specs.Prelude.{◌≡◌, ◌≤◌, ◌<◌, ℕ, suc, Bool, true, false, ◌==◌, ◌&&◌, nat_lt, if◌then◌else◌, List, Option, Some, None, slice_get, slice_index_or}
-use Rattle.job_bodies.specs.declared.action.Action.{Action}
+use Rattle.std.specs.Prelude.{◌≡◌, ◌≤◌, ◌<◌, ℕ, suc, Bool, true, false, ◌==◌, ◌&&◌, nat_lt, if◌then◌else◌, List, Option, Some, None, slice_index_or}
 use Rattle.conformance.specs.declared.body_gets.BodyGet.{BodyGet}
 use Rattle.conformance.specs.declared.blocking_get.Way.{Way}
 use Rattle.conformance.specs.declared.blocking_get.Way.TheVariants as way
-use Rattle.conformance.specs.Path.{is_submit_of}
 
 -- The body may pass the action: it is no get, or `passes` holds.
 abbrev pub may_pass : Option BodyGet → Bool → Bool

@@ -1,14 +1,10 @@
 -- The state of the joint walks over a body and a path.
-use Rattle.std.specs.Prelude.{◌≡◌, ◌≤◌, ◌<◌, ◌↔◌, ℕ, ◌+◌, Bool, true, false, ◌&&◌, ◌||◌, nat_lt, if◌then◌else◌, List, [], ◌∷◌, ◌++◌, None, Some, length, slice_get, slice_index_or}
-use Rattle.std.specs.List.{list_any}
+use Rattle.std.specs.Prelude.{◌≡◌, ◌≤◌, ◌<◌, ◌↔◌, ℕ, ◌+◌, Bool, true, false, ◌&&◌, ◌||◌, nat_lt, List, [], ◌∷◌, ◌++◌, None, Some, length, slice_get, slice_index_or}
 use Rattle.job_bodies.specs.declared.action.Action.{Action}
-use Rattle.conformance.specs.declared.open_job.OpenJob.{OpenJob}
 use Rattle.conformance.specs.declared.step.ActorKind.{ActorKind}
-use Rattle.conformance.specs.declared.step.PathStep.{PathStep}
 use Rattle.conformance.specs.declared.walk_state.WalkState.{WalkState}
-use Rattle.conformance.specs.Path.{Walks, MayGet, HasOneClass, is_submit_of, open_class, without}
+use Rattle.conformance.specs.Path.{MayGet, is_submit_of, open_class, without}
 use Rattle.conformance.specs.BodyGets.{get_at, can_pass}
-use Rattle.conformance.specs.OpenExcess.{IsReason}
 
 -- The body can be at this index.
 abbrev pub is_at : WalkState → ℕ → Bool

@@ -1,6 +1,6 @@
 -- The states of the joint walks over a body and a path in which jobs may belong to several classes. In different walks, a job
 -- may have different classes. Each list of open jobs has a state of its own.
-use Rattle.std.specs.Prelude.{◌≡◌, ◌≤◌, ◌<◌, ℕ, suc, ◌+◌, Bool, true, false, ◌||◌, nat_le, if◌then◌else◌, List, Option, Some, None, length, map, flat_map, slice_get, slice_index_or}
+use Rattle.std.specs.Prelude.{◌≡◌, ◌≤◌, ◌<◌, ℕ, suc, Bool, true, false, ◌||◌, nat_le, if◌then◌else◌, List, Option, Some, None, length, map, flat_map, slice_get, slice_index_or}
 use Rattle.std.specs.List.{list_any}
 use Rattle.support.specs.In.{In}
 use Rattle.job_bodies.specs.declared.action.Action.{Action}

@@ -1,4 +1,4 @@
-use Rattle.std.proofs.Common.{◌≡◌, length, refl, sym, subst, ◌∙◌, take, List, [], ◌∷◌, ◌++◌, Option, ap}
+use Rattle.std.proofs.Common.{length, refl, sym, subst, take, List, [], ◌∷◌, ◌++◌, Option}
 use Rattle.std.proofs.lemmas.List.{take_all}
 use Rattle.std.proofs.lemmas.Option.{slice_get_read}
 use Rattle.conformance.specs.declared.furthest.Reached.{Reached}

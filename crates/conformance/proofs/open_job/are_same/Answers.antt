@@ -1,4 +1,4 @@
-use Rattle.std.proofs.Common.{◌≡◌, length, arith}
+use Rattle.std.proofs.Common.{arith}
 use Rattle.conformance.proofs.ReadStates.{same_by_each}
 use Rattle.conformance.proofs.open_job.are_same.Goals as goal
 

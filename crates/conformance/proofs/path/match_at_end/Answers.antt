@@ -1,4 +1,4 @@
-use Rattle.std.proofs.Common.{◌≡◌, ℕ, List, length, Option, None, sym, subst, ◌∙◌}
+use Rattle.std.proofs.Common.{ℕ, List, length, Option, None, sym, subst, ◌∙◌}
 use Rattle.std.proofs.lemmas.Bool.{false≢true}
 use Rattle.conformance.specs.declared.path_match.PathMatch.TheVariants.{Deviates}
 use Rattle.conformance.specs.declared.step.PathState.TheVariants.{Whole}

@@ -1,5 +1,4 @@
-use Rattle.std.proofs.Common.{rules, ◌≡◌, sym, ◌∙◌}
-use Rattle.conformance.specs.Sizes as spec
+use Rattle.std.proofs.Common.{rules, sym, ◌∙◌}
 use Rattle.conformance.proofs.PlannedSizes.{none_if_planned}
 use Rattle.conformance.proofs.sizes.differences.Goals as goal
 

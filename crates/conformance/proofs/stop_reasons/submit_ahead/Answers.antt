@@ -1,10 +1,9 @@
-use Rattle.std.proofs.Common.{◌≡◌, ℕ, slice_get, ◌<◌, ◌≤◌, inl, inr, true, sym, ap, subst, ◌∙◌, Option, Some, refl, arith}
-use Rattle.std.proofs.lemmas.Bool.{cases_lt, false≢true}
+use Rattle.std.proofs.Common.{ℕ, slice_get, inl, inr, sym, arith}
+use Rattle.std.proofs.lemmas.Bool.{cases_lt}
 use Rattle.std.proofs.lemmas.Option.{slice_get_within}
 use Rattle.support.proofs.Members.{In-from_list_any}
 use Rattle.job_bodies.specs.declared.action.Action.TheVariants.{Submit}
 use Rattle.conformance.specs.Path.{is_submit_of}
-use Rattle.conformance.specs.WalkStates.{IsAhead}
 use Rattle.conformance.proofs.WalkStates.{submit_is}
 use Rattle.conformance.proofs.stop_reasons.submit_ahead.Goals as goal
 

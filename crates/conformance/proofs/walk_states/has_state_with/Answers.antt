@@ -1,4 +1,4 @@
-use Rattle.std.proofs.Common.{◌≡◌, ⊎_elim, List, take, ap, sym, subst, ◌∙◌}
+use Rattle.std.proofs.Common.{⊎_elim, List, take, ap, sym, subst, ◌∙◌}
 use Rattle.std.proofs.lemmas.List.{take_all}
 use Rattle.support.specs.In.{In}
 use Rattle.support.proofs.Members.{In-push_cases}

@@ -1,5 +1,4 @@
-use Rattle.std.proofs.Common.{◌≡◌, List, ◌++◌, ◌∷◌, [], take, ap, sym, subst, ◌∙◌}
-use Rattle.conformance.specs.declared.open_job.OpenJob.{OpenJob}
+use Rattle.std.proofs.Common.{List, ◌++◌, ◌∷◌, [], take, sym, subst, ◌∙◌}
 use Rattle.conformance.specs.declared.walk_state.WalkState.{WalkState}
 use Rattle.conformance.proofs.ReadStates.{read_in, take_read}
 use Rattle.conformance.proofs.MergedStates.{IsMergedOf, merged_none, merged_same, merged_other}

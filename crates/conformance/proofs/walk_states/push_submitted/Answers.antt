@@ -1,4 +1,4 @@
-use Rattle.std.proofs.Common.{ℕ, List, ◌++◌, ◌∷◌, [], sym, subst}
+use Rattle.std.proofs.Common.{List, ◌++◌, ◌∷◌, [], sym, subst}
 use Rattle.conformance.specs.declared.walk_state.WalkState.{WalkState}
 use Rattle.conformance.specs.WalkStates.{AreAfterSubmit}
 use Rattle.conformance.proofs.StatesAfterSubmit.{one_after_submit, none_more_after_submit}

@@ -1,4 +1,4 @@
-use Rattle.std.proofs.Common.{◌≡◌, ℕ, List, Some, suc, ◌+◌, sym, ap, subst, ◌∙◌, add-one}
+use Rattle.std.proofs.Common.{ℕ, List, Some, suc, sym, ap, subst, ◌∙◌, add-one}
 use Rattle.std.proofs.lemmas.Result.{IfOk-weaker}
 use Rattle.conformance.specs.declared.step.PathStep.{PathStep}
 use Rattle.conformance.specs.WalkStates.{AreStatesAt, AreAfterSubmit, choices}

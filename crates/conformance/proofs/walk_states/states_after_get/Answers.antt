@@ -1,4 +1,4 @@
-use Rattle.std.proofs.Common.{◌≡◌, List, [], ◌++◌, ◌∷◌, sym, subst, ◌∙◌, append_assoc}
+use Rattle.std.proofs.Common.{◌≡◌, List, [], ◌∷◌, sym, subst, ◌∙◌, append_assoc}
 use Rattle.std.proofs.lemmas.List.{nil_from_length}
 use Rattle.conformance.specs.declared.walk_state.WalkState.{WalkState}
 use Rattle.conformance.specs.WalkStates.{AreAfterGet}

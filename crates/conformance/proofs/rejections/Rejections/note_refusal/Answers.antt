@@ -1,6 +1,6 @@
 use Rattle.std.proofs.Common.{ℕ, Option, subst, ◌∙◌}
 use Rattle.std.proofs.lemmas.Result.{on_ok_weaker}
-use Rattle.conformance.specs.RejectionRule.{rejecting_pool, pool_of_job}
+use Rattle.conformance.specs.RejectionRule.{rejecting_pool}
 use Rattle.conformance.specs.Rejections.{NotesRefusal}
 use Rattle.conformance.proofs.rejections.Rejections.note_refusal.Goals as goal
 
