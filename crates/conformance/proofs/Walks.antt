@@ -108,6 +108,7 @@ explained_from_walks kind body path n q jobs lt w none excess reason = record {
   reason = reason;
   missing = tt;
   named = λ whole. absurd (omega (arith, lt, whole));
+  unnamed = λ _. refl;
 }
 
 -- A path whose steps are all walked is explained to its end, with the job that is missing there.
@@ -120,6 +121,7 @@ explained_to_end kind body path q jobs w reason job is_missing = record {
   reason = reason;
   missing = is_missing;
   named = λ _. refl;
+  unnamed = λ shorter. absurd (omega (arith, shorter));
 }
 
 -- A path that matches is walked to its end.

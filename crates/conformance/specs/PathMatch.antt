@@ -1,5 +1,5 @@
 -- The results of matching a path against a body.
-use Rattle.std.specs.Prelude.{◌≡◌, ◌≤◌, ◌<◌, ◌==◌, ◌||◌, ◌&&◌, ℕ, true, nat_lt, is_none, is_some, if◌then◌else◌, List, Some, ⊤, length, take, slice_get, All}
+use Rattle.std.specs.Prelude.{◌≡◌, ◌≤◌, ◌<◌, ◌==◌, ◌||◌, ◌&&◌, ℕ, true, nat_lt, is_none, is_some, if◌then◌else◌, List, None, Some, ⊤, length, take, slice_get, All}
 use Rattle.job_bodies.specs.declared.action.Action.{Action}
 use Rattle.conformance.specs.declared.step.ActorKind.{ActorKind}
 use Rattle.conformance.specs.declared.step.PathStep.{PathStep}
@@ -38,8 +38,9 @@ pub record IsExplained (kind : ActorKind) (body : List Action) (path : List Path
   pub longest : (more : ℕ) → explained.length < more → more ≤ length path → ¬ IsPathOf kind Prefix body (take more path)
   pub reason : IsReason kind body path explained.length explained.excess
   pub missing : IsMissing kind body path explained.length explained.missing
-  -- If the prefix is the whole path, there is a job that the actor should have got.
+  -- There is a job that the actor should have got exactly if the prefix is the whole path.
   pub named : explained.length ≡ length path → is_some explained.missing ≡ true
+  pub unnamed : explained.length < length path → explained.missing ≡ None
 
 -- The longer of two prefixes. If both have the same length, it is the first one if its `excess` is not `None`, and otherwise
 -- the second one.
