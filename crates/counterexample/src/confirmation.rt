@@ -7,7 +7,7 @@ ghost use Rattle.interleaving.specs.LiveView.{live_view};
 ghost use Rattle.interleaving.specs.OfPlan.{IsReachableView};
 ghost use Rattle.counterexample.specs.declared.ending.Ending.TheVariants.{Refused};
 ghost use Rattle.counterexample.specs.Witness.{IsWitness};
-ghost use Rattle.counterexample.specs.ReplayResult.{ComesTo};
+ghost use Rattle.counterexample.specs.ReplayResult.{ComesTo, Finds};
 ghost use Rattle.counterexample.specs.Confirmed.{IsAnswer, IsReason};
 
 use crate::no_thread_starts::all_start_no_thread;
@@ -60,10 +60,29 @@ pub fn confirmed(
     ensures answer { IfOk result (IsAnswer plan.now events.items members.items standing.now) }
 {
     let mut world = World::start(alloc, plan)?;
-    match replay(plan, &mut world, &events)? {
-        ReplayResult::Refused(length, pool) => Ok(Some(refused(events, length, pool))),
-        ReplayResult::NotPossible => Ok(None),
-        ReplayResult::Whole => Ok(stuck(plan, &world, events, members, standing)),
+    let replayed = replay(plan, &mut world, &events)?;
+    Ok(witness_of(plan, &world, replayed, events, members, standing))
+}
+
+/// Returns the witness that the replay of the events found, if it found one. `replayed` is the
+/// result of this replay, and `world` is the state after it.
+fn witness_of(
+    plan: &Plan,
+    world: &World,
+    replayed: ReplayResult,
+    events: Vec<Event>,
+    members: Vec<usize>,
+    standing: &[Vector],
+) -> Option<Witness>
+    requires { Finds plan.now events.items world.now.view replayed }
+    ensures witness { IfSome result
+        (λ witness. IsWitness plan.now witness.events.items witness.ending) }
+    ensures answer { IsAnswer plan.now events.items members.items standing.now result }
+{
+    match replayed {
+        ReplayResult::Refused(length, pool) => Some(refused(events, length, pool)),
+        ReplayResult::NotPossible => None,
+        ReplayResult::Whole => stuck(plan, world, events, members, standing),
     }
 }
 
