@@ -8,7 +8,7 @@
 //! choices with small losses.
 
 use crate::choices::Choice;
-use crate::machine::Machine;
+use crate::machine::{Job, Machine};
 use crate::pools::Admission;
 use crate::vectors::Potential;
 use job_bodies::{Action, MAX_ACTIONS};
@@ -55,6 +55,16 @@ impl WeightedBody<'_> {
         }
         (self.weight_at(position), false)
     }
+}
+
+/// The weights of the actors that move when a thread takes a job, before and after they move. These
+/// actors are the job and, if it ends at once, each ancestor that then continues.
+#[derive(Clone, Copy)]
+struct TakeWeights {
+    /// The last job that ended. `None` if no further ancestor continues.
+    ended: Option<usize>,
+    before: u64,
+    after: u64,
 }
 
 impl<'a> Losses<'a> {
@@ -186,30 +196,44 @@ impl<'a> Losses<'a> {
     /// ancestors are followed.
     fn of_take(&self, class: usize) -> Option<u64> {
         let pool = self.machine.plan.class_at(class)?.pool;
-        let mut job = self.machine.pools.get(pool)?.next_to_take()?;
-        let mut class = class;
-        let mut before = self.queued(class).saturating_add(self.worker(class));
-        let (mut after, mut ends) = self.weighted_class(class)?.weight_after_work(0);
+        let job = self.machine.pools.get(pool)?.next_to_take()?;
+        let (after, ends) = self.weighted_class(class)?.weight_after_work(0);
+        let mut taken = TakeWeights {
+            ended: if ends { Some(job) } else { None },
+            before: self.queued(class).saturating_add(self.worker(class)),
+            after,
+        };
         for _ in 0..MAX_PARENTS {
-            if !ends {
-                break;
-            }
-            let parent = self.machine.jobs.get(job)?.parent;
-            if self.machine.waits_for(parent) != Some(job) {
-                break;
-            }
-            let (position, _) = self.machine.point(parent)?;
-            let weighted = self.weighted_actor(parent)?;
-            let (next, is_end) = weighted.weight_after_work(position.saturating_add(1));
-            before = before.saturating_add(weighted.weight_at(position));
-            after = after.saturating_sub(self.done(class)).saturating_add(next);
-            ends = is_end;
-            let Parent::Job(number) = parent else {
+            let Some(job) = taken.ended else {
                 break;
             };
-            job = number;
-            class = self.machine.jobs.get(number)?.class;
+            taken = self.with_parent(taken, job)?;
         }
-        Some(before.saturating_sub(after))
+        Some(taken.before.saturating_sub(taken.after))
+    }
+
+    /// Adds the next steps of the parent of `job`, which has ended, if the parent waits for it.
+    fn with_parent(&self, taken: TakeWeights, job: usize) -> Option<TakeWeights> {
+        let Job { class, parent, .. } = *self.machine.jobs.get(job)?;
+        if self.machine.waits_for(parent) != Some(job) {
+            return Some(TakeWeights {
+                ended: None,
+                ..taken
+            });
+        }
+        let (position, _) = self.machine.point(parent)?;
+        let weighted = self.weighted_actor(parent)?;
+        let (next, ends) = weighted.weight_after_work(position.saturating_add(1));
+        Some(TakeWeights {
+            ended: match parent {
+                Parent::Job(number) if ends => Some(number),
+                _ => None,
+            },
+            before: taken.before.saturating_add(weighted.weight_at(position)),
+            after: taken
+                .after
+                .saturating_sub(self.done(class))
+                .saturating_add(next),
+        })
     }
 }
