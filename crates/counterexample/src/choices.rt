@@ -46,6 +46,7 @@ pub(crate) struct Choices {
 impl Choices {
     /// Computes the choices of the plan.
     pub(crate) fn of(alloc: Global, plan: &Plan) -> Result<Choices, AllocError> {
+        let limits = QueueLimits::of(alloc, plan)?;
         let mut choices = Choices {
             all: Vec::new(alloc),
             has_core_timeout: plan.pools().iter().any(|pool| pool.core_timeout),
@@ -53,39 +54,104 @@ impl Choices {
             of_kinds: Vec::new(alloc),
             of_classes: Vec::new(alloc),
         };
-        let limits = QueueLimits::of(alloc, plan)?;
+        choices.add_all(alloc, plan, &limits)?;
+        Ok(choices)
+    }
+
+    /// Adds the choices of each client kind, class and pool of the plan.
+    fn add_all(
+        &mut self,
+        alloc: Global,
+        plan: &Plan,
+        limits: &QueueLimits,
+    ) -> Result<(), AllocError> {
         for (kind, client) in plan.clients().iter().enumerate() {
-            let limit = first_submit(&client.body).and_then(|class| limits.for_clients(class));
-            choices.add(Choice::Begin(kind), limit)?;
-            let mut places = Vec::new(alloc);
-            let mut is_first = true;
-            for action in &client.body {
-                let choice = if is_first {
-                    Choice::First(kind)
-                } else {
-                    Choice::Later(kind)
-                };
-                let place = choices.add_submit(&limits, *action, choice)?;
-                is_first = is_first && place == NO_CHOICE;
-                places.push(place)?;
-            }
-            choices.of_kinds.push(places)?;
+            self.add_client(alloc, limits, kind, &client.body)?;
         }
         for (number, class) in plan.classes().iter().enumerate() {
-            choices.add(Choice::Take(number), None)?;
-            let mut places = Vec::new(alloc);
-            for action in &class.body {
-                let place = choices.add_submit(&limits, *action, Choice::Inner(number))?;
-                places.push(place)?;
-            }
-            choices.of_classes.push(places)?;
+            self.add_class(alloc, limits, number, &class.body)?;
         }
+        self.add_retirements(plan)
+    }
+
+    /// Adds the choices of a client kind, whose clients have this body.
+    fn add_client(
+        &mut self,
+        alloc: Global,
+        limits: &QueueLimits,
+        kind: usize,
+        body: &[Action],
+    ) -> Result<(), AllocError> {
+        let limit = first_submit(body).and_then(|class| limits.for_clients(class));
+        self.add(Choice::Begin(kind), limit)?;
+        let places = self.add_client_submits(alloc, limits, kind, body)?;
+        self.of_kinds.push(places)?;
+        Ok(())
+    }
+
+    /// Adds a choice for each submit in the body of a client kind. Returns, for each action of the
+    /// body, the index of its choice, or [`NO_CHOICE`] if the action is not a submit.
+    fn add_client_submits(
+        &mut self,
+        alloc: Global,
+        limits: &QueueLimits,
+        kind: usize,
+        body: &[Action],
+    ) -> Result<Vec<usize>, AllocError> {
+        let mut places = Vec::new(alloc);
+        let mut is_first = true;
+        for action in body {
+            let choice = if is_first {
+                Choice::First(kind)
+            } else {
+                Choice::Later(kind)
+            };
+            let place = self.add_submit(limits, *action, choice)?;
+            is_first = is_first && place == NO_CHOICE;
+            places.push(place)?;
+        }
+        Ok(places)
+    }
+
+    /// Adds the choices of a class, whose jobs have this body.
+    fn add_class(
+        &mut self,
+        alloc: Global,
+        limits: &QueueLimits,
+        class: usize,
+        body: &[Action],
+    ) -> Result<(), AllocError> {
+        self.add(Choice::Take(class), None)?;
+        let places = self.add_class_submits(alloc, limits, class, body)?;
+        self.of_classes.push(places)?;
+        Ok(())
+    }
+
+    /// Adds a choice for each submit in the body of a class. Returns, for each action of the body,
+    /// the index of its choice, or [`NO_CHOICE`] if the action is not a submit.
+    fn add_class_submits(
+        &mut self,
+        alloc: Global,
+        limits: &QueueLimits,
+        class: usize,
+        body: &[Action],
+    ) -> Result<Vec<usize>, AllocError> {
+        let mut places = Vec::new(alloc);
+        for action in body {
+            let place = self.add_submit(limits, *action, Choice::Inner(class))?;
+            places.push(place)?;
+        }
+        Ok(places)
+    }
+
+    /// Adds a choice for each pool whose core threads may time out.
+    fn add_retirements(&mut self, plan: &Plan) -> Result<(), AllocError> {
         for (number, pool) in plan.pools().iter().enumerate() {
             if pool.core_timeout {
-                choices.add(Choice::Retire(number), None)?;
+                self.add(Choice::Retire(number), None)?;
             }
         }
-        Ok(choices)
+        Ok(())
     }
 
     fn add_submit(

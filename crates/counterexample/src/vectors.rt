@@ -24,31 +24,45 @@ pub(crate) struct Potential {
 /// pool needs in a certificate, and returns those whose totals are larger than the plan's sizes
 /// allow. The list is empty if a class submits itself, directly or through other classes.
 pub(crate) fn missed_vectors(alloc: Global, plan: &Plan) -> Result<Vec<Potential>, AllocError> {
+    match Levels::of(alloc, plan)? {
+        Some(levels) => missed_at_levels(alloc, plan, &levels),
+        None => Ok(Vec::new(alloc)),
+    }
+}
+
+/// Returns the vectors of [`missed_vectors`] for a plan whose classes have these levels.
+fn missed_at_levels(
+    alloc: Global,
+    plan: &Plan,
+    levels: &Levels,
+) -> Result<Vec<Potential>, AllocError> {
+    let maxes: Vec<u64> = plan.pools().iter().map(|pool| pool.max).collect(alloc)?;
+    let growing = ResizedPlan {
+        plan,
+        levels,
+        maxes: &maxes,
+    };
     let mut vectors = MissedVectors {
         alloc,
         potentials: Vec::new(alloc),
     };
-    let Some(levels) = Levels::of(alloc, plan)? else {
-        return Ok(vectors.potentials);
-    };
-    let maxes: Vec<u64> = plan.pools().iter().map(|pool| pool.max).collect(alloc)?;
-    let growing = ResizedPlan {
-        plan,
-        levels: &levels,
-        maxes: &maxes,
-    };
-    for (number, pool) in plan.pools().iter().enumerate() {
-        if !pool.needs_no_bound() {
-            vectors.check_total(&growing, number, Kind::Standing, pool.queue)?;
-        }
-    }
-    let mut ranks = vec![in alloc; None; plan.pools().len()]?;
-    for rank in 0..plan.pools().len() as u64 {
-        if !vectors.rank_pools(&growing, &mut ranks, rank)? {
-            break;
-        }
-    }
+    vectors.check_standing(&growing)?;
+    vectors.check_blocked(&growing)?;
     Ok(vectors.potentials)
+}
+
+/// Returns the reach of each class, if each pool that has no rank in `ranks` gets `rank`.
+fn reach_at_rank(
+    alloc: Global,
+    growing: &ResizedPlan,
+    ranks: &[Option<u64>],
+    rank: u64,
+) -> Result<Vec<u64>, AllocError> {
+    let known: Vec<u64> = ranks
+        .iter()
+        .map(|known| known.unwrap_or(rank))
+        .collect(alloc)?;
+    reach(alloc, growing.plan, growing.levels, &known)
 }
 
 /// The vectors that were found to have larger totals than the plan's sizes allow.
@@ -59,6 +73,29 @@ struct MissedVectors {
 }
 
 impl MissedVectors {
+    /// Records the standing vectors whose totals are larger than the capacities of the queues.
+    fn check_standing(&mut self, growing: &ResizedPlan) -> Result<(), AllocError> {
+        for (number, pool) in growing.plan.pools().iter().enumerate() {
+            if !pool.needs_no_bound() {
+                self.check_total(growing, number, Kind::Standing, pool.queue)?;
+            }
+        }
+        Ok(())
+    }
+
+    /// Gives ranks to the pools in ascending order, until no pool gets the next rank. Then records
+    /// the blocked vectors of the pools without a rank.
+    fn check_blocked(&mut self, growing: &ResizedPlan) -> Result<(), AllocError> {
+        let pools = growing.plan.pools().len();
+        let mut ranks = vec![in self.alloc; None; pools]?;
+        for rank in 0..pools as u64 {
+            if !self.rank_pools(growing, &mut ranks, rank)? {
+                break;
+            }
+        }
+        Ok(())
+    }
+
     /// Returns `true` if the pool's lightest vector of this kind has a total of at most `limit`. If
     /// the total is larger, records this vector and returns `false`. Also returns `false` if there
     /// is no vector of this kind.
@@ -104,12 +141,30 @@ impl MissedVectors {
         ranks: &mut Vec<Option<u64>>,
         rank: u64,
     ) -> Result<bool, AllocError> {
-        let known: Vec<u64> = ranks
-            .iter()
-            .map(|known| known.unwrap_or(rank))
-            .collect(self.alloc)?;
-        let reach = reach(self.alloc, growing.plan, growing.levels, &known)?;
+        let reach = reach_at_rank(self.alloc, growing, ranks, rank)?;
         let kept = self.potentials.len();
+        let kind = Kind::Blocked {
+            reach: &reach,
+            rank,
+            lending: true,
+        };
+        let moved = self.rank_with(growing, ranks, rank, kind)?;
+        if moved {
+            self.potentials.truncate(kept);
+        }
+        Ok(moved)
+    }
+
+    /// Gives `rank` to each pool that has no rank and whose lightest vector of this kind shows that
+    /// the pool has enough threads. Records this vector of each other pool that has no rank.
+    /// Returns whether any pool got the rank.
+    fn rank_with(
+        &mut self,
+        growing: &ResizedPlan,
+        ranks: &mut Vec<Option<u64>>,
+        rank: u64,
+        kind: Kind,
+    ) -> Result<bool, AllocError> {
         let mut moved = false;
         for (number, pool) in growing.plan.pools().iter().enumerate() {
             let Some(place) = ranks.get_mut(number) else {
@@ -118,19 +173,11 @@ impl MissedVectors {
             if place.is_some() {
                 continue;
             }
-            let kind = Kind::Blocked {
-                reach: &reach,
-                rank,
-                lending: true,
-            };
             let limit = pool.least_threads().saturating_sub(1);
             if self.check_total(growing, number, kind, limit)? {
                 *place = Some(rank);
                 moved = true;
             }
-        }
-        if moved {
-            self.potentials.truncate(kept);
         }
         Ok(moved)
     }
