@@ -147,17 +147,28 @@ impl Shortener<'_> {
             return Ok(());
         }
         self.left = self.left.saturating_sub(events);
+        let kept = self.kept_without(is_out)?;
+        if kept.contains(&false) {
+            self.try_replay(&kept)?;
+        }
+        Ok(())
+    }
+
+    /// Returns, for each event of the script, whether `is_out` returns `false` for it.
+    fn kept_without<F: Fn(usize, Event) -> bool>(&self, is_out: F) -> Result<Vec<bool>, AllocError>
+        requires { F.IsAlwaysCallable is_out }
+    {
         let mut kept = Vec::with_capacity(self.alloc, self.script.steps.len())?;
-        let mut all = true;
         for (place, act) in self.script.steps.iter().enumerate() {
-            let is_kept = !is_out(place, act.event);
-            all = all && is_kept;
-            kept.push(is_kept)?;
+            kept.push(!is_out(place, act.event))?;
         }
-        if all {
-            return Ok(());
-        }
-        let replay = Replay::of(self.alloc, self.plan, &self.script, &kept)?;
+        Ok(kept)
+    }
+
+    /// Replays the events of the script whose elements in `kept` are `true`. The performed events
+    /// become the new script under the conditions of [`try_without`](Shortener::try_without).
+    fn try_replay(&mut self, kept: &[bool]) -> Result<(), AllocError> {
+        let replay = Replay::of(self.alloc, self.plan, &self.script, kept)?;
         if replay.has_violation(self.alloc, self.violation)?
             && replay.script.steps.len() < self.script.steps.len()
         {
