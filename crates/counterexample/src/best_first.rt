@@ -48,6 +48,26 @@ struct ReplayedState<'a> {
     lost: Vec<u64>,
 }
 
+impl ReplayedState<'_> {
+    /// Performs these branches in order. `potentials` has the vectors of `lost`.
+    fn perform(&mut self, path: &[Branch], potentials: &[Potential]) -> Result<(), AllocError> {
+        for branch in path {
+            for (lost, potential) in self.lost.iter_mut().zip(potentials) {
+                *lost = lost.saturating_add(self.walk.loss(*branch, potential));
+            }
+            self.walk.choose(branch.place, branch.newer)?;
+        }
+        Ok(())
+    }
+
+    /// Returns the weight that is lost on the way to the successor to which `branch` leads.
+    /// `potential` is the vector with the number `vector`.
+    fn lost_after(&self, branch: Branch, vector: usize, potential: &Potential) -> u64 {
+        let lost = self.lost.get(vector).copied().unwrap_or(0);
+        lost.saturating_add(self.walk.loss(branch, potential))
+    }
+}
+
 /// The result of a best-first search.
 #[derive(Drop)]
 pub(crate) struct BestFirstResult {
@@ -214,19 +234,47 @@ impl<'a> BestFirst<'a> {
     /// Stores in `stuck_now` the events of the first violation that is not permanent.
     fn expand(&mut self, number: usize) -> Result<Option<(Script, Violation)>, AllocError> {
         let replayed = self.replayed(number)?;
-        for branch in &replayed.walk.branches(self.alloc)? {
+        let branches = replayed.walk.branches(self.alloc)?;
+        self.expand_along(&replayed, number, &branches)
+    }
+
+    /// Visits the successors to which these branches lead, as [`expand`](BestFirst::expand) does.
+    /// `replayed` is the state with this number.
+    fn expand_along(
+        &mut self,
+        replayed: &ReplayedState<'a>,
+        number: usize,
+        branches: &[Branch],
+    ) -> Result<Option<(Script, Violation)>, AllocError> {
+        for branch in branches {
             if self.left == 0 {
                 break;
             }
             self.left = self.left.saturating_sub(1);
-            if let Some(violation) = self.visit(&replayed, number, *branch)? {
-                let script = self.script_of(number, *branch)?;
-                if violation != Violation::StuckNow {
-                    return Ok(Some((script, violation)));
+            if let Some(violation) = self.visit(replayed, number, *branch)? {
+                let found = self.record_violation(number, *branch, violation)?;
+                if found.is_some() {
+                    return Ok(found);
                 }
-                self.stuck_now = Some(script);
             }
         }
+        Ok(None)
+    }
+
+    /// Returns a violation with the events that lead to it, if it is permanent. Otherwise stores
+    /// these events in `stuck_now`, and returns `None`. The violation is in the successor to which
+    /// `branch` leads from the state with this number.
+    fn record_violation(
+        &mut self,
+        number: usize,
+        branch: Branch,
+        violation: Violation,
+    ) -> Result<Option<(Script, Violation)>, AllocError> {
+        let script = self.script_of(number, branch)?;
+        if violation != Violation::StuckNow {
+            return Ok(Some((script, violation)));
+        }
+        self.stuck_now = Some(script);
         Ok(None)
     }
 
@@ -244,16 +292,29 @@ impl<'a> BestFirst<'a> {
     ) -> Result<Option<Violation>, AllocError> {
         let mut walk = replayed.walk.try_clone(self.alloc)?;
         match walk.choose(branch.place, branch.newer)? {
-            WalkStep::Refused => return Ok(Some(Violation::Refused)),
-            WalkStep::Nothing => return Ok(None),
-            WalkStep::Advanced | WalkStep::Rejected => {}
+            WalkStep::Refused => Ok(Some(Violation::Refused)),
+            WalkStep::Nothing => Ok(None),
+            WalkStep::Advanced | WalkStep::Rejected => {
+                self.visit_successor(replayed, &walk, number, branch)
+            }
         }
+    }
+
+    /// Visits a successor as [`visit`](BestFirst::visit) does. `walk` is in the successor, and no
+    /// submit was refused.
+    fn visit_successor(
+        &mut self,
+        replayed: &ReplayedState<'a>,
+        walk: &Walk<'a>,
+        number: usize,
+        branch: Branch,
+    ) -> Result<Option<Violation>, AllocError> {
         let print = walk.fingerprint(self.alloc)?;
         if !self.seen.insert(print)? {
             return Ok(None);
         }
         let next = self.add_node(number, branch)?;
-        self.add_open(replayed, &walk, branch, next)?;
+        self.add_open(replayed, walk, branch, next)?;
         if (walk.has_blocked || self.choices.has_core_timeout) && walk.has_closed() {
             return walk.stuck(self.alloc, self.stuck_now.is_none());
         }
@@ -270,14 +331,14 @@ impl<'a> BestFirst<'a> {
         branch: Branch,
         number: usize,
     ) -> Result<(), AllocError> {
-        let known = replayed.lost.iter().zip(self.potentials).map(|(lost, potential)| {
-            lost.saturating_add(replayed.walk.loss(branch, potential))
-        });
-        let mut costs: Vec<u64> = known.collect(self.alloc)?;
-        costs.push(walk.moving_threads())?;
-        costs.push(walk.least_room())?;
-        for (open, cost) in self.opens.iter_mut().zip(&costs) {
-            open.push((u64::MAX.saturating_sub(*cost), number))?;
+        let potentials = self.potentials;
+        for (measure, open) in self.opens.iter_mut().enumerate() {
+            let cost = match potentials.get(measure) {
+                Some(potential) => replayed.lost_after(branch, measure, potential),
+                None if measure == potentials.len() => walk.moving_threads(),
+                None => walk.least_room(),
+            };
+            open.push((u64::MAX.saturating_sub(cost), number))?;
         }
         Ok(())
     }
@@ -303,14 +364,15 @@ impl<'a> BestFirst<'a> {
 
     /// Recreates the state with this number by performing the branches that lead to this state.
     fn replayed(&self, number: usize) -> Result<ReplayedState<'a>, AllocError> {
-        let mut walk = Walk::start(self.alloc, self.plan, self.choices)?;
-        let mut lost = vec![in self.alloc; 0u64; self.potentials.len()]?;
-        for branch in &self.path_to(number)? {
-            for (lost, potential) in lost.iter_mut().zip(self.potentials) {
-                *lost = lost.saturating_add(walk.loss(*branch, potential));
-            }
-            walk.choose(branch.place, branch.newer)?;
-        }
+        let path = self.path_to(number)?;
+        let mut replayed = self.initial_state()?;
+        replayed.perform(&path, self.potentials)?;
+        Ok(replayed)
+    }
+
+    fn initial_state(&self) -> Result<ReplayedState<'a>, AllocError> {
+        let lost = vec![in self.alloc; 0u64; self.potentials.len()]?;
+        let walk = Walk::start(self.alloc, self.plan, self.choices)?;
         Ok(ReplayedState { walk, lost })
     }
 

@@ -40,6 +40,7 @@ mod rising;
 mod scripts;
 mod search;
 mod shorten;
+mod stuck_checks;
 mod vectors;
 mod waiting_sets;
 mod walks;

@@ -118,13 +118,22 @@ impl Search<'_> {
             return Ok(Some(found));
         }
         let potentials = missed_vectors(self.alloc, self.plan)?;
-        if let Some(found) = self.search_guided(&potentials)? {
+        self.find_with(&potentials)
+    }
+
+    /// Performs the stages of [`find`](Search::find) after the walks in fixed orders. Each vector
+    /// in `potentials` guides walks and the best-first search.
+    fn find_with(
+        &mut self,
+        potentials: &[Potential],
+    ) -> Result<Option<CandidateWitness>, AllocError> {
+        if let Some(found) = self.search_guided(potentials)? {
             return Ok(Some(found));
         }
         if let Some(found) = self.random_walks()? {
             return Ok(Some(found));
         }
-        if let Some(found) = self.best_first(&potentials)? {
+        if let Some(found) = self.best_first(potentials)? {
             return Ok(Some(found));
         }
         self.stuck_now_result()
@@ -240,7 +249,7 @@ impl Search<'_> {
             self.alloc,
             self.plan,
             &self.choices,
-            rules,
+            &mut rules,
             potential,
             &mut self.rng,
         )?;

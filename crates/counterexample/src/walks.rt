@@ -8,8 +8,8 @@ use crate::losses::Losses;
 use crate::machine::{Machine, StepOutcome};
 use crate::orders::{Rng, shuffle};
 use crate::scripts::Script;
+use crate::stuck_checks::StuckChecks;
 use crate::vectors::Potential;
-use crate::waiting_sets::JobSet;
 use job_bodies::{Action, Plan};
 use std::alloc::{AllocError, Global};
 use written_machine::Parent;
@@ -95,45 +95,12 @@ pub(crate) fn perform_walk<'a>(
     alloc: Global,
     plan: &'a Plan,
     choices: &'a Choices,
-    rules: Rules,
+    rules: &mut Rules,
     potential: Option<&Potential>,
     rng: &mut Rng,
 ) -> Result<WalkResult, AllocError> {
     let mut walk = Walk::start(alloc, plan, choices)?;
-    let mut rules = rules;
-    let mut stuck_now = None;
-    let mut due = 8;
-    let mut due_in_passing = 0;
-    let mut states = 1usize;
-    for step in 1..rules.max_states {
-        if rules.changing && rng.next_number() % 16 == 0 {
-            shuffle(&mut rules.keys, rng);
-        }
-        match walk.step(&rules, potential)? {
-            WalkStep::Advanced | WalkStep::Rejected => states = states.saturating_add(1),
-            WalkStep::Refused => return Ok(walk.into_result(Some(Violation::Refused), states)),
-            WalkStep::Nothing => break,
-        }
-        let due_now = choices.has_core_timeout && stuck_now.is_none() && step >= due_in_passing;
-        if (walk.has_blocked && step >= due) || (due_now && walk.has_closed()) {
-            walk.has_blocked = false;
-            let jobs = walk.machine.jobs.len();
-            due = step.saturating_add(8).saturating_add(jobs / 4);
-            due_in_passing = step.saturating_add(jobs / 16);
-            match walk.stuck(alloc, stuck_now.is_none())? {
-                Some(Violation::StuckNow) => stuck_now = Some(walk.script.steps.len()),
-                None => {}
-                violation => return Ok(walk.into_result(violation, states)),
-            }
-        }
-    }
-    let mut violation = walk.stuck(alloc, true)?;
-    if violation.is_none() {
-        if let Some(length) = stuck_now {
-            walk.script.steps.truncate(length);
-            violation = Some(Violation::StuckNow);
-        }
-    }
+    let (violation, states) = walk.perform(alloc, rules, potential, rng)?;
     Ok(walk.into_result(violation, states))
 }
 
@@ -166,18 +133,32 @@ impl<'a> Walk<'a> {
         }
     }
 
-    /// Returns the violation if some jobs wait only for each other, and `None` otherwise. If `now`
-    /// is `false`, returns `None` also if the violation is not permanent.
-    pub(crate) fn stuck(&self, alloc: Global, now: bool) -> Result<Option<Violation>, AllocError> {
-        let members = JobSet::greatest(alloc, &self.machine, false)?;
-        if members.is_empty() {
-            return Ok(None);
+    /// Makes the choices of [`perform_walk`]. Returns the violation in which the walk ends, if any,
+    /// and the number of visited states.
+    fn perform(
+        &mut self,
+        alloc: Global,
+        rules: &mut Rules,
+        potential: Option<&Potential>,
+        rng: &mut Rng,
+    ) -> Result<(Option<Violation>, usize), AllocError> {
+        let mut checks = StuckChecks::new();
+        let mut states = 1usize;
+        for step in 1..rules.max_states {
+            if rules.changing && rng.next_number() % 16 == 0 {
+                shuffle(&mut rules.keys, rng);
+            }
+            match self.step(rules, potential)? {
+                WalkStep::Advanced | WalkStep::Rejected => states = states.saturating_add(1),
+                WalkStep::Refused => return Ok((Some(Violation::Refused), states)),
+                WalkStep::Nothing => break,
+            }
+            let violation = self.check_if_due(alloc, step, &mut checks)?;
+            if violation.is_some() {
+                return Ok((violation, states));
+            }
         }
-        let members = JobSet::greatest(alloc, &self.machine, true)?;
-        if !members.is_empty() {
-            return Ok(Some(Violation::StuckForever));
-        }
-        Ok(if now { Some(Violation::StuckNow) } else { None })
+        Ok((self.check_at_end(alloc, &checks)?, states))
     }
 
     /// Makes the choice of [`first_possible`](Walk::first_possible), if there is one.
