@@ -137,13 +137,17 @@ only_one (first ∷ second ∷ states) few one other i j = absurd (omega (arith,
 
 pub single_merged : (states : List WalkState) → length states ≤ 1 → AreMerged states states
 single_merged states few = record {
-  from = λ state i. (state, i, record {
-    jobs = refl;
-    passes = refl;
-    row_length = refl;
-    from = λ index at. (state, i, refl, at);
-    to = λ index other j same at lt. subst (λ (s : WalkState). is_at s index ≡ true) (only_one states few other state j i) at;
-  });
+  from = λ state i. (
+    state,
+    i,
+    record {
+      jobs = refl;
+      passes = refl;
+      row_length = refl;
+      from = λ index at. (state, i, refl, at);
+      to = λ index other j same at lt. subst (λ (s : WalkState). is_at s index ≡ true) (only_one states few other state j i) at;
+    },
+  );
   to = λ one i. (one, i, refl);
   distinct = λ i j one other at_i at_j same.
       let first = slice_get_within states i one at_i in

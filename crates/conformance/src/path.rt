@@ -35,10 +35,10 @@ use std::alloc::{AllocError, Global};
 ///
 /// A job of the path may belong to several classes that the body submits. Then there is a state of
 /// the walk for each list of jobs that can be open, with one class for each job. If there are more
-/// than [`MAX_OPEN_LISTS`] of them, three ways are tried to choose one
-/// class for each job: the first class, the last class, and the class of the next submit that fits.
-/// The result is [`PathMatch::Undecided`] if the path matches in none of the three ways. No contract
-/// says that these ways are tried.
+/// than [`MAX_OPEN_LISTS`] of them, three ways are tried to choose one class for each job: the first
+/// class, the last class, and the class of the next submit that fits. The result is
+/// [`PathMatch::Undecided`] if the path matches in none of the three ways. No contract says that
+/// these ways are tried.
 ///
 /// If each job of the path has at most one of the body's classes, the number of computation steps
 /// is at most proportional to the length of the body times the length of the path.
