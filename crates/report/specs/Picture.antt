@@ -61,10 +61,13 @@ bound_part plan p pool (Some part) = bound_of plan p pool part.bound
 abbrev pub pool_label : Plan → ℕ → Pool → Option PoolCert → List ℕ
 pool_label plan p pool part = pool.name ++ (codes "\\n" ++ (threads_text pool ++ (codes ", queue " ++ (queue_size pool ++ bound_part plan p pool part))))
 
+-- the node with the label of pool p
+abbrev pub label_node : ℕ → List ℕ → List ℕ
+label_node p label = codes "    pool" ++ (decimal p ++ (codes " [shape=plaintext label=\"" ++ (label ++ (codes "\"]" ++ 10 ∷ []))))
+
 -- the first lines of the box of pool p: a node with the label
 abbrev pub box_start : ℕ → List ℕ → List ℕ
-box_start p label =
-    codes "  subgraph cluster" ++ (decimal p ++ ((codes " {" ++ 10 ∷ []) ++ (codes "    pool" ++ (decimal p ++ (codes " [shape=plaintext label=\"" ++ (label ++ (codes "\"]" ++ 10 ∷ [])))))))
+box_start p label = codes "  subgraph cluster" ++ (decimal p ++ ((codes " {" ++ 10 ∷ []) ++ label_node p label))
 
 -- the nodes of the classes in the box of pool p, and its end
 abbrev pub box_nodes : List Class → ℕ → List ℕ

@@ -152,7 +152,23 @@ fn push_start(
         (spec.box_start number (spec.pool_label plan.now number pool.now (option_map (λ part. part.now) part.entry))) }
 {
     write!(text, "  subgraph cluster{number}")?;
-    write!(text, " {{\n    pool{number} [shape=plaintext label=\"")?;
+    text.push_str(" {\n")?;
+    push_label_node(text, plan, number, pool, part)
+}
+
+/// Appends the node with the pool's name and sizes.
+fn push_label_node(
+    text: &mut String,
+    plan: &Plan,
+    number: usize,
+    pool: &Pool,
+    part: Option<&PoolCert>,
+) -> Result<(), AllocError>
+    ensures { Pushes result text.old text.new
+        (spec.label_node number (spec.pool_label plan.now number pool.now (option_map (λ part. part.now) part.entry))) }
+{
+    write!(text, "    pool{number}")?;
+    text.push_str(" [shape=plaintext label=\"")?;
     push_label(text, plan, number, pool, part)?;
     text.push_str("\"]\n")
 }
