@@ -58,10 +58,15 @@ def copy_of_repository(folder, change=lambda copy: None):
 
 
 def commit(folder, time):
-    """Commits what is staged, as of a time."""
+    """
+    Commits what is staged, as of a time.
+
+    Git does not pack the objects afterwards: it would do so in the background, while the check removes the folder.
+    """
     who = {f"GIT_{role}_{what}": "check" for role in ("AUTHOR", "COMMITTER") for what in ("NAME", "EMAIL")}
     times = {"GIT_AUTHOR_DATE": time, "GIT_COMMITTER_DATE": time}
-    must(["git", "commit", "-q", "-m", "a commit of a check"], folder, env={**os.environ, **who, **times})
+    words = ["git", "-c", "gc.auto=0", "-c", "maintenance.auto=false", "commit", "-q", "-m", "a commit of a check"]
+    must(words, folder, env={**os.environ, **who, **times})
 
 
 def put_program(copy, program, command="make gate"):
