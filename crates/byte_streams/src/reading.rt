@@ -19,8 +19,8 @@ pub trait Source {
     ghost failures: { Self → ℕ };
 
     /// Reads the next bytes into the start of `piece`, and returns the number of bytes that were
-    /// read. If `piece` is not empty, a result of 0 means the end of the input. If the call fails,
-    /// no bytes are lost.
+    /// read. If `piece` is not empty, a result of 0 means the end of the input. A call that fails
+    /// consumes no bytes of the source.
     fn read(&mut self, piece: &mut [u8]) -> Result<usize, IoFault>
         ensures bound { ReadsAtMost result piece.new }
         ensures bytes { ReadConsumes (remaining self.old) (remaining self.new) result piece.new }

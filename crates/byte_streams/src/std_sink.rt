@@ -54,8 +54,8 @@ impl<W: Write> Sink for StdSink<W> {
     /// Returns a fault in these cases:
     ///
     /// - All calls are interrupted.
-    /// - The writer returns another error.
-    /// - The writer accepts no byte of a slice that is not empty.
+    /// - A call returns an error that is not an interruption.
+    /// - `bytes` is not empty, and the writer accepts none of it.
     fn write(&mut self, bytes: &[u8]) -> Result<usize, IoFault> {
         let outcome = write_retrying(&mut self.writer, bytes);
         if outcome.is_err() {

@@ -54,7 +54,8 @@ impl<R: Read> Source for StdSource<R> {
     ///
     /// # Errors
     ///
-    /// Returns a fault if all calls are interrupted, or if the reader returns another error.
+    /// Returns a fault if all calls are interrupted, or if a call returns an error that is not an
+    /// interruption.
     fn read(&mut self, piece: &mut [u8]) -> Result<usize, IoFault> {
         let outcome = read_retrying(&mut self.reader, piece);
         if outcome.is_err() {

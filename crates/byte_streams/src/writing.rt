@@ -27,8 +27,8 @@ pub trait Sink {
 ///
 /// # Errors
 ///
-/// Stops at the first call that fails, and returns its fault. A prefix of `bytes` may then be
-/// written.
+/// Stops at the first call that fails, and returns its fault. A prefix of `bytes` may then have
+/// been written.
 pub fn write_all<K: Sink>(sink: &mut K, bytes: &[u8]) -> Result<(), IoFault>
     ensures ok { OnOk result (Appends (K.written sink.old) (K.written sink.new) bytes.now) }
     ensures err { OnErr result (AppendsFront (K.written sink.old) (K.written sink.new) bytes.now) }

@@ -1,7 +1,8 @@
-//! Tests of whether a certificate accepts a plan. A certificate has [`Ranks`](crate::Ranks) and,
-//! for each pool, a blocked vector, which bounds the pool's jobs that wait for other jobs. It can
-//! also have a [`Bound`] of a pool, which shows that the pool never refuses a job. A pool needs a
-//! bound if it must not reject jobs and its queue is bounded.
+//! Functions that decide whether a certificate accepts a plan. A certificate has
+//! [`Ranks`](crate::Ranks) and, for each pool, a blocked vector, which bounds the number of the
+//! pool's jobs that wait for other jobs. The certificate can also have a [`Bound`] for a pool: a
+//! vector which shows that this pool never refuses a job. A pool needs a bound if it must not
+//! reject jobs and its queue is bounded.
 
 ghost use Rattle.std.specs.Prelude.{◌≡◌, ◌<◌, ◌&&◌, not, IsTrue, length};
 ghost use Rattle.std.specs.List.{list_all, enumerate_from};
@@ -20,8 +21,8 @@ use cert_text::Cert;
 use job_bodies::Plan;
 use weights::{Bound, RanksOf, Vector, blocked_fault};
 
-/// Returns whether the certificate accepts the plan: it fits the plan, and all conditions of the
-/// certificate hold. Allocates no memory.
+/// Returns whether the certificate accepts the plan. A certificate accepts a plan if it fits the
+/// plan and all of its conditions hold. Allocates no memory.
 pub fn accepts(plan: &Plan, cert: &Cert) -> bool
     ensures exact { result ≡ accepted plan.now cert.now }
     ensures promises { IsTrue result → Promises plan.now cert.now }
@@ -46,9 +47,9 @@ pub(crate) fn conditions_hold(plan: &Plan, cert: &Cert) -> bool
     true
 }
 
-/// Returns whether all conditions for the pool hold. These are the conditions of the pool's blocked
-/// vector and of its bound. A pool without a bound has only the conditions of the blocked vector.
-/// The certificate must fit the plan.
+/// Returns whether all conditions for the pool hold: those of the pool's blocked vector and those
+/// of its bound. A pool without a bound has only the conditions of the blocked vector. The
+/// certificate must fit the plan.
 pub(crate) fn pool_holds(plan: &Plan, cert: &Cert, pool: usize) -> bool
     requires fits { IsTrue (cert_fits plan.now cert.now) }
     requires pool { pool < length plan.now.pools }
@@ -72,9 +73,9 @@ fn bound_holds(plan: &Plan, pool: usize, bound: &Option<Bound>) -> bool
     }
 }
 
-/// Returns whether the standing vectors of the certificate alone show that no submit is ever
-/// refused. A standing vector bounds the number of a pool's queued jobs. The result is `true` if
-/// all of these conditions hold:
+/// Returns whether the certificate's standing vectors alone show that no submit is ever refused. A
+/// standing vector bounds the number of a pool's queued jobs. The result is `true` exactly when all
+/// of these conditions hold:
 ///
 /// - The certificate fits the plan.
 /// - No pool of the plan may reject jobs. A rejected job could increase the weight of a state, so

@@ -1,15 +1,15 @@
-//! The result of a check.
+//! The types of the verdict on a plan and a certificate.
 
 ghost use Rattle.cert_check.specs.Verdict as spec;
 
 use std::marker::Model;
 
 /// The total of a pool's bound, and the limit of this total. The bound is a standing vector, which
-/// bounds the pool's queued jobs, or a lifetime vector, which bounds all jobs ever submitted to the
-/// pool.
+/// bounds the number of the pool's queued jobs, or a lifetime vector, which bounds the number of
+/// all jobs that are ever submitted to the pool.
 #[derive(Clone, Copy, Debug, PartialEq, Eq)]
 pub struct BoundTotal {
-    /// Whether the bound is a lifetime vector. Otherwise, the bound is a standing vector.
+    /// `true` if the bound is a lifetime vector, and `false` if it is a standing vector.
     pub lifetime: bool,
     /// The total of the bound.
     pub total: u64,
@@ -22,7 +22,7 @@ pub struct BoundTotal {
 /// The totals of a pool's bound and of its blocked vector, each with its limit.
 #[derive(Clone, Copy, Debug, PartialEq, Eq)]
 pub struct PoolLine {
-    /// The total of the pool's bound, or `None` if the pool has no bound.
+    /// The total of the pool's bound with its limit, or `None` if the pool has no bound.
     pub bound: Option<BoundTotal>,
     /// The total of the blocked vector. If the certificate accepts the plan, this total bounds the
     /// number of the pool's jobs that wait at [counted](weights::Counted) gets.

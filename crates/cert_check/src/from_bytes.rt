@@ -19,8 +19,8 @@ pub enum CheckFault {
     Cert(CertFault),
     /// Memory ran out. This fault says nothing about the texts.
     Memory,
-    /// The gate returned `false` for a pool. The gate is a hook that only a check on threads calls,
-    /// before each pool (see [`PoolGate`](crate::PoolGate)).
+    /// The gate returned `false` for a pool. The gate is a hook that a check on threads calls
+    /// before it checks a pool (see [`PoolGate`](crate::PoolGate)). [`check`] calls no gate.
     Gate,
 }
 
@@ -41,10 +41,10 @@ impl From<AllocError> for CheckFault {
 ///   not a refusal.
 /// - No pool has more threads than its maximum.
 /// - No bounded queue has more jobs than its capacity. If the capacity is 0, the queue has at most
-///   as many jobs as its pool has idle workers.
+///   as many jobs as its pool has idle threads.
 /// - No unfinished jobs wait only for each other.
-/// - While a job is unfinished, at least one of two events is possible: a job performs a step, or a
-///   worker takes a job from a queue.
+/// - While a job is unfinished, at least one of two events is possible: a job performs a step, or
+///   an idle thread takes a job from a queue.
 /// - If the clients stop, all jobs finish after a bounded number of these events.
 ///
 /// # Errors

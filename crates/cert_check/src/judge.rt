@@ -1,4 +1,4 @@
-//! The verdict on a plan and a certificate.
+//! The computation of the verdict on a plan and a certificate.
 
 ghost use Rattle.std.specs.Prelude.{◌≡◌, ◌<◌, IfOk, IsTrue, length, map};
 ghost use Rattle.std.specs.List.{enumerate_from};
@@ -13,7 +13,7 @@ use job_bodies::Plan;
 use std::alloc::{AllocError, Global};
 use weights::Bound;
 
-/// Returns the verdict on a plan and a certificate that fits it.
+/// Returns the verdict on a plan and a certificate. The certificate must fit the plan.
 ///
 /// # Errors
 ///

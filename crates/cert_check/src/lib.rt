@@ -1,4 +1,4 @@
-//! The check of a certificate against a plan. If the check accepts the certificate, no submit is
+//! The check of a certificate against a plan. If the certificate accepts the plan, no submit is
 //! ever refused, and jobs never wait only for each other.
 //!
 //! [`check`] reads the bytes of a plan and of a certificate, and returns a verdict. The clause

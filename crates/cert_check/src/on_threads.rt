@@ -31,16 +31,16 @@ pub(crate) struct PoolCheck {
 }
 
 /// Checks a plan and a certificate on up to `workers` threads, with the same result as
-/// [`check`](crate::check). `workers` is from 1 to [`MAX_WORKERS`](job_bodies::MAX_WORKERS).
+/// [`check`](crate::check). `workers` must be from 1 to [`MAX_WORKERS`](job_bodies::MAX_WORKERS).
 ///
-/// Each thread checks some of the pools. Before each pool, it calls the gate, a hook that can stop
-/// the check. It holds no lock during the call. If no thread can be started, the calling thread
-/// checks the pools.
+/// Each thread checks some of the pools. Before a thread checks a pool, it calls the gate, a hook
+/// that can stop the check. The thread holds no lock during this call. If no thread can be started,
+/// the calling thread checks the pools.
 ///
 /// # Errors
 ///
-/// Returns the errors of [`check`](crate::check). Also returns [`CheckFault::Gate`] if the gate
-/// returned `false` for a pool. The gate is called only after both texts were read.
+/// Returns the same errors as [`check`](crate::check). Also returns [`CheckFault::Gate`] if the
+/// gate returned `false` for a pool. The gate is called only after both texts were read.
 pub fn check_on<R: Threads + Sync, G: PoolGate>(
     rt: &R,
     alloc: Global,
@@ -108,7 +108,8 @@ fn check_pools<R: Threads + Sync, G: PoolGate>(
     Ok(found)
 }
 
-/// Checks each pool, and writes the result to the element of `places` at the pool's index.
+/// Checks each pool (see [`check_pool`]), and writes the result to the element of `places` at the
+/// pool's index.
 fn check_pools_into<R: Threads + Sync, G: PoolGate>(
     rt: &R,
     workers: usize,
@@ -137,7 +138,7 @@ fn check_pools_into<R: Threads + Sync, G: PoolGate>(
     );
 }
 
-/// Returns a list with a `None` for each pool.
+/// Returns a list of `pools` elements, each of which is `None`.
 fn empty_results(alloc: Global, pools: usize) -> Result<Vec<Option<PoolCheck>>, AllocError>
     ensures { IfOk result (λ found. vec_len found ≡ pools) }
 {
@@ -163,8 +164,8 @@ fn check_pool<G: PoolGate>(plan: &Plan, cert: &Cert, gate: &G, pool: usize) -> O
     })
 }
 
-/// Builds the verdict from the results of the pools, which are in plan order. Also checks the
-/// conditions of the ranks. Returns `None` if a pool has no result.
+/// Builds the verdict from `found`, which has the results of the pools in plan order, and from the
+/// conditions of the ranks, which are checked here. Returns `None` if a pool has no result.
 fn verdict_of(
     alloc: Global,
     plan: &Plan,

@@ -1,10 +1,12 @@
-//! The hook that a check on threads calls before each pool.
+//! The hook that a check or a search on threads calls before it works on a pool.
 
-/// A hook that a check on threads calls before each pool. With this hook, a test can observe which
-/// pools are checked concurrently, and a service can stop the check. No lock is held during the
-/// call.
+/// A hook that a check on threads calls before it checks a pool. A search for a certificate calls
+/// it before it searches for the vectors of a pool. With the hook, a test can observe which pools
+/// are processed concurrently, and a service can stop the check or the search. No lock is held
+/// during the call.
 pub trait PoolGate: Sync {
-    /// Returns whether the check may continue with the pool with this index. If the result is
-    /// `false` for any pool, the check ends with [`CheckFault::Gate`](crate::CheckFault::Gate).
+    /// Returns whether the check or the search may continue with the pool at this index. If the
+    /// result is `false` for any pool, a check ends with
+    /// [`CheckFault::Gate`](crate::CheckFault::Gate), and a search with a fault of its own.
     fn begin(&self, pool: usize) -> bool;
 }

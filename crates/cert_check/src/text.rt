@@ -16,8 +16,9 @@ use std::alloc::AllocError;
 /// - `standing 2 of 2` or `lifetime 2 of 2`: the kind of the vector, its total, and the limit of
 ///   the total.
 /// - `standing 2 of unbounded`: the queue is unbounded, so the total has no limit.
-/// - `unbounded`: the certificate has no bound for the pool, and its queue is unbounded.
-/// - `may reject`: the certificate has no bound for the pool, and its queue is bounded.
+/// - `unbounded`: the certificate has no bound for the pool, and the queue of the pool is
+///   unbounded.
+/// - `may reject`: the certificate has no bound for the pool, and the queue of the pool is bounded.
 ///
 /// # Errors
 ///

@@ -1,6 +1,7 @@
 //! The board of one round of the search, on which each pool is free, claimed or done. A worker (a
 //! thread of the search) claims a free pool, searches for its vectors and gives the pool back. The
-//! pool is then done. A pool has a rank if an earlier round found its blocked vector.
+//! pool is then done. A pool that has a rank is done from the start: an earlier round found its
+//! blocked vector.
 
 ghost use Rattle.std.specs.Prelude.{◌≡◌, ◌++◌, ◌∷◌, [], List, true, false, Some, None, IfOk, IfSome, OnErr, IsTrue, is_some, position, slice_get};
 ghost use Rattle.std.specs.List.{list_all};
@@ -16,7 +17,7 @@ use std::marker::Model;
 /// The state of a pool on the board of a round.
 #[derive(Clone, Copy, PartialEq, Eq)]
 pub(crate) enum PoolStatus {
-    /// A pool that no thread of the search has claimed.
+    /// A pool without a rank that no thread of the search has claimed.
     Free,
     /// A pool that a thread of the search has claimed and not finished yet.
     Claimed,
@@ -96,8 +97,8 @@ impl PoolStatuses {
         self.statuses.iter().all(|status| is_done(*status))
     }
 
-    /// Claims the pool if it is free, and returns `true`. If the pool is not free, changes nothing
-    /// and returns `false`.
+    /// Claims a free pool and returns `true`. If the pool is not free, changes nothing and returns
+    /// `false`.
     fn claim(&mut self, pool: usize) -> bool
         ensures taken { IsTrue result
             → spec.claimed self.old pool (slice_get self.old pool) ≡ Some self.new }
@@ -114,8 +115,8 @@ impl PoolStatuses {
         }
     }
 
-    /// Makes the pool done if it is claimed, and returns `true`. If the pool is not claimed,
-    /// changes nothing and returns `false`.
+    /// Makes a claimed pool done and returns `true`. If the pool is not claimed, changes nothing
+    /// and returns `false`.
     fn give_back(&mut self, pool: usize) -> bool
         ensures given { IsTrue result
             → spec.returned self.old pool (slice_get self.old pool) ≡ Some self.new }
@@ -133,8 +134,8 @@ impl PoolStatuses {
     }
 }
 
-/// A list of pools, from which the threads of the search take the pools that have no rank yet. Each
-/// of these pools can be claimed by only one thread.
+/// The board of a round, from which the threads of the search take the pools that have no rank yet.
+/// Each of these pools can be claimed by only one thread.
 #[derive(Drop)]
 pub(crate) struct Board {
     /// For each pool, whether it has a rank from an earlier round.
@@ -174,8 +175,7 @@ impl Machine for Board {
     }
 }
 
-/// Claims the first pool that no thread has claimed, and returns the number of the pool. Returns
-/// `None` if all pools are claimed.
+/// Claims the first free pool and returns its number. Returns `None` if no pool is free.
 ///
 /// # Errors
 ///

@@ -9,10 +9,11 @@ use least_vectors::{Levels, reach};
 use std::alloc::{AllocError, Global};
 use weights::{Bound, Ranks, Vector};
 
-/// The known parts of a certificate for one pool.
+/// The parts of a certificate that are known for one pool.
 #[derive(Drop)]
 struct PoolDraft {
-    /// Whether the pool needs a bound: it must not reject jobs, and its queue is bounded.
+    /// Whether the pool needs a bound. A pool needs a bound if it must not reject jobs and its
+    /// queue is bounded.
     needs_bound: bool,
     rank: Option<u64>,
     bound: Option<Bound>,
@@ -20,20 +21,20 @@ struct PoolDraft {
 }
 
 impl PoolDraft {
-    /// Returns whether the bound is known or the pool needs no bound.
+    /// Returns `true` if the bound is known, and also if the pool needs no bound.
     fn is_bounded(&self) -> bool {
         self.bound.is_some() || !self.needs_bound
     }
 }
 
-/// The known parts of a certificate for each pool, in plan order.
+/// The parts of a certificate that are known for each pool, in plan order.
 #[derive(Drop)]
 pub(crate) struct Draft {
     pools: Vec<PoolDraft>,
 }
 
 impl Draft {
-    /// Creates a draft without any known part.
+    /// Creates a draft in which no part is known.
     pub(crate) fn of(alloc: Global, plan: &Plan) -> Result<Draft, AllocError> {
         let mut pools = Vec::with_capacity(alloc, plan.pools().len())?;
         for pool in plan.pools() {
@@ -72,7 +73,7 @@ impl Draft {
     /// found. Returns `false` in these cases, in which no certificate can result:
     ///
     /// - No pool got the rank.
-    /// - A pool of `found` needs a bound, and no round has found one.
+    /// - A pool of `found` needs a bound, and no bound is known for it.
     pub(crate) fn note(&mut self, found: Vec<PoolVectors>, rank: u64) -> bool {
         let mut moved = false;
         let mut bounded = true;

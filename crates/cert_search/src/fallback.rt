@@ -1,5 +1,6 @@
-//! The steady certificate, which the search tries if its rounds find no certificate. All vectors of
-//! the steady certificate come from one vector, whose weights do not depend on the pool sizes:
+//! The steady certificate, which the search tries if its rounds find no certificate that accepts
+//! the plan. The steady certificate is built from a single vector, whose weights do not depend on
+//! the pool sizes:
 //!
 //! - The blocked vector of a pool is this vector, or 0 if core threads of the pool may time out.
 //! - If a pool needs a bound, its bound is also this vector. A pool that may reject jobs or has an
@@ -36,7 +37,8 @@ pub(crate) fn steady_if_accepted(alloc: Global, plan: &Plan) -> Result<Option<Ce
 }
 
 /// Returns the plan's steady certificate, or `None` if it has a weight above `MAX_WEIGHT` or does
-/// not accept the plan. No class of the plan may submit itself, directly or through other classes.
+/// not accept the plan. The plan must have no class that submits itself, directly or through other
+/// classes.
 fn without_circle(alloc: Global, plan: &Plan) -> Result<Option<Cert>, AllocError>
     requires free { NoCircle plan.now }
     requires well_formed { IsWellFormed plan.now }

@@ -32,10 +32,11 @@ pub enum SearchFault {
     /// - A pool without a rank had no result, or more than one.
     /// - A pool with a rank had a result.
     ///
-    /// No proof covers what threads do under a lock, so these faults are checked at run time.
+    /// No proof covers what threads do under a lock, so the search checks for these faults at run
+    /// time.
     Mixed,
-    /// The gate returned `false` for a pool. The gate is a hook that is called before each search
-    /// for the vectors of a pool (see [`PoolGate`](cert_check::PoolGate)).
+    /// The gate returned `false` for a pool. The gate is a hook that a thread of the search calls
+    /// before it searches for the vectors of a pool (see [`PoolGate`](cert_check::PoolGate)).
     Gate,
 }
 
@@ -47,8 +48,8 @@ impl From<AllocError> for SearchFault {
     }
 }
 
-/// Searches for a certificate that accepts the plan. Returns `None` if the search finds none. The
-/// plan can still be safe.
+/// Searches for a certificate that accepts the plan. Returns `None` if the search finds none. In
+/// this case, the plan can still be safe.
 ///
 /// The search works in rounds. Each round has at most `workers` workers, and `workers` must be from
 /// 1 to 64. In each round, the workers search for the vectors of the pools that have no rank yet. A
@@ -60,18 +61,18 @@ impl From<AllocError> for SearchFault {
 /// of all jobs that it gets, directly or through other jobs.
 ///
 /// If a pool has the same counted gets as in the previous round, the search for its blocked vector
-/// is skipped. The previous round found no vector for these gets.
+/// is skipped, because the previous round found no vector for these gets.
 ///
 /// If the rounds find no certificate that accepts the plan, the search tries the plan's steady
 /// certificate, whose numbers do not depend on the pool sizes. If the steady certificate accepts
 /// the plan, the result is never `None`.
 ///
-/// A pool needs no bound if it may reject jobs or its queue is unbounded. If the search still finds
-/// a bound of such a pool, the certificate has it:
+/// A pool needs no bound if it may reject jobs or its queue is unbounded. If the search
+/// nevertheless finds a bound for such a pool, the certificate contains this bound:
 ///
 /// - A pool with a bound never rejects a job, even if the plan allows the pool to reject jobs.
-/// - For a pool with an unbounded queue, the bound is a standing vector, which bounds the queued
-///   jobs. Its total has no limit.
+/// - For a pool with an unbounded queue, the bound is a standing vector, which bounds the number of
+///   queued jobs. The total of this vector has no limit.
 ///
 /// Tests check that the result does not depend on the number of workers. This is not proved.
 ///
@@ -104,8 +105,8 @@ pub fn search<R: Threads + Wait + Sync, G: PoolGate>(
     Ok(steady_if_accepted(alloc, plan)?)
 }
 
-/// Searches for a certificate in rounds. Returns `None` if no round finds one. Does not check that
-/// the certificate accepts the plan.
+/// Searches for a certificate in rounds. Returns `None` if the rounds find none. Does not check
+/// that the certificate accepts the plan.
 fn search_rounds<R: Threads + Wait + Sync, G: PoolGate>(
     rt: &R,
     alloc: Global,

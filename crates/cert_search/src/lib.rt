@@ -1,7 +1,7 @@
 //! The search for a certificate of a plan, on several threads.
 //!
-//! The heuristics of the search are not trusted: [`search`] returns only a certificate that
-//! [`cert_check::accepts`] the plan.
+//! The heuristics of the search are not trusted: [`search`] returns a certificate only if
+//! [`cert_check::accepts`] has found that it accepts the plan.
 #![tactic(auto)]
 
 mod board;

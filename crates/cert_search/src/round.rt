@@ -48,7 +48,7 @@ pub(crate) struct PoolVectors {
 impl Round<'_> {
     /// Searches for the pool's blocked vector. In the first round, also searches for the pool's
     /// bound. Skips the search for the blocked vector if the pool's jobs have the same counted gets
-    /// as in the previous round. That round found no vector for these gets.
+    /// as in the previous round, because that round found no vector for these gets.
     ///
     /// # Errors
     ///
@@ -111,8 +111,8 @@ impl Round<'_> {
         true
     }
 
-    /// Repeats these steps until no pool is free or `stop` is set. The lock of the board is not
-    /// held during steps 2 and 3.
+    /// Repeats these steps until no pool is free or `stop` is set, and then returns the vectors
+    /// that were found. The lock of the board is not held during steps 2 and 3.
     ///
     /// 1. Claims a free pool.
     /// 2. Calls the gate, a hook that can stop the search.
@@ -121,7 +121,9 @@ impl Round<'_> {
     ///
     /// # Errors
     ///
-    /// Returns [`SearchFault::Gate`] if the gate returns `false`.
+    /// Returns [`SearchFault::Gate`] if the gate returns `false`, and [`SearchFault::Memory`] if
+    /// memory runs out. Returns [`SearchFault::Mixed`] if a claimed pool does not exist or cannot
+    /// be given back.
     fn search_free_pools<R: Wait, G: PoolGate>(
         &self,
         rt: &R,

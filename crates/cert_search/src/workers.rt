@@ -73,13 +73,13 @@ pub(crate) fn search_pools<R: Threads + Wait + Sync, G: PoolGate>(
     }
 }
 
-/// Waits for the other workers to end, and returns the results of all workers together. `own` has
-/// the results of the calling thread.
+/// Waits for the workers in `threads` to end, and returns the results of all workers together.
+/// `own` has the results of the worker on the calling thread.
 ///
 /// # Errors
 ///
-/// Returns the fault of the calling thread, if it failed. Otherwise returns the fault of the failed
-/// worker that was started first.
+/// Returns the fault of the worker on the calling thread, if this worker failed. Otherwise returns
+/// the fault of the failed worker that was started first.
 fn join_all<R: Threads>(
     rt: &R,
     own: Result<Vec<PoolVectors>, SearchFault>,
@@ -92,7 +92,7 @@ fn join_all<R: Threads>(
     all
 }
 
-/// Returns the results of two workers together. If one worker failed, returns its fault. If both
+/// Returns the results of two workers in one list. If one worker failed, returns its fault. If both
 /// failed, returns the fault of `first`.
 fn both(
     first: Result<Vec<PoolVectors>, SearchFault>,

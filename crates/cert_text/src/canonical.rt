@@ -4,7 +4,8 @@
 //! The bound of the pool's queue follows. It can be absent if the pool may reject jobs or its queue
 //! is unbounded.
 //!
-//! Any text that is not in this form is an error here, and the caller then parses it as JSON.
+//! A text that is not in this form is an error here, and so is a text whose certificate does not
+//! fit the plan. The caller then parses the text as JSON.
 
 ghost use Rattle.std.specs.Prelude.{◌≡◌, ◌++◌, IfOk, IsTrue, length, map};
 ghost use Rattle.std.specs.List.{list_all, enumerate_from};
@@ -117,8 +118,8 @@ fn parse_ranks<'a>(
     Ok((ranks, rest))
 }
 
-/// Strips the end of the text of `cert`: the key `version`, the version and the closing brace.
-/// Returns the rest of the text.
+/// Strips the last part of the text of `cert` from the start of `text`: the key `version`, the
+/// version and the closing brace. Returns the rest of `text`.
 fn strip_version<'a>(cert: &Cert, text: &'a [u8]) -> Result<&'a [u8], CanonicalError>
     ensures { IfOk result (λ rest. text.now ≡ version_text cert.now ++ rest.now) }
 {

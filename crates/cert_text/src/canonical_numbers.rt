@@ -46,9 +46,9 @@ pub fn strip_byte(text: &[u8], byte: u8) -> Result<&[u8], CanonicalError>
     }
 }
 
-/// Strips the comma before the list element at index `place`, and returns the rest of the text.
-/// Returns the whole text if `place` is 0, because no comma precedes the first element. Otherwise
-/// returns an error if the text does not begin with a comma.
+/// Strips the comma before the list element at index `place`, and returns the rest of the text. If
+/// `place` is 0, returns the whole text, because no comma precedes the first element. If `place` is
+/// above 0 and the text does not begin with a comma, returns an error.
 #[inline(always)]
 pub fn strip_comma(text: &[u8], place: usize) -> Result<&[u8], CanonicalError>
     ensures { IfOk result (λ rest. text.now ≡ comma_if (nat_lt 0 place) ++ rest.now) }

@@ -17,10 +17,10 @@ pub struct PoolCert {
     /// The vector that bounds the pool's queue, or `None`. In a certificate that fits the plan, it
     /// is `None` only if the pool may reject jobs or has an unbounded queue.
     pub bound: Option<Bound>,
-    /// The blocked vector. It bounds the number of the pool's jobs that wait at counted gets. A get
-    /// is counted if it can block a thread that other jobs need. If the certificate accepts the
-    /// plan, the number of these jobs is always less than the pool's core size. It is always 0 if
-    /// core threads may time out.
+    /// The blocked vector. A get is *counted* if it can block a thread that other jobs need. The
+    /// vector bounds the number of the pool's jobs that wait at counted gets. If the certificate
+    /// accepts the plan, this number is always less than the pool's core size, and it is always 0
+    /// if core threads may time out.
     pub blocked: Vector,
 }
 
@@ -53,8 +53,8 @@ fn bound_fits(bound: &Option<Bound>, plan: &Plan, pool: usize) -> bool
     }
 }
 
-/// Returns whether the pool with this index needs no bound, because it may reject jobs or has an
-/// unbounded queue. Returns `false` if the plan has no such pool.
+/// Returns whether the pool with this index needs no bound. A pool needs none if it may reject jobs
+/// or has an unbounded queue. Returns `false` if the plan has no pool with this index.
 pub fn needs_no_bound(plan: &Plan, pool: usize) -> bool
     ensures { result ≡ needs_no_bound (pool_at plan.now pool) }
 {

@@ -46,8 +46,8 @@ pub fn read_cert(alloc: Global, bytes: &[u8], plan: &Plan) -> Result<Cert, CertF
     }
 }
 
-/// Parses the text of a certificate. Builds a JSON tree only if the text is not in the canonical
-/// form, which is the form that [`write_cert`](crate::write_cert) writes.
+/// Parses the text of a certificate. Builds no JSON tree if the certificate fits the plan and its
+/// text is in the canonical form, which is the form that [`write_cert`](crate::write_cert) writes.
 #[tactic(auto, using(crate::proofs::CanonicalTexts::canonical_back))]
 fn cert_of(alloc: Global, bytes: &[u8], plan: &Plan) -> Result<Cert, CertError>
     ensures { Gives (λ cert. cert) result (spec.cert_of bytes.now plan.now) }

@@ -33,8 +33,8 @@ fn lifetime_of(alloc: Global, plan: &Plan, value: &Value) -> Result<Option<Bound
     Ok(Some(Bound::Lifetime(vector)))
 }
 
-/// Returns the bound of the pool with this index, for which the certificate has no vector: `None`
-/// if the pool needs no bound, and a fault otherwise.
+/// Handles a missing bound of the pool with this index: returns `None` if the pool needs no bound,
+/// and a fault otherwise.
 #[tactic(auto, unfolding(crate::specs::Shape::no_bound_of))]
 fn no_bound_of(plan: &Plan, pool: usize) -> Result<Option<Bound>, CertError>
     ensures { Gives (λ bound. bound) result (spec.no_bound_of plan.now pool) }
@@ -74,8 +74,8 @@ fn either_of(
 
 /// Reads the bound of the pool with this index from `value`, the pool's object. In version 1, each
 /// pool must have a standing vector, which bounds its queued jobs. In version 2, the bound can also
-/// be a lifetime vector, which bounds all jobs ever submitted to the pool. A pool that needs no
-/// bound can then have none.
+/// be a lifetime vector, which bounds all jobs ever submitted to the pool. Also in version 2, a
+/// pool that needs no bound can have none.
 fn bound_of(
     alloc: Global,
     version: Version,

@@ -18,10 +18,10 @@ use support::push_number;
 /// Writes a certificate as compact JSON. The keys of each object are in ascending order, and the
 /// text has no newline. The version is 1 if each pool has a standing vector, and otherwise 2.
 ///
-/// If the certificate fits a plan, [`read_cert`](crate::read_cert) parses the text as this
-/// certificate. This requires that the text has at most
-/// [`MAX_CERT_BYTES`](job_bodies::MAX_CERT_BYTES) bytes. A newline may be appended to the text, and
-/// then counts as one of these bytes.
+/// If the certificate fits a plan and the text has at most
+/// [`MAX_CERT_BYTES`](job_bodies::MAX_CERT_BYTES) bytes, [`read_cert`](crate::read_cert) parses the
+/// text as this certificate. The same holds for the text with a newline appended. The newline then
+/// counts as one of the bytes.
 ///
 /// The text never contains a `%`. So none of its lines is `%%`, which separates the plan from the
 /// certificate in a text that has both.

@@ -44,8 +44,8 @@ pub enum RecordingCommand {
     Conform,
     /// Derives a plan from a recording.
     Learn {
-        /// Whether the derived plan is written only if the recording conforms to the plan. If the
-        /// recording does not conform, the command writes the differences instead.
+        /// Whether the command withholds a derived plan to which the recording does not conform. It
+        /// then writes the differences in place of this plan.
         strict: bool,
     },
 }
@@ -91,8 +91,8 @@ pub enum Task {
 #[derive(Clone, Copy, PartialEq, Eq)]
 pub struct Cli<'a> {
     pub command: Command,
-    /// The first file, which holds the plan. If it is the only file, it holds the whole input.
-    /// `None` and `-` mean standard input.
+    /// The first file. If it is the only file, it holds the whole input. Otherwise it holds the
+    /// plan. `None` and `-` mean standard input.
     pub first: Option<&'a str>,
     /// The second file, which holds the text that follows the plan. `None` means that no second
     /// file is named, and `-` means standard input.
@@ -105,8 +105,8 @@ pub struct Cli<'a> {
 /// An output format of `fit`.
 #[derive(Clone, Copy, Debug, PartialEq, Eq)]
 pub enum SizesForm {
-    /// A line with the sizes of each pool, and then the number of sizes that differ from the plan.
-    /// The lines mark these sizes.
+    /// One line for each pool, with its sizes, and a last line with the number of sizes that differ
+    /// from the plan. The lines of the pools mark these sizes.
     Sizes,
     /// The plan with the new sizes, and its certificate.
     Bundle,
@@ -134,8 +134,9 @@ pub enum AskInput {
 /// The options of `ask`.
 #[derive(Clone, Copy, Debug, PartialEq, Eq)]
 pub struct AskOptions {
-    /// Whether a warning about a safe plan changes the exit status from 0 to 1. A note does not
-    /// change the exit status, because the plan does not show whether a note matters.
+    /// Whether a warning about a safe plan changes the exit status from 0 to 1. A note, which some
+    /// lints give in place of a warning, does not change the exit status, because the plan does not
+    /// show whether the note matters.
     pub strict: bool,
     pub form: Form,
 }
@@ -168,7 +169,7 @@ pub enum Form {
 /// - A number is out of its range.
 /// - `--format` names no format, or two of `--format`, `--json` and `--dot` are given.
 /// - The value of `--certificate` is empty or `-`.
-/// - The arguments ask for help.
+/// - The arguments ask for help or for the version.
 /// - Memory runs out. The `kind` of the error is then `ErrorKind::OutOfMemory`.
 ///
 /// The `Display` of the error is a text for the user.

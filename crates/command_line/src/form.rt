@@ -8,9 +8,9 @@ use crate::flag::is_set;
 use crate::text::text_of;
 use clap::ArgMatches;
 
-/// Returns the output format that the options request. Without such an option, this is
-/// [`Form::Words`]. Returns `None` if two options request a format, or if the requested name is not
-/// the name of a format.
+/// Returns the output format that the options request, or [`Form::Words`] if no option requests a
+/// format. Returns `None` if two options request a format, or if the requested name is not the name
+/// of a format.
 pub(crate) fn form_in(options: &ArgMatches<'_>) -> Option<Form>
     ensures { result ≡ spec.form_in (rows_of (found_of options.now)) }
 {

@@ -1,8 +1,8 @@
 //! The arguments of the command line, and the command that they select.
 //!
-//! `clap` parses the arguments, and reports usage errors and requests for help. The definitions in
-//! `specs/` specify the result. `Application.antt` defines the application, and `Command.antt`
-//! defines which command the arguments select.
+//! `clap` parses the arguments, and reports usage errors, and requests for help or for the version.
+//! The definitions in `specs/` specify the result. `Application.antt` defines the application, and
+//! `Command.antt` defines which command the arguments select.
 #![tactic(auto)]
 
 mod application;

@@ -6,7 +6,7 @@ ghost use Rattle.command_line.specs.Command as spec;
 use clap::ArgMatches;
 
 /// Returns the value of the option with this id if it is a whole number from `low` to `high`.
-/// Returns `None` if the option has no value or another value.
+/// Returns `None` if the option was not given, or if it has any other value.
 pub(crate) fn number_of(options: &ArgMatches<'_>, id: &str, low: u64, high: u64) -> Option<u64>
     ensures number { result ≡ spec.number_of id.now low high (rows_of (found_of options.now)) }
     ensures in_range { IfSome result (λ number. (low ≤ number) × (number ≤ high)) }

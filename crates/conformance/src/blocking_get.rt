@@ -1,14 +1,15 @@
-//! A search for the get that keeps a body from an index: from a submit, or from its end. A get
-//! blocks the body while the path that is matched against it has too many open jobs of the get's
-//! class. The search finds the reason why a recorded path does not match a body.
+//! A search for the get that keeps a body from reaching an index: the index of a submit, or the end
+//! of the body. While a path is matched against the body, a get blocks the body if too many jobs of
+//! the get's class are open in the path. The search finds the reason why a recorded path does not
+//! match a body.
 
 ghost use Rattle.std.specs.Prelude.{◌≡◌, ◌≤◌, ◌<◌, ◌==◌, ◌&&◌, nat_lt, if◌then◌else◌, length};
 ghost use Rattle.conformance.specs.BlockingGet as spec;
 
 use crate::body_gets::BodyGet;
 
-/// The result of a search for a blocking get before an index of the body. The search covers the way
-/// to this index: the actions from the last index where the body can be, up to this index.
+/// The result of a search for a get that blocks the way to an index of the body. The way starts at
+/// the last index up to this one at which the body can be. It ends before the action at this index.
 #[derive(Clone, Copy)]
 enum Way {
     /// There is no way: the body can be neither at the index nor before it.
@@ -21,17 +22,17 @@ enum Way {
     Blocked(BodyGet),
 }
 
-/// Returns the get that blocks the body before the index `end`. Returns `None` if no get blocks the
-/// body, or if the body can be neither at this index nor before it.
+/// Returns the get that blocks the way of the body to the index `end`. Returns `None` if no get on
+/// the way blocks the body, or if the body can be neither at this index nor before it.
 ///
-/// A get blocks the body if the body may not pass the get. The way to `end` has the actions from
-/// the last index where the body can be. The candidates are the first blocking get on the way, and
-/// all later gets of the same class. The result is the candidate with the smallest
-/// [`limit`](BodyGet::limit).
+/// A get blocks the body if the body may not pass the get. The way starts at the last index up to
+/// `end` at which the body can be, and ends before the action at `end`. The candidates are the
+/// first blocking get on the way, and all later gets of the same class on the way. The result is
+/// the candidate with the smallest [`limit`](BodyGet::limit).
 ///
-/// - `row` says for each index, and for the end, whether the body can be there.
-/// - `passes` says for each action whether the body may pass it: whether the body may go to the
-///   next action while the path makes no step.
+/// - `row` says for each index, and for the end of the body, whether the body can be there.
+/// - `passes` says for each action whether the body may pass the action: go to the next one while
+///   the path makes no step.
 /// - `gets` has an entry for each action: the get, or `None` if the action is no get.
 pub(crate) fn blocking_get(
     row: &[bool],
@@ -71,8 +72,9 @@ fn get_on(way: Way) -> Option<BodyGet>
     }
 }
 
-/// Returns the [`Way`] to the next index. `way` leads to this index. `get` is the action at this
-/// index, or `None` if the action is no get. `passes` says whether the body may pass the get.
+/// Returns the [`Way`] to the index after an action. `way` is the way to the index of the action.
+/// `get` is the action, or `None` if the action is no get. `passes` says whether the body may pass
+/// the action.
 fn way_after(way: Way, passes: bool, get: Option<BodyGet>) -> Way
     ensures { result ≡ spec.way_after way passes get }
 {

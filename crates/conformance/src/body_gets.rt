@@ -17,9 +17,9 @@ use std::alloc::{AllocError, Global};
 pub(crate) struct BodyGet {
     /// The class of the job that the body gets.
     pub(crate) class: usize,
-    /// The number of jobs of the class that are open in the body after the get. The body may pass
-    /// the get only while the path that is matched against it has at most this number of open jobs
-    /// of the class.
+    /// The number of jobs of the class that are open in the body after the get. When a path is
+    /// matched against the body, the body may pass the get only while at most this number of jobs
+    /// of the class are open in the path.
     pub(crate) limit: usize,
 }
 
@@ -67,8 +67,8 @@ fn pass_action(
     }
 }
 
-/// Removes a job from the open jobs, and returns the get that gets this job. Each job is given by
-/// the index of its submit in the body: `submit` for the job, and `jobs` for the open jobs.
+/// Removes from `jobs` the job that the body submits at the index `submit`, and returns the get of
+/// this job. `jobs` has each open job of the body, as the index of the job's submit.
 fn pass_get(body: &[Action], submit: usize, jobs: &mut Vec<usize>) -> BodyGet
     ensures jobs { jobs.new.items ≡ filter (λ other. not (other == submit)) jobs.old.items }
     ensures class { result.class ≡ submitted_class body.now submit }

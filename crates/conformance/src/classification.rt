@@ -1,5 +1,5 @@
-//! The classification of one actor. It finds the classes or client kinds whose bodies match the
-//! path of the actor.
+//! The classification of one actor. It finds the classes or client kinds whose bodies the path of
+//! the actor matches.
 
 ghost use Rattle.std.specs.Prelude.{◌≡◌, true, List, Some, OnOk, IfOk};
 ghost use Rattle.recordings.specs.RecordingLine.{RecordedLine};

@@ -162,7 +162,7 @@ fn push_mismatches(
     push_described(findings, alloc, plan, &first, classless, mismatches)
 }
 
-// Returns the conditions of the lines that the descriptions of these actors look up.
+// Returns a condition for each line that the descriptions of these actors look up.
 fn queries_of(alloc: Global, mismatches: &[ClassifiedActor]) -> Result<Vec<LineQuery>, AllocError> {
     let mut queries = Vec::new(alloc);
     for reported in mismatches {
@@ -266,8 +266,8 @@ fn push_invalidations(
     push_refusal(findings, alloc, recording, first_refusal_in(refusals))
 }
 
-/// Returns the first refusal that the plan does not allow, or `None` if there is none. `refusals`
-/// is `None` if no pool of the plan may reject jobs.
+/// Returns the first refusal in `refusals` that the plan does not allow. Returns `None` if there is
+/// no such refusal, or if `refusals` is `None` because no pool of the plan may reject jobs.
 fn first_refusal_in(refusals: &Option<Rejections>) -> Option<Invalidation>
     ensures { result ≡ spec.first_refusal_in refusals.now }
 {

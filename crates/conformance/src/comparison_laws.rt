@@ -5,7 +5,7 @@ ghost use Rattle.conformance.specs.ComparisonLaws.{DeviationsAddUp, ExcessesAddU
 ghost use Rattle.conformance.specs.RejectionLaws.{RejectionsNeedTheKey, UnboundedPoolsGetNoKey, UnboundedPoolsRejectNothing, WithoutTheKeyAllCount};
 
 /// States that a comparison line by line finds all differences between the pools of a recording and
-/// of a plan:
+/// those of a plan:
 ///
 /// - One more line adds its own differences, and changes none of the earlier ones.
 /// - Suppose that no line has a difference. Then the plan has each recorded pool, and each line of
@@ -41,8 +41,8 @@ pub fn rejections_need_the_key()
 ///
 /// - The plan allows no rejection by the pool.
 /// - [`mark_rejecting_pools`](crate::mark_rejecting_pools) returns a plan in which the pool may not
-///   reject jobs, unless the field `queue` of the pool is 0. This field has no effect on an
-///   unbounded pool, and parsing a plan sets it to 1,000,000.
+///   reject jobs, unless the field `queue` of the pool is 0. A pool of a parsed plan does not have
+///   this 0: parsing sets the field, which has no other effect on an unbounded queue, to 1,000,000.
 pub fn unbounded_pools_reject_nothing()
     ensures none { UnboundedPoolsRejectNothing }
     ensures no_key { UnboundedPoolsGetNoKey }

@@ -75,8 +75,8 @@ fn number_of(found: &Option<FoundLine>) -> Option<usize>
     }
 }
 
-/// Appends the conditions of the lines that [`describe_mismatch`] looks up for this actor. With
-/// these conditions, [`FirstLines::new`] finds all of these lines in one pass.
+/// Appends a condition for each line that [`describe_mismatch`] looks up for this actor. With these
+/// conditions, [`FirstLines::new`] finds all of these lines in one pass.
 ///
 /// No contract states which conditions are appended. If a condition is missing, the description is
 /// the same, but the look-up takes longer, because it then searches the text for the line.
@@ -216,9 +216,9 @@ fn deviating_end(
     }
 }
 
-/// Returns the job that an actor should have got before the end of its path. If `missing` is given,
-/// it is the index at which the path submits this job. Otherwise the result is the first open job
-/// of the path, or `None` if no job is open.
+/// Returns the job that an actor should have got before the end of its path. If `missing` is not
+/// `None`, this is the job that the path submits at the index `missing`. Otherwise it is the first
+/// open job of the path, or `None` if no job is open.
 fn missing_job(path: &[RecordedStep], missing: Option<usize>) -> Option<usize>
     ensures { result ≡ spec.missing_job path.now missing }
 {

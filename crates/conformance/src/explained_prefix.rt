@@ -11,8 +11,8 @@ use crate::open_excess::OpenExcess;
 pub struct ExplainedPrefix {
     /// The number of steps in the prefix.
     pub length: usize,
-    /// The open jobs that block the body before the next step of the path. It is `None` in these
-    /// cases:
+    /// The open jobs that block the body before the next step of the path. The field is `None` in
+    /// these cases:
     ///
     /// - The next step is a get.
     /// - The next step is a submit, but the body has no such submit left.

@@ -64,7 +64,7 @@ fn note_get(counts: &mut FailedGets, get: JobGet) -> Result<(), AllocError>
     ensures { spec.count_in counts.old get + 1 < 2 ^ 64
         → OnOk result (spec.IsCountedOnce get counts.old counts.new) }
 {
-    // Never saturates, since the number of lines is below the maximum.
+    // Never saturates, since the number of lines is below `usize::MAX`.
     let count = count_of(counts, get).saturating_add(1);
     counts.insert(get, count)?;
     Ok(())

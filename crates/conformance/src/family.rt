@@ -10,7 +10,8 @@ use line_words::number_of;
 use std::alloc::{AllocError, Global};
 
 /// Returns true if a class or a client kind with the name `name` belongs to the family of `label`.
-/// The label is the name of a class or client kind in a recording. The name must be one of these:
+/// The label is the name of a class or client kind in a recording. The result is true exactly if
+/// `name` is one of these:
 ///
 /// - the label itself;
 /// - the label, `_` and a decimal number from 2 to 1,000,000,000 without leading zeros.

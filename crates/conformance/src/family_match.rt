@@ -22,8 +22,9 @@ pub struct FamilyMatch {
     /// if some path that matches the body begins with this prefix. The longest prefix is the whole
     /// path if the path matches a body, and empty if the family is empty.
     pub explained: ExplainedPrefix,
-    /// True if the result is known for each body of the family: the body matches the path or does
-    /// not. If false, the path may match more bodies, and a body may explain a longer prefix.
+    /// True if it is known for each body of the family whether the path matches the body. If false,
+    /// the path may also match bodies of classes or kinds that are not in `members`, and a body may
+    /// explain a longer prefix than `explained`.
     pub is_decided: bool,
 }
 

@@ -41,7 +41,8 @@ pub enum Finding {
     },
     /// The first line at which a client kind has more rounds than the plan allows. A round is one
     /// pass of a client through its body. Each round is counted for the first kind that it can
-    /// belong to. A round with an undecided kind is not counted.
+    /// belong to. If it can belong to none, it is counted for the first kind that its label may
+    /// refer to. A round with an undecided kind is not counted.
     TooMany(RoundExcess),
     /// The first foreign get: a line in which an actor gets a job that another actor submitted, and
     /// the submitter has not got the job in an earlier line. `label` is the label of the actor that
@@ -51,7 +52,7 @@ pub enum Finding {
         label: ActorLabel,
         job: ActorLabel,
     },
-    /// The first line with an event of a type that invalidates a SAFE answer.
+    /// An event that invalidates a SAFE answer. It is the first such event of its type.
     Invalidation {
         invalidation: Invalidation,
         /// The class and the pool that the text of the finding names:
@@ -70,7 +71,7 @@ impl Finding {
     ///
     /// - a pool of the plan that the recording lacks;
     /// - an actor with an undecided match;
-    /// - a path mismatch with a deviating step that no line records.
+    /// - a path mismatch whose field `line` is `None`.
     pub fn line(&self) -> Option<usize>
         ensures { result ≡ spec.line_of self.now }
     {

@@ -35,8 +35,9 @@ pub(crate) type LineTable = HashMap<LineQuery, Option<FoundLine>>;
 
 /// The text of a recording, with two results of reading it:
 ///
-/// - for some conditions, the first line that meets the condition;
-/// - for each actor and job, the count of the gets that timed out or were interrupted.
+/// - for each of several conditions, the first line that meets the condition;
+/// - for each actor and each job, the number of times that a get of the job by the actor timed out
+///   or was interrupted.
 ///
 /// In contracts, the value of this type is the text.
 #[derive(Drop)]
@@ -141,8 +142,8 @@ fn seek(table: &mut LineTable, query: LineQuery) -> Result<(), AllocError>
     Ok(())
 }
 
-/// Reads all lines. Stores, for each condition of the table, the first line that meets this
-/// condition. Reads no lines if the table has no conditions.
+/// Stores, for each condition of the table, the first line of the text that meets this condition.
+/// Reads the lines only if the table has a condition.
 fn note_lines(alloc: Global, text: &[u8], table: &mut LineTable) -> Result<(), AllocError>
     ensures { spec.AreFirst [] table.old → OnOk result (spec.AreFirst (lines_of text.now) table.new) }
 {

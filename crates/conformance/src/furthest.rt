@@ -39,8 +39,9 @@ pub(crate) fn reaches(states: &[WalkState], end: usize) -> bool
     }
 }
 
-/// Returns the further one of two indices: of `before`, and of `index` in the state `number`. If
-/// both are the same, returns `before`.
+/// Returns the larger one of two indices: the one in `before`, and `index`, at which the body can
+/// be in the state at the place `number`. If one of them is `None`, returns the other one. If they
+/// are equal, returns `before`.
 fn further(before: Option<Reached>, number: usize, index: Option<usize>) -> Option<Reached>
     ensures { result ≡ spec.further before number index }
 {

@@ -14,8 +14,8 @@ use job_bodies::Plan;
 use recordings::Line;
 use std::alloc::{AllocError, Global};
 
-/// The facts about the pools of a recording that determine, together with the plan, which refusals
-/// are allowed. They come from the lines read so far, and are four sets of pools:
+/// The facts about the pools of a recording that, together with the plan, determine the
+/// [`RejectionRule`] of each pool. They come from the lines read so far, and are four sets of pools:
 ///
 /// - the pools with a line that names a handler other than `abort`;
 /// - the pools with a line that names a handler other than `caller_runs`;
@@ -118,7 +118,8 @@ impl Handlers {
     }
 }
 
-// Returns true if the pool may reject jobs and can be full. An unbounded queue is never full.
+// Returns true if the pool may reject jobs and its queue is bounded. An unbounded queue is never
+// full.
 fn can_reject(plan: &Plan, pool: usize) -> bool
     ensures { result ≡ can_reject (pool_at plan.now pool) }
 {
@@ -148,9 +149,9 @@ fn rule_by(aborts: bool, caller_runs: bool, closes: bool, drops: bool) -> Reject
     }
 }
 
-/// Adds the name of a pool to the set if `is_kind` is false. The set has the pools with a handler
-/// other than a given one, such as `abort`. `is_kind` says whether the pool's line names the given
-/// handler.
+/// Adds the name of a pool to `names`, unless `is_kind` is true. Each such set belongs to one kind of
+/// handler: for example, the set `not_abort` has the pools with a line that names a handler other
+/// than `abort`. `is_kind` says whether the current line of the pool names a handler of this kind.
 fn insert_unless(names: &mut PoolNames, name: &str, is_kind: bool) -> Result<(), AllocError>
     ensures { OnOk result
         ((q : List ℕ)

@@ -264,9 +264,9 @@ fn push_open_end(
     push_end_after(text, failed_gets)
 }
 
-/// Appends the end of the text about an actor that ended too early. If at least two gets failed,
-/// the text has their number. A get fails if it times out or is interrupted. Then comes the reason
-/// why the end is a deviation.
+/// Appends the end of the text about an actor that ended too early: the number of failed gets, if
+/// it is at least two, and then the reason why the end is a deviation. A get fails if it times out
+/// or is interrupted.
 fn push_end_after(text: &mut String, failed_gets: usize) -> Result<(), AllocError>
     ensures { Pushes result text.old text.new (spec.end_after_text failed_gets) }
 {

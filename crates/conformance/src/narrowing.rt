@@ -9,8 +9,8 @@ use crate::step::PathStep;
 use job_bodies::Action;
 use std::alloc::{AllocError, Global};
 
-/// A rule that picks one class for each job in a path. The class must be one that the job may
-/// belong to and that the body submits.
+/// A rule that picks a class for each job in a path that is matched against a body. It picks only a
+/// class that the job may belong to and that the body submits. If it finds none, it picks none.
 #[derive(Clone, Copy)]
 pub(crate) enum Pick {
     /// The first of the job's classes that the body submits.
@@ -19,7 +19,7 @@ pub(crate) enum Pick {
     Last,
     /// The class of the next fitting submit of the body. A submit fits if it submits one of the
     /// job's classes. The search for the path's first job starts at the start of the body. For each
-    /// further job, the search continues after the submit that was found last.
+    /// later job, the search continues after the submit that was found last.
     InOrder,
 }
 

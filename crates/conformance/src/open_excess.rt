@@ -1,9 +1,9 @@
 //! The reason why a body cannot reach a submit: too many jobs are open in the path.
 
-/// The reason why a body cannot reach its next submit of some class: too many jobs are open in the
-/// path. The way to the submit starts at the last index where the body can be. Somewhere on the
-/// way, the path has more open jobs of the class `class` than the body. The submit may be of
-/// another class than `class`.
+/// The reason why a body cannot reach its next submit that matches the next step of a path: too
+/// many jobs are open in the path. The way to this submit starts at the last index up to it at
+/// which the body can be. At some index on the way, more jobs of the class `class` are open in the
+/// path than in the body. The submit itself may be of a different class.
 #[derive(Clone, Copy, PartialEq, Eq)]
 pub struct OpenExcess {
     /// The class of the open jobs, by its number in the plan.

@@ -45,7 +45,7 @@ pub(crate) fn are_same(one: &[OpenJob], other: &[OpenJob]) -> bool
     true
 }
 
-/// Removes the job and returns its class, or `None` if it is not open.
+/// Removes the job from `jobs` and returns its class. Returns `None` if the job is not in `jobs`.
 pub(crate) fn take_job(jobs: &mut Vec<OpenJob>, job: usize) -> Option<usize>
     ensures class { result ≡ spec.open_class job jobs.old.items }
     ensures jobs { jobs.new.items ≡ spec.without job jobs.old.items }

@@ -87,7 +87,8 @@ fn is_same_kind(one: Option<usize>, other: Option<usize>) -> bool
     }
 }
 
-// Returns the round and the first kind that it can belong to, or none if this is undecided.
+// Returns the round and the first kind that it can belong to. The kind is `None` if it is
+// undecided. Returns `None` for a job, and for a round that can belong to no kind.
 fn counted_kind(settled: &ClassifiedActor) -> Option<(usize, Option<usize>)>
     ensures { result ≡ first.round_and_kind settled.now }
 {

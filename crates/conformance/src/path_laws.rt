@@ -13,21 +13,22 @@ ghost use Rattle.conformance.specs.LaggingRun.{PathsAreFollowed, RunsStayReachab
 /// these facts hold:
 ///
 /// - The actor can make the submits of the path in their order. The pool takes the job of each
-///   submit. If the pool may reject jobs, it can also reject the job, which is then done at once.
+///   submit, or rejects it if the pool may reject jobs. A rejected job is done at once.
 /// - The actor passes the actions of its body late: directly before the next submit of the path, or
 ///   before the end. It skips the submits among these actions, and gets only jobs that are not open
 ///   in the path. So the actor gets each job no sooner than the path does.
-/// - If the actor is a job and waits in a get of the path, the actor's body still has a get of the
-///   same class.
+/// - If the actor is a job and the path waits in a get, the rest of the actor's body still has a get
+///   of a job of the same class as the job for which the path waits.
 /// - The states of such a run are reachable, so they are safe.
 pub fn paths_are_followed()
     ensures followed { PathsAreFollowed }
     ensures reachable { RunsStayReachable }
 {}
 
-/// States that the machine of an accepted plan can follow a recording in which all jobs and rounds
-/// behave as planned. The path of each job and each round matches at least one body that its label
-/// may refer to. The machine can follow the job or the round with each body that the path matches.
+/// States that the machine of an accepted plan can follow each job and each round of a recording in
+/// which all jobs and rounds behave as planned. The path of such a job or round matches the body of
+/// at least one class or kind that its label may refer to. The machine can follow the job or the
+/// round with each body that the path matches.
 pub fn planned_actors_are_followed()
     ensures { PlannedActorsAreFollowed }
 {}

@@ -2,9 +2,10 @@
 
 use crate::explained_prefix::ExplainedPrefix;
 
-/// The maximum number of lists of open jobs that a match follows. In each list, each job has one of
-/// the classes that it may belong to. As long as no open job may belong to several classes of the
-/// body, there is one list. If one open job may, there is at most one list for each class.
+/// The maximum number of lists of open jobs that a match follows after a step of the path. In a
+/// list, each job has one of the classes that it may belong to. If no open job may belong to
+/// several classes of the body, there is at most one list. If exactly one open job may, there is at
+/// most one list for each of its classes.
 pub const MAX_OPEN_LISTS: usize = 64;
 
 /// The result of matching a path against a body.
@@ -18,7 +19,7 @@ pub enum PathMatch {
     /// early.
     Deviates(ExplainedPrefix),
     /// It is unknown whether the path matches. Some jobs of the path may belong to several classes
-    /// that the body submits, and there are more than [`MAX_OPEN_LISTS`] lists of jobs that can be
-    /// open at one time.
+    /// that the body submits, and more than [`MAX_OPEN_LISTS`] lists of open jobs are possible
+    /// after some step of the path.
     Undecided,
 }

@@ -18,7 +18,8 @@ use std::alloc::{AllocError, Global};
 /// A difference between the pools of a recording and those of a plan. Lines are numbered from 1.
 #[derive(Drop)]
 pub enum PoolDeviation {
-    /// A pool that is not in the plan, with its first line.
+    /// A pool that is not in the plan. `line` is the number of the pool's first line in the
+    /// recording.
     UnplannedLabel {
         line: usize,
         pool: String,

@@ -65,8 +65,8 @@ pub(crate) struct RefusedJobs {
 }
 
 impl RefusedJobs {
-    /// Creates the facts before the first line is read. `refused` has the jobs for which facts are
-    /// collected.
+    /// Creates the facts about a recording of which no line has been read yet. `refused` has the
+    /// jobs for which facts are collected.
     pub(crate) fn new(alloc: Global, refused: JobSet) -> RefusedJobs
         ensures jobs { result.refused ≡ refused }
         ensures none { (plan : plans.Plan) → spec.AreFactsOf plan [] result }

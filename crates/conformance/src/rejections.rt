@@ -100,8 +100,8 @@ impl Rejections {
         self.note(pool, of_job, number, actor, job)
     }
 
-    // Notes a refusal. `pool` is the pool that rejects the job, if the plan allows this. If it is
-    // `None`, notes that the plan does not allow the refusal by `of_job`, the pool of the job.
+    // Notes a refusal. `pool` is the pool that rejects the job if the plan allows this, and `None`
+    // otherwise. `of_job` is the pool of the job, or `None` if the plan does not have this pool.
     fn note(
         &mut self,
         pool: Option<usize>,
@@ -143,7 +143,7 @@ impl Rejections {
         }
     }
 
-    // Returns the pool, if it allows the rejection of the job.
+    // Returns the pool if its rejection rule allows the refusal of the job, and `None` otherwise.
     fn pool_if_allowed(
         &self,
         plan: &Plan,

@@ -41,7 +41,8 @@ impl KindRounds {
         }
     }
 
-    // Counts the begin of a round. Returns the first excess, and `None` after that.
+    // Counts the beginning of a round. Returns the excess if it is the first one of this kind.
+    // Returns `None` if there is no excess, or if there was an earlier one.
     fn begin(&mut self) -> Result<Option<Excess>, AllocError>
         ensures begun { OnOk result (self.new ≡ after_begin self.old) }
         ensures reported { IfOk result (λ reported. reported ≡ reported_by_begin self.old) }
@@ -57,7 +58,7 @@ impl KindRounds {
         Ok(excess)
     }
 
-    // Counts the begin of a round, and appends the first excess.
+    // Counts the beginning of a round, and appends the excess if it is the first one of this kind.
     fn note_begin(
         &mut self,
         line: usize,
@@ -94,7 +95,7 @@ pub struct RoundComparison {
 }
 
 impl RoundComparison {
-    /// Creates a comparison with this plan, before the first line of a recording.
+    /// Creates a comparison with this plan that has read no line yet.
     ///
     /// # Errors
     ///
@@ -110,8 +111,9 @@ impl RoundComparison {
         Ok(RoundComparison { kinds })
     }
 
-    /// Reads line `number` of a valid recording. If this is the first line at which a client kind
-    /// has more rounds than the plan allows, appends the excess to `found`.
+    /// Reads line `number` of a valid recording. If a client kind has more rounds than the plan
+    /// allows for the first time at this line, appends the excess to `found`. So there is at most
+    /// one excess for each kind.
     ///
     /// If the line begins or ends a round, `kind` is the number of the round's client kind in the
     /// plan. It must be the same in both lines of the round. The round is not counted if `kind` is
@@ -172,7 +174,7 @@ impl RoundComparison {
         }
     }
 
-    // Counts the begin of a round of this kind.
+    // Counts the beginning of a round of this kind.
     fn begin(
         &mut self,
         kind: usize,

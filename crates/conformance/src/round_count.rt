@@ -7,7 +7,7 @@ use crate::Excess;
 use job_bodies::{Client, MAX_RECORDED_ROUNDS};
 use std::marker::Model;
 
-/// A counter for the rounds of one client kind, with the limits of the plan.
+/// A counter for the rounds of one client kind, with the kind's `count` and `repeat`.
 ///
 /// In contracts, the value of this type is the kind's `count` and `repeat` in the plan, and the
 /// numbers of rounds that began and ended.
@@ -44,7 +44,7 @@ impl RoundCount {
         }
     }
 
-    /// Counts the begin of a round, and then returns [`excess`](RoundCount::excess).
+    /// Counts the beginning of a round, and then returns [`excess`](RoundCount::excess).
     ///
     /// Fewer than [`MAX_RECORDED_ROUNDS`] rounds must have begun before.
     /// [`can_begin`](RoundCount::can_begin) tests this condition. It holds in any recording that

@@ -10,9 +10,9 @@ ghost use Rattle.conformance.specs.WalkStates.{AreJoined};
 use crate::body_gets::BodyGet;
 use job_bodies::Action;
 
-/// Updates `row` for a step of the path that submits a job of the class. `row` is the set of
-/// indices where the body can be. At the same time, the body makes a submit of the class at one of
-/// these indices, and goes to the next index. The new row has exactly these next indices.
+/// Updates `row`, the set of indices where the body can be, for a step of the path that submits a
+/// job of the class. At the same time, the body makes a submit of the class at one of these indices
+/// and goes to the next index. The new row has exactly the next indices of all such submits.
 pub(crate) fn shift_row(row: &mut [bool], body: &[Action], class: usize)
     requires { length row.old ≡ length body.now + 1 }
     ensures first { slice_index_or row.new 0 false ≡ false }
@@ -77,8 +77,7 @@ pub(crate) fn close_row(row: &mut [bool], passes: &[bool])
     }
 }
 
-/// Adds to `row` the indices of another row. Ignores indices of the other row that `row` does not
-/// have.
+/// Adds to `row` the indices of another row. Ignores the indices past the end of `row`.
 pub(crate) fn add_row(row: &mut [bool], other: &[bool])
     ensures { AreJoined row.old other.now row.new }
 {
@@ -87,7 +86,7 @@ pub(crate) fn add_row(row: &mut [bool], other: &[bool])
     }
 }
 
-/// Updates `passes` for a new number of open jobs: the path has `count` open jobs of the class.
+/// Updates `passes` for a new number of open jobs: the path now has `count` open jobs of the class.
 /// `passes` says for each action whether the body may pass the action: go to the next one while the
 /// path makes no step. The body may pass a get of the class if `count` is at most the get's
 /// [`limit`](BodyGet::limit).

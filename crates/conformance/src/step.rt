@@ -20,8 +20,8 @@ pub enum ActorKind {
     /// A job. At each index of its body, it may get only jobs of classes that the body gets there
     /// or later.
     Job,
-    /// A round, which is one pass of a client through its body. It may get any of its own jobs,
-    /// even a job that its body does not get.
+    /// A round, which is one pass of a client through its body. A round may get any job that it
+    /// submitted, even if the body has no get for this job.
     Round,
 }
 

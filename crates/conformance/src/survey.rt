@@ -34,7 +34,7 @@ pub(crate) struct LineSurvey {
 }
 
 impl LineSurvey {
-    /// Creates the facts before the first line is read.
+    /// Creates the facts about a recording of which no line has been read yet.
     pub(crate) fn new(alloc: Global) -> LineSurvey
         ensures { (plan : plans.Plan) → spec.IsLineSurveyOf plan [] result }
     {
@@ -97,7 +97,7 @@ pub(crate) struct ActorSurvey {
 }
 
 impl ActorSurvey {
-    /// Creates the facts before the first line is read.
+    /// Creates the facts about a recording of which no actor has been classified yet.
     pub(crate) fn new(alloc: Global) -> ActorSurvey
         ensures { (plan : plans.Plan)
             → AreResultsOfPrefix plan [] []
@@ -198,7 +198,7 @@ pub(crate) struct SurveyBuilder {
 }
 
 impl SurveyBuilder {
-    // Creates the state before the first line.
+    // Creates a builder that has read no line yet.
     fn new(alloc: Global, excess_tracker: ExcessTracker) -> SurveyBuilder
         ensures { (plan : plans.Plan)
             → ((kinds : List (Option ℕ)) → IsExcessTrackerOf plan kinds [] excess_tracker)

@@ -28,7 +28,7 @@ pub enum UnplannedLabel {
     },
 }
 
-/// The labels in the lines read so far that are not in the plan.
+/// The labels that are not in the plan, from the lines read so far.
 #[derive(Drop)]
 pub(crate) struct UnplannedLabels {
     pub(crate) found: Vec<UnplannedLabel>,

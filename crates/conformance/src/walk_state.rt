@@ -1,5 +1,5 @@
 //! The state of matching a path against a body. A joint walk goes through both together, each in
-//! its own order. The path can match only if such a walk makes all its steps.
+//! its own order. The path can match only if such a walk makes all steps of the path.
 
 ghost use Rattle.std.specs.Prelude.{◌≡◌, ℕ, false, List, [], ◌∷◌, IfOk, OnOk, IsTrue, length};
 ghost use Rattle.std.specs.List.{list_any};
@@ -91,7 +91,8 @@ impl WalkState {
     }
 
     /// Updates the state for a get of a job. `job` is the index of the job's submit in the path. If
-    /// the job is not open, the body can be at no index afterwards.
+    /// the job is not open, no index remains where the body can be: every element of `row` becomes
+    /// `false`.
     pub(crate) fn get(
         &mut self,
         kind: ActorKind,
@@ -158,7 +159,7 @@ impl WalkState {
         Ok(after)
     }
 
-    /// Adds the walks of another state with the same open jobs.
+    /// Adds the walks of `other`, a state with the same open jobs as this one.
     pub(crate) fn add_row(&mut self, other: &WalkState)
         ensures jobs { self.new.jobs.items ≡ self.old.jobs.items }
         ensures passes { self.new.passes.items ≡ self.old.passes.items }

@@ -2,9 +2,10 @@
 //! and *expands* this state. To expand a state means to visit the successors of the state. Several
 //! measures take turns in the selection:
 //!
-//! - the weight that was lost on the way to the state, under a vector (see below),
+//! - the weight that was lost under a vector on the way to the state (see below),
 //! - the number of threads that do not wait at a get, and
-//! - the least number of further jobs that a pool accepts before it refuses one.
+//! - the room of the pool with the least room: the number of jobs that this pool still accepts
+//!   before it refuses one.
 //!
 //! A vector gives weights to workers, clients and jobs. No event increases the sum of these
 //! weights. If an event decreases the sum, the difference is lost.
@@ -25,7 +26,8 @@ use std::collections::{BinaryHeap, HashSet};
 use std::hash::{BuildHasherDefault, FoldHasher};
 
 /// The maximum number of vectors that the search uses as measures. A vector gives weights to
-/// workers, clients and jobs. A state is more promising if less weight was lost on the way to it.
+/// workers, clients and jobs. The less weight was lost on the way to a state, the more promising
+/// the state is.
 const MAX_VECTORS: usize = 2;
 
 /// A state that the search reached. The state is open until the search visits its successors. Then
@@ -49,7 +51,8 @@ struct ReplayedState<'a> {
 }
 
 impl ReplayedState<'_> {
-    /// Performs these branches in order. `potentials` has the vectors of `lost`.
+    /// Performs the branches of `path` in order, and adds the weights that they lose to `lost`.
+    /// `potentials` has the vectors of `lost`, in the same order.
     fn perform(&mut self, path: &[Branch], potentials: &[Potential]) -> Result<(), AllocError> {
         for branch in path {
             for (lost, potential) in self.lost.iter_mut().zip(potentials) {
@@ -60,8 +63,8 @@ impl ReplayedState<'_> {
         Ok(())
     }
 
-    /// Returns the weight that is lost on the way to the successor to which `branch` leads.
-    /// `potential` is the vector with the number `vector`.
+    /// Returns the weight that is lost under `potential` on the way from the initial state to the
+    /// successor to which `branch` leads. `potential` is the vector with the number `vector`.
     fn lost_after(&self, branch: Branch, vector: usize, potential: &Potential) -> u64 {
         let lost = self.lost.get(vector).copied().unwrap_or(0);
         lost.saturating_add(self.walk.loss(branch, potential))
@@ -73,8 +76,8 @@ impl ReplayedState<'_> {
 pub(crate) struct BestFirstResult {
     /// A permanent violation, if one was found.
     pub(crate) found: Option<(Script, Violation)>,
-    /// Events after which some jobs wait only for each other, or `None` if the search found none. A
-    /// later event may end their wait.
+    /// Events after which some jobs wait only for each other. A later event may end this wait.
+    /// `None` if the search found no such events.
     pub(crate) stuck_now: Option<Script>,
     /// The number of states that the search could still have visited within its limit.
     pub(crate) left: usize,
@@ -83,12 +86,14 @@ pub(crate) struct BestFirstResult {
 /// Searches for a permanent violation, from the plan's initial state. Visits at most `states`
 /// states.
 ///
-/// The search expands one open state after another. In turn, it selects the oldest open state, and
-/// the open state with the smallest value of each of these measures:
+/// The search expands one open state after another. It selects them in turns: in one turn the
+/// oldest open state, and in each other turn the open state with the smallest value of one of these
+/// measures:
 ///
 /// - the weight lost under each of the first [`MAX_VECTORS`] vectors in `potentials`,
 /// - the number of threads that do not wait at a get, and
-/// - the least number of further jobs that a pool accepts before it refuses one.
+/// - the room of the pool with the least room: the number of jobs that this pool still accepts
+///   before it refuses one.
 pub(crate) fn best_first(
     alloc: Global,
     plan: &Plan,
@@ -101,8 +106,8 @@ pub(crate) fn best_first(
     Ok(search.into_result(found))
 }
 
-/// The state of a best-first search. Each reached state takes about 100 bytes: its node, its
-/// fingerprint and its entries in the heaps.
+/// A best-first search in progress. Each state that it has reached takes about 100 bytes: its node,
+/// its fingerprint and its entries in the heaps.
 #[derive(Drop)]
 struct BestFirst<'a> {
     alloc: Global,
@@ -163,8 +168,9 @@ impl<'a> BestFirst<'a> {
         }
     }
 
-    /// Visits the successors of open states until a permanent violation is found, and returns this
-    /// violation. Returns `None` if the limit of states is reached or no open state is left.
+    /// Visits the successors of *open* states, those that were not expanded yet, until a permanent
+    /// violation is found, and returns this violation. Returns `None` if the limit of states is
+    /// reached or no open state is left.
     fn find(&mut self) -> Result<Option<(Script, Violation)>, AllocError> {
         for turn in 0..usize::MAX {
             if self.left == 0 {
@@ -261,9 +267,9 @@ impl<'a> BestFirst<'a> {
         Ok(None)
     }
 
-    /// Returns a violation with the events that lead to it, if it is permanent. Otherwise stores
-    /// these events in `stuck_now`, and returns `None`. The violation is in the successor to which
-    /// `branch` leads from the state with this number.
+    /// Returns the violation with the events that lead to it, if the violation is permanent.
+    /// Otherwise stores these events in `stuck_now`, and returns `None`. The violation is in the
+    /// successor to which `branch` leads from the state with this number.
     fn record_violation(
         &mut self,
         number: usize,

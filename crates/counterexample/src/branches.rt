@@ -17,8 +17,8 @@ const MAX_ACTORS: usize = 8;
 ///
 /// - `place` is the index of the choice.
 /// - `newer` selects the actor among those that are ready for the choice: 0 is the one that became
-///   ready last, 1 is the one before it, and so on. It has no effect on some choices: that a new
-///   client starts, that a thread takes a job, or that a thread ends.
+///   ready last, 1 is the one before it, and so on. `newer` has no effect on the choices `Begin`,
+///   `Take` and `Retire`.
 #[derive(Clone, Copy, PartialEq, Eq)]
 pub(crate) struct Branch {
     pub(crate) place: usize,
@@ -44,7 +44,7 @@ impl<'a> Walk<'a> {
         })
     }
 
-    /// Returns the branches from this state that the search tries. Skips submits to an unbounded
+    /// Returns the branches that the search tries from this state. Skips submits to an unbounded
     /// queue that is at its limit. Also limits the number of actors that are tried:
     ///
     /// - After the end of its body, a client can be at its first submit again. For each client
@@ -79,9 +79,8 @@ impl<'a> Walk<'a> {
             && !ready.is_empty())
     }
 
-    /// Returns the weight that the state loses by this branch. The weights are those of
-    /// `potential`, and [`Losses::of`] computes the result. Returns 0 if no choice has the branch's
-    /// index.
+    /// Returns the weight that the state loses by this branch under the vector `potential`, as
+    /// [`Losses::of`] computes it. Returns 0 if no choice has the branch's index.
     pub(crate) fn loss(&self, branch: Branch, potential: &Potential) -> u64 {
         let Some(choice) = self.choices.all.get(branch.place).copied() else {
             return 0;
@@ -113,11 +112,12 @@ impl<'a> Walk<'a> {
         threads.saturating_sub(waiting)
     }
 
-    /// Returns the least room of all pools that can refuse a job. These pools have a bounded queue
-    /// and must not reject jobs. Returns `u64::MAX` if there is no such pool.
+    /// Returns the room of the pool with the least room, among all pools that can refuse a job.
+    /// These pools have a bounded queue and must not reject jobs. Returns `u64::MAX` if there is no
+    /// such pool.
     ///
-    /// The room of a pool is the number of further jobs that the pool accepts before a thread takes
-    /// a job from the pool's queue.
+    /// The room of a pool is the number of jobs that the pool still accepts if no thread takes a
+    /// job from its queue in the meantime.
     pub(crate) fn least_room(&self) -> u64 {
         let mut least = u64::MAX;
         for pool in &self.machine.pools {
@@ -128,8 +128,8 @@ impl<'a> Walk<'a> {
         least
     }
 
-    /// Returns `true` if some pool has a queued job but no idle thread. Idle threads do not count
-    /// if all idle threads of the pool can end.
+    /// Returns `true` if some pool has a queued job but no idle thread. A pool whose idle threads
+    /// can all end counts as a pool without idle threads.
     pub(crate) fn has_closed(&self) -> bool {
         self.machine
             .pools

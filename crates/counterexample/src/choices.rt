@@ -23,7 +23,8 @@ pub(crate) enum Choice {
     Inner(usize),
     /// A thread takes a job of the class from its pool's queue.
     Take(usize),
-    /// An idle thread of the pool ends. Core threads of the pool may time out.
+    /// An idle thread of the pool ends. Only a pool whose core threads may time out has this
+    /// choice.
     Retire(usize),
 }
 
@@ -32,9 +33,9 @@ pub(crate) enum Choice {
 pub(crate) struct Choices {
     pub(crate) all: Vec<Choice>,
     /// Whether core threads of some pool may time out. If so, the search checks more states for
-    /// jobs that wait only for each other. In such a state, a pool with queued jobs can have idle
-    /// threads, because these threads can end. The wait is over as soon as one of them takes a
-    /// queued job instead, so rare checks would miss it.
+    /// jobs that wait only for each other. Such jobs can then be queued in a pool that has idle
+    /// threads, because these threads can end. The wait of the jobs is over as soon as an idle
+    /// thread takes a queued job instead, so rare checks would miss it.
     pub(crate) has_core_timeout: bool,
     /// For each choice, the limit on the number of jobs in the queue to which the choice submits.
     /// `None` if the choice is not a submit, or if the queue is bounded.
@@ -74,7 +75,8 @@ impl Choices {
         self.add_retirements(plan)
     }
 
-    /// Adds the choices of a client kind, whose clients have this body.
+    /// Adds the choices of the client kind with the number `kind`. `body` is the body of its
+    /// clients.
     fn add_client(
         &mut self,
         alloc: Global,
@@ -113,7 +115,7 @@ impl Choices {
         Ok(places)
     }
 
-    /// Adds the choices of a class, whose jobs have this body.
+    /// Adds the choices of the class with the number `class`. `body` is the body of its jobs.
     fn add_class(
         &mut self,
         alloc: Global,

@@ -19,8 +19,8 @@ use job_bodies::Plan;
 use std::alloc::{AllocError, Global};
 use weights::Vector;
 
-/// Checks whether a list of events is a witness, which proves that the plan is not safe. If it is,
-/// returns the witness. The arguments are not trusted:
+/// Checks whether a list of events is a witness, and if it is, returns the witness. A witness
+/// proves that the plan is not safe. The arguments are not trusted:
 ///
 /// - `members` should be the numbers of jobs that wait only for each other after the events, in
 ///   ascending order and without duplicates.
@@ -34,7 +34,7 @@ use weights::Vector;
 /// - If a submit is refused, returns a witness that ends with this event. Later events are ignored.
 /// - If an event is not possible, and no submit was refused before it, returns `None`.
 /// - Otherwise, if the members are in ascending order and wait only for each other after the
-///   events, returns a witness with all events. If they are not, returns `None`.
+///   events, returns a witness with all events. If not, returns `None`.
 ///
 /// A vector counts as a proof only if these conditions hold:
 ///
@@ -130,9 +130,9 @@ fn stuck(
     Some(Witness { events, ending })
 }
 
-/// Returns the [`Reason`] why the jobs in `members` wait forever, if they wait only for each other
-/// in `world`. Returns `None` if neither reason holds. `standing` has the vectors that can prove a
-/// reason, as in [`confirmed`].
+/// Returns the [`Reason`] why no later event ends the wait of the jobs in `members`, which should
+/// wait only for each other in `world`. Returns `None` if neither reason holds. `standing` has the
+/// vectors that can prove a reason, as in [`confirmed`].
 fn reason(plan: &Plan, world: &World, members: &[usize], standing: &[Vector]) -> Option<Reason>
     requires { IsReachableView plan.now world.now.view }
     ensures { (s : State)

@@ -20,8 +20,8 @@ pub enum Ending {
 pub enum Reason {
     /// Each pool that has at least one of these jobs in its queue has `max` threads.
     PoolsAreFull,
-    /// Each pool that has one of the jobs in its queue starts no further thread, for one of these
-    /// reasons:
+    /// Each pool that has at least one of these jobs in its queue starts no new thread, because it
+    /// satisfies one of these conditions:
     ///
     /// - The pool has `max` threads.
     /// - The pool has at least `core` threads and an unbounded queue.

@@ -96,11 +96,8 @@ impl Fingerprints<'_> {
         }
     }
 
-    /// Adds the fingerprint of this job to another fingerprint:
-    ///
-    /// - If the parent will get the job, adds it to the fingerprint of the parent.
-    /// - If no actor will get the job, adds it to the fingerprint of the whole state. But if the
-    ///   job is done, skips the job.
+    /// Adds the fingerprint of this job to the fingerprint of its parent, if the parent will get
+    /// the job. Otherwise adds it to the fingerprint of the whole state, unless the job is done.
     ///
     /// The jobs that this job will get must have been added before.
     fn add_job(&mut self, number: usize, job: &Job) {

@@ -12,7 +12,7 @@
 //! A full pool refuses or rejects a submit:
 //!
 //! - A pool *refuses* a submit if the pool must not reject jobs. The witness ends with this event.
-//! - A pool *rejects* a submit if the plan allows that the pool rejects jobs. This is an ordinary
+//! - A pool *rejects* a submit if the plan allows the pool to reject jobs. This is an ordinary
 //!   event of a witness. [`find_rejection`] searches for events that lead to a rejection.
 //!
 //! A pool with an unbounded queue neither refuses nor rejects a job.

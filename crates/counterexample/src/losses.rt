@@ -28,8 +28,8 @@ pub(crate) struct Losses<'a> {
     potential: &'a Potential,
 }
 
-/// A body and its weights: the weight of an actor at each position of the body, and the weight that
-/// remains when the actor has ended.
+/// A body and its weights: `row` has the weight of an actor at each position of the body, and `end`
+/// is the weight that remains when the actor has ended.
 #[derive(Clone, Copy)]
 struct WeightedBody<'a> {
     body: &'a [Action],
@@ -42,8 +42,9 @@ impl WeightedBody<'_> {
         self.row.get(position).copied().unwrap_or(0)
     }
 
-    /// Returns the weight of an actor after it performed all consecutive work actions from this
-    /// position on. Also returns whether the actor is then at the end of its body.
+    /// Returns the weight of an actor at this position after it has performed all work up to its
+    /// next submit or get. If it reaches the end of its body instead, returns `end`. Also returns
+    /// whether it reaches the end.
     fn weight_after_work(&self, position: usize) -> (u64, bool) {
         let mut position = position;
         for _ in 0..MAX_ACTIONS {
@@ -61,7 +62,7 @@ impl WeightedBody<'_> {
 /// actors are the job and, if it ends at once, each ancestor that then continues.
 #[derive(Clone, Copy)]
 struct TakeWeights {
-    /// The last job that ended. `None` if no further ancestor continues.
+    /// The last job that ended, if its parent was not considered yet. Otherwise `None`.
     ended: Option<usize>,
     before: u64,
     after: u64,
@@ -73,8 +74,8 @@ impl<'a> Losses<'a> {
     }
 
     /// Returns the loss of the choice if `actor` makes it. The loss is at most [`MAX_LOST`]. The
-    /// choice must be possible. If a new client starts, or a thread takes a job or ends, `actor`
-    /// has no effect.
+    /// choice must be possible. `actor` has no effect on the losses of `Begin`, `Take` and
+    /// `Retire`.
     pub(crate) fn of(&self, choice: Choice, actor: Option<Parent>) -> u64 {
         let lost = match choice {
             Choice::Begin(kind) => self.of_begin(kind),
@@ -191,9 +192,9 @@ impl<'a> Losses<'a> {
     /// must be the first one in the queue of the class's pool. Returns `None` if no thread of the
     /// pool can take a job.
     ///
-    /// If the job ends at once and its parent waits for it, the result includes the loss by the
-    /// next steps of the parent. The same applies to further ancestors. At most [`MAX_PARENTS`]
-    /// ancestors are followed.
+    /// If the job ends at once and its parent waits for it, the result includes the loss of the
+    /// parent's next steps. If these steps end the parent, its own parent is considered in the same
+    /// way, and so on, up to [`MAX_PARENTS`] ancestors.
     fn of_take(&self, class: usize) -> Option<u64> {
         let pool = self.machine.plan.class_at(class)?.pool;
         let job = self.machine.pools.get(pool)?.next_to_take()?;
@@ -212,7 +213,8 @@ impl<'a> Losses<'a> {
         Some(taken.before.saturating_sub(taken.after))
     }
 
-    /// Adds the next steps of the parent of `job`, which has ended, if the parent waits for it.
+    /// Returns `taken`, extended by the next steps of the parent of `job` if this parent waits for
+    /// `job`, which has just ended.
     fn with_parent(&self, taken: TakeWeights, job: usize) -> Option<TakeWeights> {
         let Job { class, parent, .. } = *self.machine.jobs.get(job)?;
         if self.machine.waits_for(parent) != Some(job) {

@@ -179,9 +179,9 @@ impl<'a> Machine<'a> {
         }
     }
 
-    /// Returns `true` if the actor has not yet passed a certain get of its body. This is the get of
-    /// the job that the submit at position `submit` creates. Returns `false` if the body has no
-    /// such get, or if the actor is a queued or done job.
+    /// Returns `true` if the actor has not yet passed the get of the job that the submit at
+    /// position `submit` of its body creates. Returns `false` if the body has no such get, or if
+    /// the actor is a queued or done job.
     pub(crate) fn is_to_get(&self, actor: Parent, submit: usize) -> bool {
         let Some((position, _)) = self.point(actor) else {
             return false;

@@ -1,6 +1,6 @@
 //! The check that no new thread can end the wait of a waiting set. A waiting set is a set of jobs
-//! that wait only for each other. Each pool with one of these jobs in its queue must start no
-//! further thread.
+//! that wait only for each other. The check is that each pool with one of these jobs in its queue
+//! starts no new thread.
 
 ghost use Rattle.std.specs.Prelude.{◌≡◌, ◌<◌, IsTrue, Some, length, slice_get};
 ghost use Rattle.job_bodies.specs.Plan.{pool_at};
@@ -14,10 +14,9 @@ use interleaving::{Phase, World};
 use job_bodies::{Class, Plan};
 use weights::Vector;
 
-/// Returns `true` if `reason` holds for each pool that has a job of `members` in its queue. Such a
-/// pool then starts no further thread. If the reason is
-/// [`PoolsStayAtCore`](Reason::PoolsStayAtCore), the vectors in `standing` can prove that their
-/// pools never have more than `core` threads.
+/// Returns `true` if `reason` holds for each pool that has a job of `members` in its queue. These
+/// pools then start no new thread. If the reason is [`PoolsStayAtCore`](Reason::PoolsStayAtCore),
+/// the vectors in `standing` can prove that their pools never have more than `core` threads.
 pub(crate) fn all_start_no_thread(
     plan: &Plan,
     world: &World,
@@ -85,7 +84,7 @@ fn pool_starts_no_thread(
     pool < plan.pools().len() && starts_none_for(plan, world, pool, standing, reason)
 }
 
-/// Returns `true` if `reason` holds for the pool, so that the pool starts no further thread.
+/// Returns `true` if `reason` holds for the pool, so that the pool starts no new thread.
 fn starts_none_for(
     plan: &Plan,
     world: &World,
@@ -147,7 +146,7 @@ fn has_standing(plan: &Plan, pool: usize, standing: &[Vector]) -> bool
     }
 }
 
-/// Returns `true` if a rejected job does not increase the weight of a state under the vector. For
+/// Returns `true` if, under the vector, a rejected job does not increase the weight of a state. For
 /// each class whose pool may reject jobs, tests whether a done job weighs at most as much as a
 /// queued job.
 fn rejected_are_light(plan: &Plan, vector: &Vector) -> bool

@@ -63,9 +63,9 @@ pub(crate) fn shuffle(keys: &mut [u64], rng: &mut Rng) {
 /// determine
 ///
 /// - the order of the three groups,
-/// - whether clients that have moved come before new ones,
-/// - whether later choices come before earlier ones, and
-/// - whether later client kinds come before earlier ones.
+/// - whether a client that has moved comes before a new client of the same kind,
+/// - whether client kinds with larger numbers come first among the first submits, and
+/// - whether choices with larger indexes come first in each of the other two groups.
 #[derive(Clone, Copy)]
 struct OrderParams {
     groups: usize,

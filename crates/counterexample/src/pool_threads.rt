@@ -27,8 +27,8 @@ impl Walk<'_> {
         Some(self.machine.plan.class_at(class)?.pool)
     }
 
-    /// Makes an idle thread of the class's pool take the first job of the queue, which is of this
-    /// class, and performs the steps of this job.
+    /// Makes an idle thread take the first job in the queue of the class's pool, and performs the
+    /// next steps of this job. The job must be of this class.
     pub(crate) fn take(&mut self, class: usize) -> Result<WalkStep, AllocError> {
         let Some(pool) = self.pool_of(class) else {
             return Ok(WalkStep::Nothing);
@@ -41,7 +41,7 @@ impl Walk<'_> {
         Ok(WalkStep::Advanced)
     }
 
-    /// Ends an idle thread of the pool.
+    /// Ends an idle thread of the pool, if one can end.
     pub(crate) fn retire(&mut self, pool: usize) -> Result<WalkStep, AllocError> {
         if !self.machine.retire(pool) {
             return Ok(WalkStep::Nothing);

@@ -70,8 +70,8 @@ impl SearchPool {
         })
     }
 
-    /// Returns the response that the pool in this state gives to an offered job. Does not change
-    /// the pool.
+    /// Returns the response that the pool would now give to an offered job. Does not change the
+    /// pool.
     pub(crate) fn answer(&self) -> Admission {
         if self.threads < self.core {
             Admission::Started
@@ -86,8 +86,8 @@ impl SearchPool {
         }
     }
 
-    /// Returns the number of further jobs for which the queue has room. A queue of capacity 0 can
-    /// hold a job for each idle thread. Returns `u64::MAX` if the queue is unbounded.
+    /// Returns how many more jobs the queue has room for. A queue of capacity 0 can hold a job for
+    /// each idle thread. Returns `u64::MAX` if the queue is unbounded.
     fn places(&self) -> u64 {
         if self.unbounded {
             return u64::MAX;
@@ -144,8 +144,8 @@ impl SearchPool {
         self.idle
     }
 
-    /// Returns the number of threads, or `core` if the pool has fewer than `core` threads. The
-    /// reason is that the pool starts `core` threads before it queues a job.
+    /// Returns the number of threads, but at least `core`, because the pool starts `core` threads
+    /// before it queues a job.
     pub(crate) fn threads_to_come(&self) -> u64 {
         self.threads.max(self.core)
     }
@@ -156,8 +156,8 @@ impl SearchPool {
         self.may_reject || self.unbounded
     }
 
-    /// Returns the number of further jobs that the pool accepts if no thread takes a job from the
-    /// queue in the meantime. Returns `u64::MAX` if the queue is unbounded.
+    /// Returns how many more jobs the pool accepts if no thread takes a job from the queue in the
+    /// meantime. Returns `u64::MAX` if the queue is unbounded.
     pub(crate) fn room(&self) -> u64 {
         self.places()
             .saturating_add(self.max.saturating_sub(self.threads))
@@ -168,9 +168,9 @@ impl SearchPool {
         &self.queue
     }
 
-    /// Returns whether it is possible that no thread takes a queued job before a running job ends.
+    /// Returns `true` if the queued jobs may have to wait until a running job of the pool ends: no
+    /// thread is idle, or all idle threads can end.
     ///
-    /// If `permanent` is `false`, this is so if no thread is idle, or if all idle threads can end.
     /// If `permanent` is `true`, submits to the pool must not help either: the pool must have `max`
     /// threads, and all of them must be busy.
     pub(crate) fn is_closed(&self, permanent: bool) -> bool {
@@ -181,8 +181,8 @@ impl SearchPool {
         }
     }
 
-    /// Returns `true` if all idle threads can end although jobs are queued. This requires that core
-    /// threads may time out and that another thread is busy. Returns `false` if the queue has the
+    /// Returns `true` if all idle threads can end even if jobs are queued. This requires that core
+    /// threads may time out and that some thread is busy. Returns `false` if the queue has the
     /// capacity 0: each queued job was then handed to an idle thread, which does not end.
     fn can_lose_idle_threads(&self) -> bool {
         self.core_timeout && self.idle < self.threads && (self.unbounded || self.capacity > 0)

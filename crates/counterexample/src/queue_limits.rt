@@ -3,8 +3,8 @@
 //! jobs than the limit of this submit:
 //!
 //! - The limit for a submit by a client is [`FOR_CLIENTS`].
-//! - The limit for a submit by a job is [`FOR_CLIENTS`], plus the number of jobs that the running
-//!   jobs of all pools can submit to this queue.
+//! - The limit for a submit by a job is [`FOR_CLIENTS`], plus the greatest number of jobs that the
+//!   running jobs of all pools can submit to this queue.
 
 use crate::pools::most_threads;
 use job_bodies::{Action, Plan};
@@ -23,7 +23,7 @@ pub(crate) struct QueueLimit {
     pub(crate) jobs: u64,
 }
 
-/// The limits for all submits of a plan.
+/// The limits for all submits of a plan to pools with an unbounded queue.
 #[derive(Drop)]
 pub(crate) struct QueueLimits<'a> {
     plan: &'a Plan,
@@ -65,9 +65,10 @@ impl<'a> QueueLimits<'a> {
 }
 
 /// Returns the maximum number of jobs that a search puts into the pool's unbounded queue. This is
-/// the limit for submits by jobs. It is [`FOR_CLIENTS`], plus the number of jobs that the running
-/// jobs of all pools can submit to this queue. Each pool contributes its greatest number of
-/// threads, times the most submits to this queue in a body of its classes.
+/// the limit for submits by jobs. It is [`FOR_CLIENTS`], plus the greatest number of jobs that the
+/// running jobs of all pools can submit to this queue. To this number, each pool contributes its
+/// greatest number of threads, times the greatest number of submits to this queue in the body of
+/// one of its classes.
 pub(crate) fn most_queued(plan: &Plan, pool: usize) -> u64 {
     let mut jobs = FOR_CLIENTS;
     for (number, from) in plan.pools().iter().enumerate() {
@@ -77,8 +78,8 @@ pub(crate) fn most_queued(plan: &Plan, pool: usize) -> u64 {
     jobs
 }
 
-/// Counts the submits in the body of each class, and returns the greatest count. Only classes of
-/// the pool with the number `from` and submits to the pool with the number `to` are considered.
+/// Returns the greatest number of submits to the pool `to` that the body of a class of the pool
+/// `from` has.
 fn most_submits(plan: &Plan, from: usize, to: usize) -> u64 {
     let mut most = 0u64;
     for class in plan.classes() {
@@ -89,7 +90,7 @@ fn most_submits(plan: &Plan, from: usize, to: usize) -> u64 {
     most
 }
 
-/// Returns the number of submits to the pool in this body.
+/// Returns the number of submits to the pool `to` in this body.
 fn submits(plan: &Plan, body: &[Action], to: usize) -> u64 {
     let mut count = 0u64;
     for action in body {

@@ -14,8 +14,8 @@ use std::alloc::{AllocError, Global};
 /// Searches for events after which the pool rejects a job, as the plan allows. Visits at most
 /// `states` states.
 ///
-/// Returns the events up to the first rejection by this pool. Other pools may reject jobs before,
-/// but no submit is refused. Returns `None` if
+/// Returns the events up to and including the first rejection by this pool. Before it, other pools
+/// may reject jobs, but no submit is refused. Returns `None` if
 ///
 /// - the search finds no such events, although there may be some,
 /// - the pool must not reject jobs,
@@ -26,8 +26,8 @@ use std::alloc::{AllocError, Global};
 ///
 /// The search looks for a witness against a changed plan. In the changed plan, this pool must not
 /// reject jobs, and its queue has a capacity of at least 1. The events of this witness are then
-/// replayed in the given plan. The search can also end at another violation: another pool refuses a
-/// submit, or jobs wait only for each other.
+/// replayed in the given plan. The witness can also end with another violation: another pool
+/// refuses a submit, or jobs wait only for each other. The result can then be `None`.
 ///
 /// # Errors
 ///

@@ -1,5 +1,5 @@
 //! Replays of selected events of a script, which is a list of events. A replay skips events that
-//! are no longer possible, because others were left out.
+//! are no longer possible because others were left out.
 
 use crate::machine::{Machine, Phase, StepOutcome};
 use crate::scripts::Script;
@@ -25,8 +25,8 @@ pub(crate) struct Replay<'a> {
 }
 
 impl<'a> Replay<'a> {
-    /// Replays an event of the script if its element in `kept` is `true`. Skips an event that is
-    /// not possible, and stops after the first refused submit.
+    /// Replays, in order, the events of the script whose elements in `kept` are `true`. Skips an
+    /// event that is not possible, and stops after the first refused submit.
     pub(crate) fn of(
         alloc: Global,
         plan: &'a Plan,
@@ -121,9 +121,9 @@ impl<'a> Replay<'a> {
         }
     }
 
-    /// Maps the client of the script with this number to a client of the replay, and returns the
-    /// client of the replay. If this client has not moved in the replay yet, adds the client to the
-    /// replay. Returns `None` if the script has no client with this number.
+    /// Returns the client of the replay that corresponds to the client `client` of the script. If
+    /// this client has not moved in the replay yet, adds it to the replay. Returns `None` if the
+    /// script has no client with the number `client`.
     fn client(&mut self, script: &Script, client: usize) -> Result<Option<Parent>, AllocError> {
         if let Some(actor) = self.clients.get(client).copied().unwrap_or(None) {
             return Ok(Some(actor));

@@ -1,7 +1,8 @@
-//! The search for a witness, which proves that a plan is not safe. The search performs several
-//! kinds of walks, and then a best-first search. A walk starts in the plan's initial state and
-//! makes possible choices. A *guided* walk uses a vector, which gives weights to workers, clients
-//! and jobs. The walk prefers the choices that lose the least weight.
+//! The search for a witness: a list of events that proves that a plan is not safe. The search
+//! performs several kinds of walks, and then a best-first search. A walk starts in the plan's
+//! initial state and makes one possible choice after another. A *guided* walk uses a vector, which
+//! gives weights to workers, clients and jobs. The walk prefers the choices that lose the least
+//! weight.
 //!
 //! A violation is *permanent* in two cases:
 //!
@@ -110,9 +111,10 @@ struct Search<'a> {
 }
 
 impl Search<'_> {
-    /// Performs the stages of the search, and returns the first permanent violation. If there is
-    /// none, returns the first other violation, or `None` if no violation was found. The stages are
-    /// walks in fixed orders, guided walks, walks in random orders, and the best-first search.
+    /// Performs the stages of the search: walks in fixed orders, guided walks, walks in random
+    /// orders, and the best-first search. Returns a probable witness for the first permanent
+    /// violation. If no stage finds one, returns a probable witness for the first other violation,
+    /// or `None` if no violation was found.
     fn find(&mut self) -> Result<Option<CandidateWitness>, AllocError> {
         if let Some(found) = self.in_fixed_orders()? {
             return Ok(Some(found));
@@ -121,8 +123,9 @@ impl Search<'_> {
         self.find_with(&potentials)
     }
 
-    /// Performs the stages of [`find`](Search::find) after the walks in fixed orders. Each vector
-    /// in `potentials` guides walks and the best-first search.
+    /// Performs the later stages of [`find`](Search::find): guided walks, walks in random orders,
+    /// and the best-first search. Each vector in `potentials` guides walks, and the first of them
+    /// are also measures of the best-first search.
     fn find_with(
         &mut self,
         potentials: &[Potential],
@@ -151,8 +154,9 @@ impl Search<'_> {
     }
 
     /// Performs the walks in fixed orders, until one of them finds a permanent violation. No walk
-    /// visits more than [`longest_walk`] states. The first walk may visit all remaining states. The
-    /// other walks together may visit half of the states that then remain.
+    /// visits more than [`longest_walk`] states. Within this limit, the first walk may visit all
+    /// remaining states, and the other walks together may visit half of the states that then
+    /// remain.
     fn in_fixed_orders(&mut self) -> Result<Option<CandidateWitness>, AllocError> {
         let first = self.fixed_rules(0)?;
         if let Some(found) = self.walk_once(first, None)? {
@@ -169,7 +173,7 @@ impl Search<'_> {
         Ok(None)
     }
 
-    /// Performs guided walks for each vector in `potentials`, until one of them finds a permanent
+    /// Performs guided walks for each vector in `potentials`, until a walk finds a permanent
     /// violation. All these walks together may visit half of the remaining states.
     fn search_guided(
         &mut self,
@@ -272,7 +276,7 @@ impl Search<'_> {
     }
 
     /// Returns the result of a search that found no permanent violation. The result is a probable
-    /// witness with the events in `stuck_now`, or `None` if there are none.
+    /// witness made from the events in `stuck_now`, or `None` if there are no such events.
     fn stuck_now_result(&mut self) -> Result<Option<CandidateWitness>, AllocError> {
         match self.stuck_now.take() {
             Some(script) => {
@@ -283,8 +287,7 @@ impl Search<'_> {
         }
     }
 
-    /// Returns the rules of a walk with a fixed order of choices. `number` is the number of this
-    /// order.
+    /// Returns the rules of the walk in the fixed order with this number.
     fn fixed_rules(&self, number: usize) -> Result<Rules, AllocError> {
         Ok(Rules {
             keys: fixed_order(self.alloc, &self.choices.all, number)?,
@@ -294,9 +297,9 @@ impl Search<'_> {
         })
     }
 
-    /// Returns the rules of the guided walk with this number. The first [`FIXED_ORDERS`] guided
-    /// walks make their choices in the fixed orders, and the others in random orders. Every second
-    /// walk with a random order changes this order at random steps.
+    /// Returns the rules of the guided walk with this number. Among choices with equal losses, the
+    /// first [`FIXED_ORDERS`] guided walks follow the fixed orders, and the others follow random
+    /// orders. Every second walk with a random order changes this order at random steps.
     fn guided_rules(&mut self, number: usize) -> Result<Rules, AllocError> {
         let mut rules = self.fixed_rules(number)?;
         if number >= FIXED_ORDERS {
@@ -322,9 +325,9 @@ impl Search<'_> {
 }
 
 /// Returns the maximum number of states that one walk may visit. It is 128, plus 12 for each thread
-/// and each queued job that the pools can have. For a pool with a bounded queue, these numbers are
-/// its maximum and its queue capacity. For a pool with an unbounded queue, they are its core size
-/// and [`most_queued`].
+/// and each queued job that the pools can have. A pool with a bounded queue can have as many
+/// threads as its maximum, and as many queued jobs as its capacity. For a pool with an unbounded
+/// queue, these numbers are its core size and [`most_queued`].
 fn longest_walk(plan: &Plan) -> usize {
     let mut room = 0u64;
     for (number, pool) in plan.pools().iter().enumerate() {
@@ -343,8 +346,8 @@ fn longest_walk(plan: &Plan) -> usize {
 /// Shortens the script, and returns the result as a probable witness. The given script ends in
 /// `violation`. The shorter script ends in the same violation or in a refused submit.
 ///
-/// Some violations need idle threads to end: only then do jobs wait only for each other. The
-/// witness then also has the events that end these threads.
+/// If idle threads must end before the jobs wait only for each other, the witness also has the
+/// events that end these threads.
 fn answer_of(
     alloc: Global,
     plan: &Plan,

@@ -7,16 +7,16 @@ use job_bodies::Plan;
 use std::alloc::{AllocError, Global};
 use written_machine::Event;
 
-/// The maximum number of events that are replayed to shorten one script. In addition, the whole
-/// script may be replayed [`WHOLE_REPLAYS`] times.
+/// The number of events that may be replayed to shorten one script, in addition to
+/// [`WHOLE_REPLAYS`] replays of the whole script.
 const MAX_REPLAYED: u64 = 6_000_000;
 /// The number of times that the whole script may be replayed, in addition to [`MAX_REPLAYED`]
 /// events. These replays allow a long script to be shortened too.
 const WHOLE_REPLAYS: u64 = 24;
 /// The maximum number of rounds, each of which tries every kind of removal.
 const MAX_ROUNDS: usize = 8;
-/// The maximum number of part sizes that are tried. First large parts of a script are removed, then
-/// parts of half this size, and so on. The maximum is large enough for every script.
+/// The maximum number of part sizes that are tried. The search first tries to remove large parts of
+/// a script, then parts of half this size, and so on. The maximum is large enough for every script.
 const MAX_HALVES: usize = 40;
 
 /// The state of the shortening of a script: the script so far, and the number of events that may
@@ -133,7 +133,8 @@ impl Shortener<'_> {
     }
 
     /// Replays the script without the events for which `is_out` returns `true`. Skips events that
-    /// are no longer possible. Does nothing if the replay would be too long.
+    /// are no longer possible. Does nothing if the script has more events than may still be
+    /// replayed.
     ///
     /// The performed events become the new script if two conditions hold:
     ///

@@ -10,11 +10,12 @@ use std::alloc::{AllocError, Global};
 pub(crate) struct StuckChecks {
     /// The first step at which a check is due if an actor has stopped since the last check.
     after_a_stop: usize,
-    /// The first step at which a check is due if core threads of some pool may time out and some
-    /// pool has a queued job but no idle thread.
+    /// The first step at which a check is due if core threads of some pool may time out and
+    /// [`Walk::has_closed`] returns `true`. No such check is due after a check has found jobs that
+    /// wait only for each other.
     in_passing: usize,
-    /// The number of events after which the first check found jobs that wait only for each other.
-    /// `None` if no check found any. A later event may end their wait.
+    /// The number of events after which a check found, for the first time, jobs that wait only for
+    /// each other. A later event may end their wait. `None` if no check has found such jobs.
     stuck_now: Option<usize>,
 }
 
@@ -36,8 +37,8 @@ impl StuckChecks {
         (walk.has_blocked && step >= self.after_a_stop) || (in_passing && walk.has_closed())
     }
 
-    /// Schedules the next check. The last one is after this step, in a state with this number of
-    /// jobs.
+    /// Schedules the next check. The last check was after the step with the number `step`, in a
+    /// state with `jobs` jobs.
     fn schedule(&mut self, step: usize, jobs: usize) {
         self.after_a_stop = step.saturating_add(8).saturating_add(jobs / 4);
         self.in_passing = step.saturating_add(jobs / 16);
@@ -68,8 +69,8 @@ impl Walk<'_> {
         }
     }
 
-    /// Returns the violation at the end of the walk. If there is none, but `checks` found one,
-    /// returns this violation, and removes the later events from the script.
+    /// Returns the violation at the end of the walk. If there is none, but an earlier check found
+    /// one, returns that violation and removes the later events from the script.
     pub(crate) fn check_at_end(
         &mut self,
         alloc: Global,
@@ -86,7 +87,7 @@ impl Walk<'_> {
     }
 
     /// Returns the violation if some jobs wait only for each other, and `None` otherwise. If `now`
-    /// is `false`, returns `None` also if the violation is not permanent.
+    /// is `false`, also returns `None` if the violation is not permanent.
     pub(crate) fn stuck(&self, alloc: Global, now: bool) -> Result<Option<Violation>, AllocError> {
         if JobSet::greatest(alloc, &self.machine, false)?.is_empty() {
             return Ok(None);

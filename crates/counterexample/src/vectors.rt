@@ -4,7 +4,7 @@
 //!
 //! - The standing vector bounds the number of queued jobs. A pool that may reject jobs, or whose
 //!   queue is unbounded, needs no standing vector.
-//! - The blocked vector bounds the number of jobs that wait for other jobs.
+//! - The blocked vector bounds how many threads of the pool wait at counted gets.
 
 use job_bodies::Plan;
 use least_vectors::{Kind, Levels, ResizedPlan, reach};
@@ -73,7 +73,8 @@ struct MissedVectors {
 }
 
 impl MissedVectors {
-    /// Records the standing vectors whose totals are larger than the capacities of the queues.
+    /// Records the lightest standing vector of each pool, if its total is above the capacity of the
+    /// pool's queue. Skips the pools that need no standing vector.
     fn check_standing(&mut self, growing: &ResizedPlan) -> Result<(), AllocError> {
         for (number, pool) in growing.plan.pools().iter().enumerate() {
             if !pool.needs_no_bound() {
@@ -83,8 +84,9 @@ impl MissedVectors {
         Ok(())
     }
 
-    /// Gives ranks to the pools in ascending order, until no pool gets the next rank. Then records
-    /// the blocked vectors of the pools without a rank.
+    /// Tries the ranks in ascending order, and gives each rank to the pools that have enough
+    /// threads for it. Stops at the first rank that no pool gets, and then records the blocked
+    /// vectors of the pools without a rank.
     fn check_blocked(&mut self, growing: &ResizedPlan) -> Result<(), AllocError> {
         let pools = growing.plan.pools().len();
         let mut ranks = vec![in self.alloc; None; pools]?;
@@ -128,10 +130,11 @@ impl MissedVectors {
     }
 
     /// Gives `rank` to each pool that has no rank and has enough threads. Ranks decide which gets
-    /// are counted. A pool has enough threads if the first of these numbers is less than the second:
+    /// are counted. A pool has enough threads if the first of these numbers is less than the
+    /// second:
     ///
     /// - the total of the pool's lightest blocked vector for this rank, and
-    /// - the number of threads that the pool has while a job is queued.
+    /// - the least number of threads that the pool has while a job is queued.
     ///
     /// Returns whether any pool got the rank. If none did, records the blocked vectors that were
     /// found, because their totals are too large.
@@ -155,9 +158,9 @@ impl MissedVectors {
         Ok(moved)
     }
 
-    /// Gives `rank` to each pool that has no rank and whose lightest vector of this kind shows that
-    /// the pool has enough threads. Records this vector of each other pool that has no rank.
-    /// Returns whether any pool got the rank.
+    /// Gives `rank` to each pool that has no rank and whose lightest vector of kind `kind` shows
+    /// that the pool has enough threads. For each other pool without a rank, records its lightest
+    /// vector of this kind, if there is one. Returns whether any pool got the rank.
     fn rank_with(
         &mut self,
         growing: &ResizedPlan,

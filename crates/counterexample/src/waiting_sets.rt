@@ -36,9 +36,9 @@ impl JobSet {
         Ok(members)
     }
 
-    /// Returns a minimal subset of the members that still wait only for each other. If `permanent`
-    /// is `true`, each pool with a member in its queue must have `max` threads. If the work reaches
-    /// [`MAX_LOOKS`], the subset may not be minimal.
+    /// Returns a minimal non-empty subset whose members still wait only for each other. Returns an
+    /// empty set as it is. If `permanent` is `true`, each pool with a member in its queue must have
+    /// `max` threads. If the work reaches [`MAX_LOOKS`], the subset may not be minimal.
     pub(crate) fn made_least(
         self,
         alloc: Global,

@@ -1,7 +1,7 @@
 //! Walks. A walk repeatedly makes a possible choice: the one that comes first in an order, or the
 //! one that loses the least weight under a vector. If a pool has just rejected the submit of a
-//! choice, this choice comes after all others. Otherwise an actor could repeat the same submit
-//! forever.
+//! choice, this choice comes after all others. Without this rule, an actor could repeat the same
+//! submit forever.
 
 use crate::choices::{Choice, Choices};
 use crate::losses::Losses;
@@ -84,13 +84,13 @@ pub(crate) struct Walk<'a> {
     pub(crate) rejected: Vec<usize>,
     /// Whether an actor has stopped since this flag was last cleared. An actor stops at a get that
     /// must wait, and a client that does not repeat also stops at the end of its body. After a
-    /// stop, jobs may wait only for each other, so the search checks for this.
+    /// stop, there may be jobs that wait only for each other, so the search checks for them.
     pub(crate) has_blocked: bool,
 }
 
 /// Performs a walk by these rules from the plan's initial state. If `potential` is given, this
-/// vector guides the walk. After each choice, performs the steps that need no further choice. The
-/// walk ends at a violation, when no choice is possible, or at the limit of states.
+/// vector guides the walk. After each choice, performs the steps that follow without another
+/// choice. The walk ends at a violation, when no choice is possible, or at the limit of states.
 pub(crate) fn perform_walk<'a>(
     alloc: Global,
     plan: &'a Plan,
@@ -266,7 +266,8 @@ impl<'a> Walk<'a> {
         }
     }
 
-    /// Returns `true` if a client of the kind has not moved, and the kind's body has a submit.
+    /// Returns `true` if some client of the kind has not moved yet, and the kind's body has a
+    /// submit.
     pub(crate) fn has_more(&self, kind: usize) -> bool {
         let Some(client) = self.machine.plan.client_at(kind) else {
             return false;

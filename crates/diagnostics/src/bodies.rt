@@ -24,7 +24,7 @@ struct Slot<'a> {
 /// The result of [`mark_as_got`], which records that an action gets a job.
 #[derive(Clone, Copy)]
 enum MarkResult {
-    /// The action gets the job, which no earlier action got.
+    /// No earlier action got the job, so this action gets it.
     Now,
     /// An earlier action got the job. The field is the index of that action.
     Before(usize),
@@ -203,9 +203,9 @@ fn check_get<'a>(
     }
 }
 
-/// Records that an action gets the job with this name. `action` is the index of the action. Changes
-/// nothing if no job was submitted under the name, or if an earlier action got the job. The result
-/// says which of these three cases applies.
+/// Records that the action with the index `action` gets the job with this name. Changes nothing if
+/// no job was submitted under the name, or if an earlier action got the job. The result says
+/// whether the get was recorded and, if not, which of these two reasons applies.
 fn mark_as_got(slots: &mut [Slot<'_>], name: &str, action: usize) -> MarkResult {
     let mut marked = MarkResult::Missing;
     for slot in slots.iter_mut() {
@@ -222,7 +222,7 @@ fn mark_as_got(slots: &mut [Slot<'_>], name: &str, action: usize) -> MarkResult 
     marked
 }
 
-/// Reports a get of a job that an earlier action got.
+/// Reports a get of a job that an earlier action got. `action` is the index of the earlier action.
 fn report_got(
     collector: &mut FaultCollector,
     checked: CheckedAction<'_>,

@@ -79,8 +79,8 @@ pub(crate) fn classes_between(
     Ok(between)
 }
 
-/// Appends the classes through which the class submits itself, in reverse order. The first one
-/// submits `class`, and each further one submits the one before it.
+/// Appends the classes through which the class submits itself, in reverse order. The first of them
+/// submits `class`, and each later one submits the one before it.
 fn push_submitters(
     between: &mut Vec<usize>,
     search: &CircleSearch,

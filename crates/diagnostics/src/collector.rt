@@ -10,7 +10,7 @@ use std::alloc::{AllocError, Global};
 const MAX_OTHERS: usize = 99;
 
 /// The faults that were found so far: the fault that the plan parser reports, the first 99 other
-/// faults, and the number of further faults.
+/// faults, and the number of faults beyond these 100.
 #[derive(Drop)]
 pub(crate) struct FaultCollector {
     pub(crate) alloc: Global,

@@ -41,7 +41,7 @@ pub struct Faults {
 
 /// Appends a line for each fault, such as `shop.toml:17:21: class page, action 2 "get row": nothing
 /// was submitted as row; did you mean rows? (fault 13)`. `file` is the name of the plan's file. If
-/// faults are left out, a last line has their number, such as `... and 12 more faults`.
+/// faults are left out, a last line has their number, as in `... and 12 more faults`.
 ///
 /// # Errors
 ///

@@ -13,8 +13,9 @@ pub(crate) const BEGINNING: TextPlace = TextPlace { line: 1, column: 1 };
 /// The string that replaces a number if a size has no limit.
 pub(crate) const UNBOUNDED: &str = "unbounded";
 
-/// Returns the plan's key for entries of this kind, such as `pool` for the header `[[pool]]`.
-/// Returns `plan` for the whole text. Messages use the result as the name of the kind.
+/// Returns the plan's key for entries of this kind, such as `pool` for the header `[[pool]]`. For
+/// `Part::Text`, which is the whole text, returns `plan`. Messages use the result as the name of
+/// the kind.
 pub(crate) fn list_of(part: Part) -> &'static str {
     match part {
         Part::Text => "plan",
@@ -145,10 +146,10 @@ impl<'a> PlacedEntry<'a> {
         })
     }
 
-    /// Reports a fault of an action. `number` is the number of the fault, and `text` is the text of
-    /// the action. The message begins, for example, with `class page, action 1 "get row": `, and
-    /// continues with `words`. `range` is the valid range if the fault is a number that is out of
-    /// range.
+    /// Reports a fault of the action with the index `action`. `number` is the number of the fault,
+    /// and `text` is the text of the action. The message begins, for example, with
+    /// `class page, action 1 "get row": `, and continues with `words`. `range` is the valid range
+    /// if the fault is a number that is out of range.
     pub(crate) fn report_action(
         &self,
         collector: &mut FaultCollector,

@@ -84,8 +84,8 @@ fn push_client(
     }
 }
 
-/// Appends a lint for each submit of the body to a pool with an unbounded queue, if the body has no
-/// get of the submitted job.
+/// Appends a lint for each submit in the body that meets two conditions: the pool of the submitted
+/// job has an unbounded queue, and the body has no get of this job.
 fn push_body(
     found: &mut Vec<Lint>,
     plan: &Plan,

@@ -3,8 +3,8 @@
 ghost use Rattle.std.specs.Prelude.{◌≡◌, option_map};
 ghost use Rattle.diagnostics.specs.Hints as spec;
 
-/// Returns the end of the message for a size of 0. For the keys `queue` and `core`, the end says
-/// what to write and which page to read. For any other key, the end is empty.
+/// Returns the end of the message for a size or count of 0. For the keys `queue` and `core`, the
+/// end says what to write and which page to read. For any other key, the end is empty.
 pub(crate) fn zero_hint(key: &str) -> &'static str
     ensures { result.now ≡ spec.zero_hint key.now }
 {
@@ -15,9 +15,10 @@ pub(crate) fn zero_hint(key: &str) -> &'static str
     }
 }
 
-/// Returns the end of the message for a string in place of a number. `has_no_limit` says whether
-/// the string means that a size has no limit, such as `unlimited`. If it does, and the key is `max`
-/// or `queue`, the end asks whether `unbounded` was meant. Otherwise the end is empty.
+/// Returns the end of the message for a value of the wrong type. `has_no_limit` says whether the
+/// value is a string, such as `unlimited`, that means that a size has no limit. If `has_no_limit`
+/// is true, and the key is `max` or `queue`, the end asks whether `unbounded` was meant. Otherwise
+/// the end is empty.
 pub(crate) fn no_limit_hint(key: &str, has_no_limit: bool) -> &'static str
     ensures { result.now ≡ spec.no_limit_hint key.now has_no_limit }
 {
@@ -81,7 +82,7 @@ pub(crate) fn max_hint(is_unbounded: bool) -> &'static str
     }
 }
 
-/// Returns the indefinite article for the name of a type of TOML.
+/// Returns the indefinite article, `a` or `an`, for the name of a TOML type.
 pub(crate) fn article(found: &str) -> &'static str
     ensures { result.now ≡ spec.article found.now }
 {
@@ -92,7 +93,8 @@ pub(crate) fn article(found: &str) -> &'static str
 }
 
 /// Returns a hint if `line`, the first line of a text, shows that the text is not a plan. The hint
-/// says that the text is a recording or JSON, such as a certificate. Otherwise returns `None`.
+/// says what the text is instead: a recording, or JSON such as a certificate. Otherwise returns
+/// `None`.
 pub(crate) fn kind_hint(line: &str) -> Option<&'static str>
     ensures { option_map (λ hint. hint.now) result ≡ spec.kind_hint line.now }
 {
@@ -105,7 +107,7 @@ pub(crate) fn kind_hint(line: &str) -> Option<&'static str>
     None
 }
 
-/// Returns a hint for a word without quotes as the value of this key. The hint says what to write
+/// Returns the hint for a key whose value is a word without quotes. The hint says what to write
 /// instead of the word. Returns `None` if the key is `body` or unknown.
 pub(crate) fn word_hint(key: &str) -> Option<&'static str>
     ensures { option_map (λ hint. hint.now) result ≡ spec.word_hint key.now }

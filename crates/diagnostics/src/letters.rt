@@ -7,7 +7,7 @@ ghost use Rattle.support.specs.Pushed.{Pushes};
 
 use std::alloc::{AllocError, Global};
 
-/// Returns the ASCII letters and digits of the text, in lowercase. So it returns the same for
+/// Returns the ASCII letters and digits of the text, in lowercase. So the result is the same for
 /// `coreSize`, `core-size` and `CORE_SIZE`.
 pub(crate) fn letters_of(alloc: Global, text: &str) -> Result<String, AllocError>
     ensures { IfOk result (λ letters. string_bytes letters ≡ spec.letters_of text.now) }

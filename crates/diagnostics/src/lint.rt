@@ -10,20 +10,20 @@ use job_bodies::Part;
 /// client kinds and actions by their numbers, which begin at 0.
 #[derive(Clone, Copy)]
 pub enum Lint {
-    /// The plan would be SAFE with some maximums lowered to the core sizes of their pools. A
-    /// certificate accepts the plan with these lowered maximums, which [`at_core`](crate::at_core)
-    /// returns. This crate does not search for the certificate: the caller of
-    /// [`warnings_of`](crate::warnings_of) says whether there is one.
+    /// The plan would be SAFE if some maximums were lowered to the core sizes of their pools: a
+    /// certificate accepts the plan that [`at_core`](crate::at_core) returns. This crate does not
+    /// search for the certificate. The caller of [`warnings_of`](crate::warnings_of) says whether
+    /// there is one.
     SafeAtCore,
     /// This class submits itself, directly or through other classes.
     SubmitsItself(usize),
     /// The body of a class or client kind has a submit without a get, and repeating clients cause
-    /// such submits without limit. The job goes to a pool that must not reject jobs and has a
-    /// bounded queue. The fields are the kind of entry (class or client kind), the number of the
-    /// entry, and the number of the action.
+    /// this submit again and again. The submitted job goes to a pool that must not reject jobs and
+    /// has a bounded queue. The fields are the kind of entry (class or client kind), the number of
+    /// the entry, and the number of the action.
     NeverGot(Part, usize, usize),
-    /// The core threads of this pool may time out, and the last thread of the pool can wait at a get
-    /// until another job of the pool ends.
+    /// The core threads of this pool may time out, and the last thread of the pool can wait at a
+    /// get until another job of the pool ends.
     PoolWaitsForItself(usize),
     /// The plan has no pools and no clients.
     NothingToAsk,
@@ -34,12 +34,12 @@ pub enum Lint {
     /// No job is ever submitted to this pool.
     PoolWithoutJobs(usize),
     /// The maximum of this pool is above its core size, but has no effect. The reason is that its
-    /// core threads never time out, and that its queue has room for all jobs that can wait in the
-    /// queue at once.
+    /// core threads never time out, and that the capacity of its queue is at least the maximum
+    /// number of jobs in the queue at once.
     UselessMax(usize),
     /// The plan says that this pool may reject jobs, but the pool never does. The reason is that
-    /// its queue has room for all jobs that can wait in the queue at once. The second field is the
-    /// maximum number of these jobs.
+    /// the capacity of its queue is at least the maximum number of jobs in the queue at once. The
+    /// second field is this maximum number.
     UselessMayReject(usize, u64),
     /// The plan says that this pool may reject jobs, but the pool never does, because its queue is
     /// unbounded.

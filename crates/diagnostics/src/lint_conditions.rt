@@ -71,8 +71,9 @@ pub(crate) fn grows_if_full(pool: &Pool) -> bool
     !pool.unbounded && !pool.core_timeout && pool.core < pool.max
 }
 
-/// Returns whether the pool's maximum is above its core size, but has no effect because the queue
-/// can hold `most` jobs. `most` is the maximum number of jobs in the queue at once.
+/// Returns whether the pool's maximum is above its core size, but has no effect: the pool starts
+/// threads above its core size only if its queue is full (see [`grows_if_full`]), and the queue can
+/// hold `most` jobs. `most` is the maximum number of jobs in the queue at once.
 pub(crate) fn has_useless_max(pool: &Pool, most: u64) -> bool
     ensures { result ≡ spec.has_useless_max pool.now most }
 {
@@ -96,7 +97,7 @@ pub(crate) fn is_far_above(pool: &Pool, most: u64) -> bool
     most.max(1) < pool.queue / FAR_ABOVE
 }
 
-/// Returns whether the pool of the class may reject the class's jobs, and the body of the class has
+/// Returns true if the pool of the class may reject the class's jobs and the body of the class has
 /// submits or gets. `needed` has, for each pool, the maximum number of jobs in its queue at once,
 /// or `None` if this number is not known.
 pub(crate) fn may_run_in_caller(plan: &Plan, needed: &[Option<u64>], class: &Class) -> bool
@@ -149,9 +150,9 @@ fn may_reject_jobs(plan: &Plan, needed: &[Option<u64>], number: usize) -> bool
     }
 }
 
-/// Returns whether the queue of the pool certainly has room for all jobs, because it is unbounded
-/// or has a capacity of at least `most`. `most` is the maximum number of jobs in the queue at once,
-/// or `None` if this number is not known.
+/// Returns whether the queue of the pool certainly has room for all jobs: either it is unbounded,
+/// or `most` is known, and the capacity of the queue is at least `most`. `most` is the maximum
+/// number of jobs in the queue at once, or `None` if this number is not known.
 fn holds_all(pool: &Pool, most: Option<u64>) -> bool
     ensures { result ≡ spec.holds_all pool.now most }
 {
@@ -161,7 +162,7 @@ fn holds_all(pool: &Pool, most: Option<u64>) -> bool
     }
 }
 
-/// Returns whether the action at this position submits a job to a pool with an unbounded queue, and
+/// Returns true if the action at this position submits a job to a pool with an unbounded queue and
 /// the body has no get of this job.
 pub(crate) fn fills_queue(plan: &Plan, body: &[Action], position: usize, action: Action) -> bool
     ensures { result ≡ spec.fills_queue plan.now body.now position action }
@@ -211,8 +212,8 @@ fn submits_to_small_alone(plan: &Plan, count: u64, body: &[Action]) -> bool
     body.iter().all(|action| is_for_small(plan, count, *action))
 }
 
-/// Returns whether the action is not a submit, or submits a job to a pool that is small for `count`
-/// clients (see [`is_small`]).
+/// Returns `true` if the action submits a job to a pool that is small for `count` clients (see
+/// [`is_small`]). Also returns `true` if the action is not a submit.
 fn is_for_small(plan: &Plan, count: u64, action: Action) -> bool
     ensures { result ≡ spec.is_for_small plan.now count action }
 {
@@ -249,15 +250,16 @@ fn is_small(count: u64, pool: &Pool) -> bool
     pool.core == 1 && pool.queue < count && !pool.needs_no_bound()
 }
 
-/// Returns whether `units`, the length of a `work`, is at least 50 and is also a size of a pool or
-/// the count of a client kind.
+/// Returns whether `units`, the length of a `work`, looks like a size: it is at least 50, and it is
+/// a size of a pool or the count of a client kind (see [`is_a_size`]).
 pub(crate) fn looks_like_a_size(plan: &Plan, units: u32) -> bool
     ensures { result ≡ spec.looks_like_a_size plan.now units }
 {
     LIKE_A_SIZE <= units && is_a_size(plan, u64::from(units))
 }
 
-/// Returns whether the number is a size of some pool, or the count of some client kind.
+/// Returns `true` if some pool has a size that is this number (see [`has_size`]), or if some client
+/// kind has this count.
 fn is_a_size(plan: &Plan, number: u64) -> bool
     ensures { result ≡ spec.is_a_size plan.now number }
 {
@@ -270,16 +272,15 @@ fn is_size_of_any(pools: &[Pool], number: u64) -> bool
     pools.iter().any(|pool| has_size(pool, number))
 }
 
-/// Returns whether the number is a size of the pool, and this size has an effect. If the queue is
-/// unbounded, its capacity has no effect. The maximum then has an effect only if core threads may
-/// time out.
+/// Returns true if the number is a size of the pool that has an effect. If the queue is unbounded,
+/// its capacity has no effect. The maximum then has an effect only if core threads may time out.
 fn has_size(pool: &Pool, number: u64) -> bool
     ensures { result ≡ spec.has_size number pool.now }
 {
     pool.core == number || has_used_max(pool, number) || !pool.unbounded && pool.queue == number
 }
 
-/// Returns whether the number is the maximum of the pool, and this maximum has an effect.
+/// Returns true if the number is the maximum of the pool and this maximum has an effect.
 fn has_used_max(pool: &Pool, number: u64) -> bool
     ensures { result ≡ spec.has_used_max number pool.now }
 {

@@ -331,9 +331,11 @@ fn push_client(
     push_body(found, plan, needed, Part::Client, number, &client.body)
 }
 
-/// Appends a lint for each `work` of the body whose length looks like a size of the plan (see
-/// [`looks_like_a_size`]). Also appends a lint for each submit whose job may be rejected while a
-/// future is open (see [`leaves_a_future`]).
+/// Appends the lints of the actions of the body, in order:
+///
+/// - one for each `work` with a length that looks like a size (see [`looks_like_a_size`]), and
+/// - one for each submit whose job may be rejected while a future is open (see
+///   [`leaves_a_future`]).
 fn push_body(
     found: &mut Vec<Lint>,
     plan: &Plan,

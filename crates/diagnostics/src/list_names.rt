@@ -18,8 +18,8 @@ pub(crate) struct ListNames<'a> {
 }
 
 impl<'a> ListNames<'a> {
-    /// Returns the names of these entries. If `is_complete` is false, the list may have further
-    /// entries.
+    /// Returns the names of these entries. If `is_complete` is false, the list may have entries
+    /// that are not in `entries`.
     pub(crate) fn of(
         alloc: Global,
         part: Part,
@@ -47,16 +47,16 @@ impl<'a> ListNames<'a> {
         self.names.iter().any(|known| *known == name)
     }
 
-    /// Returns the message for a name that no entry has. If the names are complete, the message
-    /// suggests what to write instead.
+    /// Returns the message for a name that no entry has. If `self.names` has all names of the list,
+    /// the message suggests what to write instead.
     pub(crate) fn unknown(&self, alloc: Global, name: &str) -> Result<String, AllocError> {
         let list = list_of(self.part);
         let right = self.unknown_name_hint(alloc, name)?;
         format!(in alloc; "unknown {list} {name}{right}")
     }
 
-    /// Returns the end of the message for a name that no entry has. It is empty if the names are
-    /// not complete.
+    /// Returns the last part of the message for a name that no entry has, such as `; did you mean
+    /// rows?`. Returns an empty text if `self.names` may lack some names of the list.
     fn unknown_name_hint(&self, alloc: Global, name: &str) -> Result<String, AllocError> {
         if !self.is_complete {
             return String::from_str(alloc, "");
@@ -65,8 +65,8 @@ impl<'a> ListNames<'a> {
         suggestion(alloc, name, &self.names, &otherwise)
     }
 
-    /// Returns the end of a message that lists the names. If there are none, the end says what to
-    /// add.
+    /// Returns the end of a message. The end is a list of the names. If there are none, it says
+    /// what to add.
     fn listed(&self, alloc: Global) -> Result<String, AllocError> {
         let list = list_of(self.part);
         let plural = plural_of(self.part);

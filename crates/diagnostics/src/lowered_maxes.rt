@@ -14,7 +14,7 @@ use std::alloc::{AllocError, Global};
 ///
 /// - Some pool starts threads above its core size when its queue is full, and only then. Such a
 ///   pool has a bounded queue, a maximum above its core size, and core threads that never time out.
-/// - No such pool may reject jobs.
+/// - The plan allows none of these pools to reject jobs.
 ///
 /// With a lower maximum, a pool that may reject jobs can reject more jobs, and clients do not wait
 /// for rejected jobs. So the plan with lowered maximums would say nothing about the original plan.
@@ -36,7 +36,7 @@ fn some_grows_and_rejects(plan: &Plan) -> bool
     plan.pools().iter().any(|pool| grows_and_rejects(pool))
 }
 
-/// Returns whether the pool may reject jobs, and starts threads above its core size only if its
+/// Returns true if the pool may reject jobs and starts threads above its core size only if its
 /// queue is full.
 fn grows_and_rejects(pool: &Pool) -> bool
     ensures { result ≡ spec.grows_and_rejects pool.now }
@@ -44,9 +44,9 @@ fn grows_and_rejects(pool: &Pool) -> bool
     grows_if_full(pool) && pool.may_reject
 }
 
-/// Returns a copy of the plan in which each maximum is lowered to the core size of its pool. If the
-/// core threads of a pool may time out, the maximum of this pool stays unchanged: the pool may
-/// start threads above its core size even if its queue is never full.
+/// Returns a copy of the plan in which the maximum of each pool is lowered to its core size, unless
+/// the core threads of the pool may time out. Such a pool keeps its maximum, because it may start
+/// threads above its core size even if its queue is never full.
 ///
 /// # Errors
 ///

@@ -26,7 +26,8 @@ fn is_in_range(least: u64, number: i64) -> bool {
     number >= 0 && number <= MOST && number.unsigned_abs() >= least
 }
 
-/// Reports the numbers at these keys that are out of range. Returns whether there are such numbers.
+/// Checks the numbers at these keys, and reports those that are out of range. Returns whether any
+/// number is out of range.
 fn out_of_range(
     collector: &mut FaultCollector,
     entry: &PlacedEntry<'_>,
@@ -63,8 +64,8 @@ fn report_number(
     entry.report_with_range(collector, BAD_NUMBER, place, &words, Some(range))
 }
 
-/// Returns the end of the message for a number that is out of range. It is empty if there is no
-/// hint.
+/// Returns the end of the message for a number that is out of range. The end is empty if there is
+/// no hint.
 fn number_hint(entry: &PlacedEntry<'_>, key: &str, number: i64) -> &'static str {
     if number == 0 {
         zero_hint(key)

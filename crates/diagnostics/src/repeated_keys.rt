@@ -6,9 +6,9 @@ pub(crate) fn key_of(line: &str) -> Option<&str> {
     Some(key.trim())
 }
 
-/// Returns the number of the first line that defines this key in the same entry as line `error`.
-/// Lines are counted from 1. Returns `None` if no line before `error` defines the key in this
-/// entry.
+/// Returns the number of the first line that defines this key in the entry to which line `error`
+/// belongs. Lines are counted from 1. Returns `None` if no line of this entry before line `error`
+/// defines the key.
 pub(crate) fn earlier_line(text: &str, key: &str, error: usize) -> Option<usize> {
     let mut number = 0usize;
     let mut found = None;

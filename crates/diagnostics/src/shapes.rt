@@ -166,7 +166,7 @@ fn value(
     wrong_type(collector, entry, rule, value)
 }
 
-/// Reports the key as missing if it is required.
+/// Reports that the key of the rule is missing, unless this key is optional.
 fn missing_key(
     collector: &mut FaultCollector,
     entry: &PlacedEntry<'_>,
@@ -180,7 +180,7 @@ fn missing_key(
     entry.report(collector, MISSING_KEY, entry.place(), &words)
 }
 
-/// Reports a value if its type is not the type that the rule requires.
+/// Reports a value whose type is not the type that the rule requires.
 fn wrong_type(
     collector: &mut FaultCollector,
     entry: &PlacedEntry<'_>,
@@ -197,7 +197,7 @@ fn wrong_type(
     entry.report(collector, WRONG_TYPE, entry.value_place(key), &words)
 }
 
-/// Returns whether the text says that a size has no limit, or is a misspelled `unbounded`.
+/// Returns `true` if the text says that a size has no limit, or if it is a misspelled `unbounded`.
 fn means_no_limit(alloc: Global, text: &str) -> Result<bool, AllocError> {
     let letters = letters_of(alloc, text)?;
     let word = letters.as_str();

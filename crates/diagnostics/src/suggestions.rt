@@ -3,13 +3,14 @@
 use std::alloc::{AllocError, Global};
 use strsim::osa_distance;
 
-/// Returns a word that is similar to `written`, or `None` if there is none. A word is similar if it
-/// differs from `written` and one of these conditions holds:
+/// Returns one of `words` that is similar to `written`, or `None` if there is none. A word is
+/// similar if it differs from `written` and one of these conditions holds:
 ///
 /// - The word starts with `written`, and `written` has at least 3 bytes.
 /// - The edit distance of the two is at most a third of the length of `written`, or at most 1.
 ///
-/// Of several similar words, prefers one that starts with `written` or has the edit distance 1.
+/// Of several similar words, returns the first that has the edit distance 1 or starts with
+/// `written`. If there is no such word, returns the first of those with the least edit distance.
 pub(crate) fn nearest<'w>(
     alloc: Global,
     written: &str,
@@ -33,8 +34,8 @@ pub(crate) fn nearest<'w>(
     Ok(best)
 }
 
-/// Returns a suggestion of a word that is similar to `written`, such as `; did you mean rows?`.
-/// Returns `otherwise` if no word is similar to `written`.
+/// Returns a suggestion, such as `; did you mean rows?`, if one of `words` is similar to `written`
+/// (see [`nearest`]). Returns `otherwise` if none is.
 pub(crate) fn suggestion(
     alloc: Global,
     written: &str,

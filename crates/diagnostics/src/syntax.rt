@@ -78,8 +78,8 @@ fn message_at(
     }
 }
 
-/// Returns the key that this line defines, if the parser's message `words` is that an earlier line
-/// defines it too. Otherwise returns `None`.
+/// Returns the key that this line defines, if the parser's message `words` says that the key is a
+/// duplicate. Otherwise returns `None`.
 fn duplicate_key<'a>(line: &'a str, words: &str) -> Option<&'a str> {
     if words == "duplicate key" {
         key_of(line)
@@ -92,9 +92,9 @@ fn with_hint(alloc: Global, hint: &str, words: &str) -> Result<String, AllocErro
     format!(in alloc; "{hint} ({words})")
 }
 
-/// Returns a hint for an error in this line, or `None`. If line 1 shows that the text is not a
-/// plan, the hint says what kind of text it is. Otherwise the hint is the result of
-/// [`character_hint`].
+/// Returns a hint for an error in this line, or `None`. `number` is the number of the line. If it
+/// is line 1, and shows that the text is not a plan, the hint says what kind of text it is.
+/// Otherwise the hint is the result of [`character_hint`].
 fn format_hint(line: &str, number: usize) -> Option<&'static str> {
     if number == 1
         && let Some(hint) = kind_hint(line)

@@ -1,4 +1,4 @@
-//! The search for a list whose `]` is missing.
+//! The search for a list, such as a body, whose `]` is missing.
 
 /// The list that is open at the end of a line, if there is one. A list is open if its last `]` has
 /// not been reached.
@@ -27,8 +27,9 @@ pub(crate) fn unclosed_list(text: &str, error: usize) -> Option<usize> {
     start_of(open, error, number.saturating_add(1))
 }
 
-/// Returns the number of the line in which the list that is still open begins. Returns `None` if no
-/// list is open, or if line number `error` is not within the list, which ends at line number `end`.
+/// Returns the number of the line at which the list `open` begins. Returns `None` if no list is
+/// open, or if line `error` is outside the list. `end` is the number of the line at which the list
+/// ends.
 fn start_of(open: OpenList, error: usize, end: usize) -> Option<usize> {
     if open.depth > 0 && (open.start..=end).contains(&error) {
         Some(open.start)
@@ -37,9 +38,9 @@ fn start_of(open: OpenList, error: usize, end: usize) -> Option<usize> {
     }
 }
 
-/// Returns whether the line begins with `[[`, or with a key without quotes and an equals sign. In a
-/// plan, no line inside a list begins in this way. So if a list is open before the line, its `]` is
-/// missing.
+/// Returns `true` if the line begins with `[[`, or if it begins with a key without quotes and an
+/// equals sign. In a plan, no line inside a list begins in this way. So if a list is open before
+/// the line, the `]` of the list is missing.
 fn begins_entry(line: &str) -> bool {
     let line = line.trim();
     if line.starts_with("[[") {

@@ -34,8 +34,9 @@ pub(crate) fn place_of(places: &Places<'_>, plan: &Plan, lint: Lint) -> TextPlac
     }
 }
 
-/// Returns the place of the first maximum that [`at_core`](crate::at_core) lowers to the core size,
-/// in a pool with a bounded queue. Returns the beginning of the text if there is none.
+/// Finds the first pool that has a bounded queue and whose maximum [`at_core`](crate::at_core)
+/// lowers. Returns the place of this maximum, or the beginning of the text if there is no such
+/// pool.
 fn first_max_place(places: &Places<'_>, plan: &Plan) -> TextPlace {
     match plan.pools().iter().position(|pool| grows_if_full(pool)) {
         Some(pool) => value_place(places, Part::Pool, pool, "max"),

@@ -77,9 +77,9 @@ fn words_of_core(alloc: Global, plan: &Plan) -> Result<String, AllocError> {
     Ok(words)
 }
 
-/// Appends the name and the maximum of each pool with a bounded queue, core threads that never time
-/// out, and a maximum above its core size. [`at_core`](crate::at_core) lowers these maximums to the
-/// core sizes. `count` is the number of these pools.
+/// Appends the name and the maximum of each pool that starts threads above its core size when its
+/// queue is full, and only then (see [`grows_if_full`]). [`at_core`](crate::at_core) lowers the
+/// maximums of these pools to their core sizes. `count` is the number of these pools.
 fn push_maxes(words: &mut String, plan: &Plan, count: usize) -> Result<(), AllocError> {
     let mut number = 0usize;
     for pool in plan.pools() {

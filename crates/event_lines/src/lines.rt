@@ -34,8 +34,8 @@ impl<'a> EventLines<'a> {
     /// `job N`, `take POOL`, `retire POOL` and `stuck N N ..`. The newline after the last line may
     /// be missing.
     ///
-    /// - `N` is a number of at most [`MAX_LINE_NUMBER`](job_bodies::MAX_LINE_NUMBER) without
-    ///   leading zeros. A `stuck` line has at least one number.
+    /// - `N` is a number without leading zeros, at most
+    ///   [`MAX_LINE_NUMBER`](job_bodies::MAX_LINE_NUMBER). A `stuck` line has at least one number.
     /// - `POOL` is the name of a pool of the plan.
     pub fn new(plan: &'a Plan, text: &'a [u8]) -> EventLines<'a>
         ensures lines { result ≡ lines_read plan.now text.now }

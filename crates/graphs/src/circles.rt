@@ -9,8 +9,8 @@ use crate::node_set::NodeSet;
 use std::alloc::{AllocError, Global};
 
 impl Graph {
-    /// Returns the first node that is on a circle, and whose number is at least `first`. A circle
-    /// is a path that leads from a node back to the same node. Returns `None` if there is no such
+    /// Returns the number of the first node, from node `first` on, that is on a circle. A circle is
+    /// a path that leads from a node back to the same node. Returns `None` if there is no such
     /// node.
     ///
     /// # Errors

@@ -48,7 +48,7 @@ impl Graph {
         self.nodes.len()
     }
 
-    /// Returns the successors of the node, or none if there is no such node.
+    /// Returns the successors of the node, or an empty slice if there is no such node.
     pub fn successors(&self, node: usize) -> &[usize]
         ensures { result.now ≡ spec.successors self.now node }
     {

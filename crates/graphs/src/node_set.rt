@@ -1,5 +1,5 @@
 //! Sets of nodes of a graph. Such a set grows by the successors of its nodes, until it has all
-//! nodes that can be reached from the first ones.
+//! nodes that can be reached from the nodes that were added first.
 
 ghost use Rattle.std.specs.Prelude.{◌≡◌, ◌<◌, ◌+◌, ◌≤◌, ◌⊎◌, ℕ, List, [], OnOk, IfOk, length, slice_index_or, false};
 ghost use Rattle.support.specs.In.{In};

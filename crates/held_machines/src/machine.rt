@@ -5,8 +5,8 @@ ghost use Rattle.held_machines.specs.StoredState.{IsReached, Steps};
 
 use std::alloc::{AllocError, Global};
 
-/// A machine that performs one event at a time. The value that implements this trait describes the
-/// machine and never changes. The current state of the machine is a separate value of type
+/// A machine that performs one event at a time. A value whose type implements this trait describes
+/// the machine and never changes. The current state of the machine is a separate value of type
 /// [`State`](Machine::State).
 ///
 /// In the specification, the states are mathematical values. `first` is the initial state, and

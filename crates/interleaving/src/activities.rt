@@ -1,5 +1,5 @@
-//! The activity of a set of jobs in each pool: how many members run there, and whether a member is
-//! queued there.
+//! The activity of a set of jobs in each pool: how many jobs of the set run there, and whether a
+//! job of the set is queued there.
 
 ghost use Rattle.std.specs.Prelude.{◌≡◌, ◌+◌, ◌<◌, ◌^◌, ℕ};
 ghost use Rattle.job_bodies.specs.WellFormed.{IsWellFormed};
@@ -10,22 +10,21 @@ use crate::plans::pool_of;
 use crate::{Phase, World};
 use job_bodies::{MAX_POOLS, Plan};
 
-/// The activity of a set of jobs in one pool. The jobs of the set are its members.
+/// The activity of a set of jobs, the *members*, in one pool.
 #[derive(Clone, Copy)]
 pub(crate) struct PoolActivity {
-    /// Whether a member waits in the pool's queue.
+    /// Whether a member of the set waits in the pool's queue.
     pub(crate) queued: bool,
-    /// The number of members that run in the pool.
+    /// The number of members of the set that run in the pool.
     pub(crate) at_work: usize,
 }
 
 impl PoolActivity {
-    /// Counts one more member in this activity, and returns the result. `phase` is the phase of
-    /// this member.
+    /// Returns this activity with one more member counted. `phase` is the phase of this member, and
+    /// `is_new` is `false` if the member was counted before.
     ///
     /// - A queued member sets `queued`.
-    /// - A running member adds 1 to `at_work` if `is_new` is `true`. `is_new` is `false` for a
-    ///   member that was counted before.
+    /// - A running member adds 1 to `at_work` if `is_new` is `true`.
     /// - A done member changes nothing.
     fn with(self, phase: Phase, is_new: bool) -> PoolActivity
         requires { self.at_work + 1 < 2 ^ 64 }
@@ -48,9 +47,9 @@ impl PoolActivity {
 impl World {
     ghost use Rattle.interleaving.specs.OfPlan.{IsReachableView};
 
-    /// Returns, for each pool, how many of the jobs in `members` run there, and whether one is
-    /// queued there. The index of an element is the number of the pool. Counts a job only once if
-    /// it occurs more than once in the list. Ignores a number whose job is not live.
+    /// Returns, for each pool, how many of the jobs in `members` run there, and whether one of them
+    /// is queued there. The index of an element is the number of the pool. Counts a job only once,
+    /// even if `members` has its number more than once. Ignores a number whose job is not live.
     pub(crate) fn activities(&self, plan: &Plan, members: &Members<'_>) -> [PoolActivity; MAX_POOLS]
         requires of_plan { IsReachableView plan.now self.now.view }
         requires well_formed { IsWellFormed plan.now }

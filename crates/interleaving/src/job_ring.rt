@@ -12,15 +12,15 @@ use std::alloc::{AllocError, Global};
 use std::collections::{HashMap, VecDeque};
 use std::marker::Model;
 
-// The number by which half the length of a ring may exceed the number of live jobs. A longer ring
-// is too long, and its first job moves into the map.
+// A ring is too long if half its length exceeds the number of live jobs by more than this number.
+// The first job of such a ring moves into the map.
 const SPARE_NUMBERS: usize = 16;
 
 /// A sequence with an entry for each job that was ever created, in the order of the job numbers.
 /// The entry of a job that is no longer live is a gap.
 ///
-/// The entries with numbers from `base` up are in a ring buffer, in which a look-up is an index
-/// operation. The live jobs with lower numbers are in a map.
+/// The entries with numbers from `base` up are in the ring buffer `recent`, in which a look-up is
+/// an index operation. The live jobs with lower numbers are in the map `older`.
 ///
 /// If the ring is too long for the number of live jobs, its first job moves into the map. The ring
 /// then begins at the next live job. So a job that stays live for long does not keep the gaps after
@@ -77,7 +77,7 @@ impl JobRing {
         *self.recent.get(number - self.base)?
     }
 
-    /// Replaces the data of the live job with this number.
+    /// Stores `place` as the data of the live job with this number.
     pub(crate) fn set(&mut self, number: usize, place: JobEntry)
         requires { IsSome (place_at self.old.items number) }
         ensures items { self.new.items ≡ slice_set self.old.items number (Some place) }
@@ -91,7 +91,7 @@ impl JobRing {
         }
     }
 
-    /// Replaces the phase of the live job with this number.
+    /// Sets the phase of the live job with this number to `phase`.
     pub(crate) fn set_phase(&mut self, number: usize, phase: Phase)
         requires { IsSome (place_at self.old.items number) }
         ensures items { self.new.items
@@ -205,7 +205,7 @@ fn clear(recent: &mut VecDeque<Option<JobEntry>>, index: usize) -> bool
     }
 }
 
-// Replaces the phase of the job at this index of the ring, if the entry is occupied.
+// Sets the phase of the job at this index of the ring to `phase`, if the entry is occupied.
 fn set_phase_at(recent: &mut VecDeque<Option<JobEntry>>, index: usize, phase: Phase)
     ensures items { recent.new.items
         ≡ slice_set recent.old.items index
@@ -218,7 +218,7 @@ fn set_phase_at(recent: &mut VecDeque<Option<JobEntry>>, index: usize, phase: Ph
     }
 }
 
-// Replaces the phase of the job in this entry, if the entry is occupied.
+// Sets the phase of the job in this entry to `phase`, if the entry is occupied.
 fn set_phase_in(place: &mut Option<JobEntry>, phase: Phase)
     ensures { place.new ≡ place_in_phase phase place.old }
 {
@@ -236,7 +236,7 @@ fn get_older(older: &HashMap<usize, JobEntry>, number: usize) -> Option<JobEntry
     older.get(&number).copied()
 }
 
-// Replaces the data of the job with this number, which must be in the map.
+// Stores `place` as the data of the job with this number. The job must be in the map.
 fn put(older: &mut HashMap<usize, JobEntry>, number: usize, place: JobEntry)
     requires { IsSome (get nat_eq older.old number) }
     ensures { Updates nat_eq older.old older.new number (Some place) }
@@ -246,7 +246,7 @@ fn put(older: &mut HashMap<usize, JobEntry>, number: usize, place: JobEntry)
     }
 }
 
-// Replaces the phase of the job with this number, which must be in the map.
+// Sets the phase of the job with this number to `phase`. The job must be in the map.
 fn put_phase(older: &mut HashMap<usize, JobEntry>, number: usize, phase: Phase)
     requires { IsSome (get nat_eq older.old number) }
     ensures { Updates nat_eq older.old older.new number

@@ -1,4 +1,4 @@
-//! A table of the live jobs. A place in the table holds the data of one live job.
+//! A table of the live jobs. Each place in the table is free or holds the data of one live job.
 
 ghost use Rattle.std.specs.Prelude.{◌≡◌, ◌+◌, ◌<◌, ◌^◌, [], ◌∷◌, ◌++◌, length, count_by, is_some, IsSome, slice_set, ◌≤◌, None, Some, OnOk};
 
@@ -11,15 +11,16 @@ use std::marker::Model;
 #[derive(Clone, Copy)]
 pub(crate) struct JobEntry {
     pub(crate) job: JobView,
-    // A bound of the submits of this job: each live job that it created was created at a position
-    // below this bound.
+    // An upper bound on the submits of this job: each live job that this job created comes from a
+    // submit at a position below the bound.
     pub(crate) submit_bound: usize,
 }
 
 /// A map from job numbers to the data of the live jobs.
 ///
-/// The data of a job occupies a place. A new job reuses the place of a job that is no longer live.
-/// The number of places is therefore the greatest number of jobs that were live at the same time.
+/// The data of a job occupies a place. A new job reuses the place of a job that is no longer live,
+/// if there is such a place. The number of places is therefore the greatest number of jobs that
+/// were live at the same time.
 #[derive(Drop)]
 pub(crate) struct JobTable {
     kept: JobRing,
@@ -80,7 +81,7 @@ impl JobTable {
         self.kept.get(number)
     }
 
-    /// Replaces the data of the live job with this number.
+    /// Stores `place` as the data of the live job with this number.
     pub(crate) fn set(&mut self, number: usize, place: JobEntry)
         requires { IsSome (place_at self.old.items number) }
         ensures items { self.new.items ≡ slice_set self.old.items number (Some place) }
@@ -90,7 +91,7 @@ impl JobTable {
         self.kept.set(number, place);
     }
 
-    /// Replaces the phase of the live job with this number.
+    /// Sets the phase of the live job with this number to `phase`.
     pub(crate) fn set_phase(&mut self, number: usize, phase: Phase)
         requires { IsSome (place_at self.old.items number) }
         ensures items { self.new.items
@@ -128,8 +129,8 @@ impl JobTable {
         self.kept.reserve(self.live)
     }
 
-    /// Adds a new job, in a free place if there is one. [`reserve`](JobTable::reserve) must have
-    /// reserved memory.
+    /// Adds a new job with the data `place`. The job occupies a free place, if there is one.
+    /// [`reserve`](JobTable::reserve) must have reserved memory.
     pub(crate) fn push(&mut self, place: JobEntry)
         requires { 0 < self.old.room }
         ensures items { self.new.items ≡ self.old.items ++ Some place ∷ [] }

@@ -50,7 +50,7 @@ impl LatestJobs {
         }
     }
 
-    /// Reserves memory for one more job of the actor, which [`set`](LatestJobs::set) then records.
+    /// Reserves memory so that [`set`](LatestJobs::set) can record one more job of the actor.
     ///
     /// # Errors
     ///
@@ -81,7 +81,7 @@ impl LatestJobs {
         }
     }
 
-    /// Removes the entry for the submit of the actor at position `submit`, if there is one.
+    /// Removes the entry for the actor's submit at position `submit`, if there is one.
     #[inline(always)]
     pub(crate) fn remove(&mut self, actor: Parent, submit: usize)
         ensures found { (a : Parent) (t : ℕ)

@@ -14,9 +14,9 @@ use std::alloc::{AllocError, Global};
 use std::marker::Model;
 use written_machine::Parent;
 
-/// The live jobs of a world, and an index of them. The index has, for each submit of an actor, the
-/// latest live job that the actor created by this submit. It covers clients and unfinished jobs,
-/// which are the actors that may still get jobs.
+/// The live jobs of a world, and an index of them. For each submit of a client or of an unfinished
+/// job, the index has the latest live job that this submit created. No other actor may still get
+/// jobs.
 #[derive(Drop)]
 pub struct LiveJobs {
     kept: JobTable,
@@ -130,8 +130,8 @@ impl LiveJobs {
     }
 
     /// Adds the new job `job`, which a submit of an actor creates. If the same submit of this actor
-    /// created the job `latest`, and that job is done, removes it. No get can return the removed
-    /// job any more. Every other live job of this submit must be unfinished.
+    /// created the job `latest`, and that job is done, removes that job, because no get can return
+    /// it any more. Every other live job of this submit must be unfinished.
     /// [`LiveJobs::reserve_for`] must have reserved memory.
     pub fn create(&mut self, latest: Option<usize>, job: JobView)
         requires room { 0 < room_for self.old.room job.parent }
@@ -154,10 +154,10 @@ impl LiveJobs {
         self.unfinished += usize::from(!job.is_done());
     }
 
-    /// Finishes the job with this number. `job` is the data of this job before it finishes. The
-    /// finished job stays live only under two conditions: its parent may still get jobs, and the
-    /// finished job is the latest job of its submit. Removes the done jobs that the finished job
-    /// created, because no actor can get them any more.
+    /// Finishes the job with this number. `job` is the data of this job before it finishes. If the
+    /// finished job is the latest job of its submit, and its parent may still get jobs, the
+    /// finished job stays live. Otherwise it is removed. Also removes the done jobs that the
+    /// finished job created, because no actor can get them any more.
     pub fn finish(&mut self, number: usize, job: JobView)
         requires live { live_job self.old.jobs number ≡ Some job }
         requires going { is_done job.phase ≡ false }
@@ -200,8 +200,8 @@ impl LiveJobs {
     }
 }
 
-// Removes the done job that the actor created by this submit, if there is one. Only the job with
-// number `latest` can be done.
+// Removes the done job that the actor created by this submit, if there is one. Of the live jobs of
+// this submit, only the job `latest` can be done.
 fn free_stale(kept: &mut JobTable, latest: Option<usize>, actor: Parent, submit: usize)
     requires { NoOtherIsStale (jobs_in kept.old.items) latest actor submit }
     ensures jobs { jobs_in kept.new.items
@@ -253,7 +253,7 @@ fn raise_submit_bound(kept: &mut JobTable, actor: Parent, submit_bound: usize)
     }
 }
 
-// Stores the phase of the job with this number, which has finished. Removes the job instead if
+// Marks the job with this number as finished: stores the phase of `finished`, or removes the job if
 // `finished` is `None`.
 fn finish_in(kept: &mut JobTable, number: usize, finished: Option<JobView>)
     requires live { IsSome (live_job (jobs_in kept.old.items) number) }
@@ -269,7 +269,8 @@ fn finish_in(kept: &mut JobTable, number: usize, finished: Option<JobView>)
     }
 }
 
-// Removes the index entry of this submit if `finished` is `None` and the entry has this job number.
+// Removes the entry of this submit from the index, if the entry has the job `number` and `finished`
+// is `None`. The job `number` is then no longer live.
 fn remove_if_gone(
     latest: &mut LatestJobs,
     finished: Option<JobView>,
@@ -284,8 +285,8 @@ fn remove_if_gone(
     }
 }
 
-// Removes the done jobs that this job created. The index has all of them, at positions below the
-// submit bound of this job.
+// Removes the done jobs that the job `parent` created. The index has all these done jobs, at
+// positions below the submit bound of the job `parent`.
 fn remove_orphans(kept: &mut JobTable, latest: &mut LatestJobs, parent: usize)
     requires live { IsSome (live_job (jobs_in kept.old.items) parent) }
     requires reached { AreSubmitBounds kept.old.items }

@@ -1,4 +1,5 @@
-//! The states of the clients that have left the start of their body at least once, by number.
+//! The states, by client number, of the clients that have left the start of their body at least
+//! once.
 
 ghost use Rattle.std.specs.Prelude.{◌≡◌, ◌<◌, ℕ, None, Some, false, OnOk, is_some, nat_eq, if◌then◌else◌, ◌==◌};
 ghost use Rattle.std.specs.Option.{option_map};

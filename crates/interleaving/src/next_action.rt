@@ -19,7 +19,7 @@ use written_machine::Parent;
 pub(crate) struct NextAction {
     pub(crate) position: usize,
     pub(crate) action: Option<Action>,
-    // Whether the action is a submit for whose job the body has a get.
+    // Whether the action is a submit, and the body has a get of the submitted job.
     pub(crate) has_get: bool,
 }
 

@@ -6,7 +6,7 @@ ghost use Rattle.written_machine.specs.State.{pool_of};
 
 use job_bodies::{Action, Class, Client, Plan};
 
-/// Returns the pool of the class with this number, or 0 if there is no such class.
+/// Returns the number of the pool that runs the jobs of this class, or 0 if there is no such class.
 pub(crate) fn pool_of(plan: &Plan, class: usize) -> usize
     ensures { result ≡ pool_of plan.now class }
 {

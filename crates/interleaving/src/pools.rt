@@ -51,7 +51,7 @@ impl World {
     }
 
     /// Ends an idle worker of the pool, and returns the outcome. Returns `None` if there is no such
-    /// pool or [`PoolState::retire`] ends no worker.
+    /// pool, or if none of its idle workers may end (see [`PoolState::retire`]).
     pub(crate) fn retire(&mut self, plan: &Plan, pool: usize) -> Option<Outcome>
         requires { length self.old.view.pools ≡ length plan.now.pools }
         ensures value { MatchesResult (retire_worker_in self.old.view pool (retired (pool_in self.old.view pool)))

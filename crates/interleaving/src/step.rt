@@ -38,8 +38,8 @@ impl World {
     pub fn step(&mut self, plan: &Plan, event: Event) -> Result<Option<Outcome>, AllocError>
         requires { IsReachableView plan.now self.old.view }
 
-        // In every reachable state that has this live view, the result is that of the machine of
-        // `written_machine`.
+        // In every reachable state whose live view was the world's view before the event, the
+        // machine of `written_machine` gives the same result.
         ensures answered { IfOk result (λ answer.
             (s : State)
             → IsReached plan.now s
@@ -48,8 +48,8 @@ impl World {
         ensures in_view { IfOk result
             (λ answer. AnswersIn plan.now self.old.view event answer self.new.view) }
 
-        // After a result and after an error, the world's view is the live view of a reachable state
-        // of this plan.
+        // Whether the call returns a result or an error, the world's view is afterwards the live
+        // view of a reachable state of this plan.
         ensures of_plan { IsReachableView plan.now self.new.view }
         ensures well_formed { IsWellFormed plan.now }
 

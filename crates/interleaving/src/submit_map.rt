@@ -19,12 +19,12 @@ const TABLE_LEN: usize = 4096;
 /// A map from submit calls to job numbers. A submit call consists of the number of an actor and the
 /// position of a submit in the actor's body.
 ///
-/// Each call has a place in the vector `table`. The index of this place is the actor's number
-/// modulo the length of `table`. If another call already occupies the place, the call is stored in
-/// the map `others`. A look-up reads `table` first.
+/// Each call has an index in the vector `table`: the actor's number modulo `TABLE_LEN`. If the
+/// entry at this index already belongs to another call, the call is stored in the map `others`
+/// instead. A look-up reads `table` first.
 #[derive(Drop)]
 pub(crate) struct SubmitMap {
-    // The entries of the table, of which there are none before the first call of `reserve`.
+    // The table. It has no entries before `reserve` is called for the first time.
     table: Vec<Option<(SubmitKey, usize)>>,
     others: HashMap<SubmitKey, usize>,
 }

@@ -111,7 +111,7 @@ impl World {
         &self.pools[pool]
     }
 
-    /// Returns the position of the client with this number in its body, or `None` if there is no
+    /// Returns the position in its body of the client with this number, or `None` if there is no
     /// such client.
     pub fn client(&self, client: usize) -> Option<usize>
         ensures { result

@@ -19,9 +19,9 @@ pub const MAX_ACTIONS: usize = 256;
 /// pool, and the count of a client kind. The minimum is 1. A queue capacity can also be 0 if the
 /// pool may reject jobs.
 pub const MAX_SIZE: u64 = 1_000_000;
-/// The `max` of a pool if its plan sets no maximum: 2^28 - 1. The queue of such a pool is
-/// unbounded, and its core threads may time out. No system has room for that many threads. Java's
-/// `ThreadPoolExecutor` allows them: it packs the number of its threads in 29 bits.
+/// The `max` of a pool for which the plan sets no maximum: 2^28 - 1. The queue of such a pool is
+/// unbounded, and its core threads may time out. No system has room for that many threads, but
+/// Java's `ThreadPoolExecutor` allows this number: it packs the number of its threads into 29 bits.
 pub const MAX_THREADS: u64 = 268_435_455;
 /// The maximum number of units of a `Work` action. The minimum is 1.
 pub const MAX_WORK: u64 = 1_000_000;
@@ -32,17 +32,17 @@ pub const MAX_NAME_BYTES: usize = 32;
 /// is 0.
 pub const MAX_WEIGHT: u64 = 1_000_000_000;
 
-/// The maximum size of a plan's text, in bytes.
+/// The maximum length of a plan's text, in bytes.
 pub const MAX_PLAN_BYTES: usize = 1_048_576;
-/// The maximum size of a certificate's text, in bytes.
+/// The maximum length of a certificate's text, in bytes.
 pub const MAX_CERT_BYTES: usize = 1_048_576;
-/// The maximum size of the event lines of a replay, in bytes.
+/// The maximum length of all event lines of a replay together, in bytes.
 pub const MAX_EVENT_BYTES: usize = 1_048_576;
-/// The maximum size of a whole input, in bytes. An input has a plan, a separator line, and event
-/// lines or a certificate. The program reads at most one byte more, to detect an input that is too
-/// long.
+/// The maximum length of a whole input, in bytes. An input has a plan, a separator line, and either
+/// event lines or a certificate. The program reads at most one byte more, to detect an input that
+/// is too long.
 pub const MAX_INPUT_BYTES: usize = 2_097_155;
-/// The maximum size of a whole input that contains a recording, in bytes.
+/// The maximum length of a whole input that contains a recording, in bytes.
 pub const MAX_RECORDED_BYTES: usize = 268_435_456;
 /// The maximum of each number in event lines and in lines of recordings. The minimum is 0.
 pub const MAX_LINE_NUMBER: usize = 1_000_000_000;
@@ -67,8 +67,9 @@ pub const MAX_RUN_CLIENTS: u64 = 64;
 /// The maximum number of threads that all pools may have together, when a plan is executed on real
 /// threads.
 pub const MAX_RUN_CARRIERS: u64 = 64;
-/// The maximum number of events, when a plan is executed on real threads. The number of events is
-/// computed from the plan before the execution starts.
+/// The maximum number of events, when a plan is executed on real threads. Before the execution
+/// starts, an upper bound of the number of events is computed from the plan and compared with this
+/// limit.
 pub const MAX_RUN_EVENTS: u64 = 1_000_000;
 
 /// Returns true if `n` is from `low` to `high`, both included.

@@ -40,8 +40,8 @@ pub struct Pool {
     /// `prestartAllCoreThreads`. The first jobs then wait in the queue until idle threads take
     /// them. If `prestart` is false, the first jobs start threads.
     pub prestart: bool,
-    /// Whether the pool may reject jobs, because its callers expect rejections. They may handle the
-    /// exception of `AbortPolicy`, or the pool may have another handler, such as
+    /// Whether the pool may reject jobs. This is for a pool whose callers expect rejections: the
+    /// callers handle the exception of `AbortPolicy`, or the pool has another handler, such as
     /// `CallerRunsPolicy`.
     ///
     /// If the pool rejects a job, the actor that submits it continues as if its body had neither
@@ -58,7 +58,7 @@ pub struct Pool {
     pub unbounded: bool,
     /// Whether core threads may time out, as after Java's `allowCoreThreadTimeOut(true)`. Any idle
     /// thread can then end, except that the last thread does not end while jobs are queued. So a
-    /// pool with a queued job may have only one thread.
+    /// pool with a queued job can be down to a single thread, whatever `core` is.
     ///
     /// Java replaces a thread that ends while jobs are queued. So a pool can have more than `core`
     /// threads even if its queue is unbounded.
@@ -197,8 +197,8 @@ impl Plan {
     /// 2. The length of each body, first of the classes and then of the client kinds. A body with
     ///    too many actions is fault 2 of the class or client kind.
     /// 3. The values of each pool, then of each class, then of each client kind. An invalid name is
-    ///    fault 6. The name of an earlier entry of the same list is fault 7. A size or a count out
-    ///    of range is fault 8. A pool that does not exist is fault 9.
+    ///    fault 6. A name that an earlier entry of the same list already has is fault 7. A size or
+    ///    a count out of range is fault 8. A class whose pool does not exist is fault 9.
     /// 4. Each action of each class, and then of each client kind. Units of work that are out of
     ///    range are fault 8. A submit of a class that does not exist is fault 10. A get is fault 13
     ///    if it does not name an earlier submit, or if an earlier get names the same submit.

@@ -6,7 +6,7 @@ use recordings::RecordedStep;
 use std::alloc::{AllocError, Global};
 use std::collections::{HashMap, HashSet};
 
-/// A map from classified jobs to their classes. It has a job until the job's submitter is
+/// A map from classified jobs to their classes. A job remains in the map until its submitter is
 /// classified, because classifying the submitter requires the class of the job.
 #[derive(Drop)]
 pub(crate) struct AssignedClasses {

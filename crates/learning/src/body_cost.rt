@@ -6,8 +6,8 @@ use job_bodies::Action;
 /// Returns true if `body` costs less than `other`. Also returns true if both cost the same and
 /// `body` has fewer actions.
 ///
-/// The cost of a body is a sum over the classes that it submits. For each class, [`peak_of`]
-/// returns the maximum number of jobs of this class that are open at the same time.
+/// The cost of a body is the sum of [`peak_of`] over the classes that it submits. For a class, this
+/// is the maximum number of jobs of the class that are open at the same time.
 pub(crate) fn is_preferred(body: &[Action], other: &[Action]) -> bool {
     let peaks = sum_of_peaks(body);
     let other_peaks = sum_of_peaks(other);

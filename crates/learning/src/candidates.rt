@@ -7,14 +7,14 @@ use conformance::PathStep;
 use job_bodies::Action;
 use std::alloc::{AllocError, Global};
 
-/// The number of different values of [`Choices`]. For each of them there is one candidate.
+/// The number of different values of [`Choices`]. There is one candidate for each value.
 pub(crate) const CANDIDATES: usize = 8;
 
 /// The options of [`candidate`]. Different options can result in different bodies.
 #[derive(Clone, Copy)]
 pub(crate) struct Choices {
-    /// True if a submit of the candidate is matched either only with jobs that their paths get, or
-    /// only with jobs that their paths never get. If false, a submit can be matched with both.
+    /// True if no submit of the candidate may be matched both with a job that its path gets and
+    /// with a job that its path never gets. If false, a submit may be matched with both.
     pub(crate) marks_gets: bool,
     /// True if the submits of the paths are merged from the last path to the first. If it is false,
     /// they are merged from the first path to the last.
@@ -38,7 +38,8 @@ impl Choices {
 /// Returns a body that has the submits of all paths and gets each job as soon as the paths allow.
 /// Some path may still not match the body. `choices` selects one of several such bodies.
 ///
-/// Returns `None` if [`job_steps`] returns `None` for a path, or if the body would be too long.
+/// Returns `None` if [`job_steps`] returns `None` for a path, or if the body would have more
+/// submits than a body may have actions.
 ///
 /// # Errors
 ///
@@ -74,8 +75,8 @@ fn all_job_steps(
 }
 
 /// Returns the body that submits the jobs in `common`, in this order, and gets them at `times`. The
-/// time of a job is the number of a submit, from 0: the body gets the job directly after this
-/// submit. If the time is `None`, the body does not get the job.
+/// time of a job is the number of a submit, counted from 0: the body gets the job directly after
+/// this submit. If the time is `None`, the body does not get the job.
 fn body_with_gets(
     alloc: Global,
     common: &[PathJob],
@@ -94,8 +95,9 @@ fn body_with_gets(
 /// Appends the gets that the body makes directly after its submit number `time`, counted from 0.
 /// The gets are in the order in which the body submits their jobs.
 ///
-/// - `submits` has, for each job so far, the index of its submit in the body.
-/// - `times` has, for each job, the number of the submit after which the body gets it.
+/// - `submits` has, for each job submitted so far, the index of its submit in the body.
+/// - `times` has, for each job, the number of the submit after which the body gets the job. The
+///   number is `None` if the body does not get the job.
 fn push_gets(
     body: &mut Vec<Action>,
     submits: &[usize],

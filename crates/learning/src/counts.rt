@@ -180,7 +180,7 @@ fn kind_of(kinds: &[Option<usize>], round: usize) -> Option<usize>
     *kinds.get(round)?
 }
 
-/// Counts the begin of a round of this kind. Does nothing if `kind` is `None` or out of range.
+/// Counts the beginning of a round of this kind. Does nothing if `kind` is `None` or out of range.
 ///
 /// # Errors
 ///

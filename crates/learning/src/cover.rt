@@ -24,7 +24,8 @@ use std::alloc::{AllocError, Global};
 /// Returns a body that all paths match. `body` is the current body. `kind` says whether the paths
 /// are those of jobs or of rounds. The result is found in these steps:
 ///
-/// - If `body` is valid in a plan and all paths match it, the result is `body`.
+/// - If `body` is valid in a plan and [`match_path`] finds that all paths match it, the result is
+///   `body`.
 /// - Otherwise, if `body` has `work`, the result is `None`.
 /// - Otherwise, if there is a single path, the result is the body whose actions are the steps of
 ///   the path.
@@ -58,11 +59,13 @@ pub fn covering_body(
     ensures short { IfOk result (λ found. IfSome found (λ new. length new.items ≤ MAX_ACTIONS)) }
     ensures valid_gets { IfOk result (λ found. IfSome found (λ new. HasValidGets new.items)) }
 
-    // A body that covers the paths is not changed.
+    // A valid body that covers the paths is not changed if each job of a path can belong to at most
+    // one of the body's classes.
     ensures same { spec.IsSurelyCovering kind body.now paths.now
         → IfOk result (λ found. IsSomeAnd found (λ new. new.items ≡ body.now)) }
 
-    // A single path that has a body gets one that is not longer than the path.
+    // For an empty body and a single path whose steps form a valid body, a body is found that is
+    // not longer than the path.
     ensures single { (path : PathVec Step GlobalAlloc)
         → body.now ≡ []
         → paths.now ≡ path ∷ []
@@ -78,7 +81,7 @@ pub fn covering_body(
     new_body(alloc, kind, paths)
 }
 
-/// Returns a body without `work` that each of the paths matches, or `None` if no such body is
+/// Returns a body that has no `work` and that all paths match. Returns `None` if no such body is
 /// found.
 fn new_body(
     alloc: Global,
@@ -98,7 +101,8 @@ fn new_body(
     }
 }
 
-/// Returns the best candidate that all paths match, or `None` if there is no such candidate.
+/// Returns the best of the candidates that all paths match (see [`is_preferred`]). Returns `None`
+/// if there is no such candidate.
 fn best_candidate(
     alloc: Global,
     kind: ActorKind,

@@ -21,7 +21,7 @@ impl EndedActors {
         }
     }
 
-    /// Adds an actor if the line is the end of this actor. Does nothing for any other line.
+    /// Adds the actor that ends with the line. Does nothing if no actor ends with the line.
     ///
     /// # Errors
     ///

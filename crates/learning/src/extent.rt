@@ -4,16 +4,17 @@
 /// learned from the whole recording.
 #[derive(Clone, Copy, PartialEq, Eq)]
 pub enum Extent {
-    /// The complete lines in the first [`START_BYTES`] bytes, or the whole recording if it is not
-    /// longer. No plan is learned if an actor that begins in these lines matches no learned body.
+    /// The complete lines in the first [`START_BYTES`] bytes, or the whole recording if it has at
+    /// most that many bytes. No plan is learned if an actor that begins in these lines matches no
+    /// learned body.
     Start,
     /// The whole recording.
     Whole,
 }
 
-/// The maximum size of the start of a recording, in bytes. A start of this size usually contains
-/// each path of the recording several times. A few passes over this start take little time compared
-/// with one pass over a long recording.
+/// The greatest number of bytes, from the beginning of a recording, from which [`Extent::Start`]
+/// learns bodies. That many bytes usually contain each path of the recording several times. A few
+/// passes over them take little time compared with one pass over a long recording.
 pub const START_BYTES: usize = 65_536;
 
 /// A prefix of a recording. If the prefix ends within a line, this last line is not read.

@@ -50,7 +50,8 @@ fn later(time: Option<usize>, other: Option<usize>) -> Option<usize> {
 }
 
 /// Returns, for each submit of the body, whether a submit of the path is matched with it. `common`
-/// has the jobs that the body submits, and `jobs` has the jobs that the path submits.
+/// has the jobs that the body submits, and `jobs` has the jobs that the path submits. `is_late` is
+/// as in [`get_times`].
 fn made_submits(
     alloc: Global,
     common: &[PathJob],
@@ -120,8 +121,8 @@ fn times_of_path(
     Ok(times)
 }
 
-/// Records `time` for each get of the path from index `from` to the next submit. Returns the index
-/// of this submit, or the length of the path if there is no further submit.
+/// Records `time` for each get of the path at index `from` or later, up to the next submit. Returns
+/// the index of this submit, or the length of the path if there is no such submit.
 fn record_gets(
     common: &[PathJob],
     path: &[JobStep],

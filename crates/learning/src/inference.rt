@@ -32,8 +32,8 @@ use std::alloc::{AllocError, Global};
 ///
 /// The whole recording is read once, for its names, its counts and its first invalid line. The
 /// selected part is read a few more times, usually twice, while the bodies change. If a label has
-/// several client kinds, one more pass counts the rounds of each kind. In this case, the result is
-/// an [`InferenceLimit`] unless the selected part is the whole recording.
+/// several client kinds, the rounds of each kind must also be counted. One more pass does this if
+/// the selected part is the whole recording. Otherwise, the result is an [`InferenceLimit`].
 ///
 /// The memory grows with these numbers:
 ///

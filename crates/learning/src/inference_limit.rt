@@ -9,11 +9,11 @@ use std::fmt;
 /// found.
 #[derive(Clone, Copy, PartialEq, Eq)]
 pub enum InferenceLimit {
-    /// More pools than a plan may have.
+    /// The plan would need more pools than a plan may have.
     Pools,
-    /// More classes of jobs than a plan may have.
+    /// The plan would need more classes of jobs than a plan may have.
     Classes,
-    /// More client kinds than a plan may have.
+    /// The plan would need more client kinds than a plan may have.
     Kinds,
     /// A class or client kind would need a name that is too long.
     Names,

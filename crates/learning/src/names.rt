@@ -26,8 +26,8 @@ pub(crate) fn free_name(alloc: Global, entries: &[Entry], label: &str) -> Result
     if !has_name(entries, label) {
         return Ok(String::from_str(alloc, label)?);
     }
-    // The loop always finds a free name, because the label and the names of the loop are one name
-    // more than there are entries.
+    // The loop always returns, because one of its names is free: with the label, there is one more
+    // name than there are entries.
     for step in 0..entries.len() {
         let number = step.saturating_add(2);
         let name = format!(in alloc; "{label}_{number}")?;

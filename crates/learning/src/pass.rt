@@ -19,14 +19,14 @@ use std::alloc::{AllocError, Global};
 /// The state of a pass over a part of a recording.
 #[derive(Drop)]
 pub(crate) struct Pass {
-    /// For each round, by round number, the first client kind of the plan to which the round can
-    /// belong. The value is `None` if the round matches no kind or is not yet classified.
+    /// The first of the plan's client kinds to which each round can belong, by round number. The
+    /// value is `None` if the round matches no kind or is not yet classified.
     pub(crate) kinds: Vec<Option<usize>>,
     /// True if the pass changed a body.
     pub(crate) is_changed: bool,
     /// True if each actor matched a class or client kind of the plan.
     pub(crate) is_explained: bool,
-    /// True if the recording continues after the part.
+    /// True if the recording continues after the part that this pass reads.
     is_cut: bool,
     members: AssignedClasses,
     ended: EndedActors,
@@ -209,8 +209,9 @@ impl Pass {
         self.is_changed || self.is_cut
     }
 
-    // Records the first client kind that a round can belong to, or assigns the class to a job. Also
-    // records if the actor matches no class or client kind of the plan.
+    // For a round, records the first client kind to which it can belong. For a job, records `class`
+    // as its class. Also clears `is_explained` if the actor matches no class or client kind of the
+    // plan.
     fn record_assignment(
         &mut self,
         one: &ClassifiedActor,
@@ -231,8 +232,10 @@ impl Pass {
         }
     }
 
-    // Returns the class or client kind of the actor. Changes a body if the actor matches none, and
-    // each job that it submitted has a class.
+    // Returns the class or client kind of the actor. If the actor matches none, tries to change a
+    // body so that the actor's path matches it. There are two exceptions, in which the result is
+    // `None`: for some body, it is unknown whether the path matches it, or a job that the actor
+    // submitted has no class.
     fn learn(
         &mut self,
         pools: &[Pool],

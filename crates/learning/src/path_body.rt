@@ -1,4 +1,4 @@
-//! The body of a single path.
+//! The body whose actions are the steps of a single path.
 
 ghost use Rattle.std.specs.Prelude.{◌≡◌, ◌≤◌, ◌↔◌, [], IfOk, IfSome, MatchOption, All, IsTrue, length};
 ghost use Rattle.job_bodies.specs.declared.limits.TheConstants.{MAX_ACTIONS};

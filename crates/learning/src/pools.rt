@@ -16,12 +16,14 @@ use std::alloc::{AllocError, Global};
 
 /// Returns the pool of a `pool` line, with each size clamped to its range in a plan.
 ///
-/// - The capacity of an unbounded queue is the largest size of a plan.
+/// - The capacity of an unbounded queue is the largest size that a plan allows.
 /// - If the queue is unbounded and core threads never time out, the maximum is the core size.
-/// - If the queue is unbounded and core threads may time out, a maximum above the largest size of a
-///   plan is not clamped. Instead, the pool has no maximum, which is written as [`MAX_THREADS`].
+/// - If the queue is unbounded and core threads may time out, a maximum above the largest size that
+///   a plan allows is not clamped. Instead, the pool has no maximum, which is written as
+///   [`MAX_THREADS`].
 /// - `prestart` is true if all core threads were prestarted and there is at least one.
-/// - `may_reject` is true if the queue is a `SynchronousQueue`, because a plan requires this.
+/// - `may_reject` is true if the queue is a `SynchronousQueue`, because a plan allows such a queue
+///   only in a pool that may reject jobs.
 ///
 /// # Errors
 ///
@@ -42,7 +44,7 @@ pub(crate) fn recorded_pool(alloc: Global, name: &str, sizes: PoolSizes) -> Resu
     })
 }
 
-// Returns the maximum of a pool with this core.
+// Returns the maximum of a pool with this core size.
 fn planned_max(core: u64, sizes: PoolSizes) -> u64
     ensures { result ≡ spec.planned_max core sizes }
 {
@@ -53,9 +55,10 @@ fn planned_max(core: u64, sizes: PoolSizes) -> u64
     }
 }
 
-// Returns the maximum of a pool with this core and an unbounded queue. If core threads never time
-// out, the maximum has no effect, and the result is the core, as in the text of a plan. Otherwise,
-// a pool with a recorded maximum above the largest size of a plan has none.
+// Returns the maximum of a pool with this core size and an unbounded queue. If core threads never
+// time out, the maximum has no effect, and the result is the core size, as in a plan that is read
+// from its text. Otherwise, a pool has no maximum if its recorded maximum is above the largest size
+// that a plan allows.
 fn max_over_unbounded(core: u64, sizes: PoolSizes) -> u64
     ensures { result ≡ spec.max_over_unbounded core sizes }
 {
@@ -69,7 +72,7 @@ fn max_over_unbounded(core: u64, sizes: PoolSizes) -> u64
 }
 
 // Returns the capacity of the queue. If the queue is unbounded, the capacity has no effect, and the
-// result is the largest size of a plan, as in the text of a plan.
+// result is the largest size that a plan allows, as in a plan that is read from its text.
 fn planned_queue(sizes: PoolSizes) -> u64
     ensures { result ≡ spec.planned_queue sizes }
 {
@@ -93,7 +96,7 @@ fn is_synchronous(kind: QueueKind) -> bool
     matches!(kind, QueueKind::Synchronous)
 }
 
-// Clamps the number to the range from `low` to the maximum size of a plan.
+// Clamps the number to the range from `low` to the largest size that a plan allows.
 fn into_range(low: u64, number: u64) -> u64
     ensures { result ≡ spec.into_range low number }
 {
@@ -106,7 +109,8 @@ fn has_core_threads(sizes: PoolSizes) -> bool
     sizes.prestarted != 0 && sizes.prestarted == sizes.core
 }
 
-/// Adds the pool of a `pool` line, unless a pool already has its name.
+/// Adds the pool of a `pool` line, unless `pools` already has a pool with this name. Does nothing
+/// for any other line.
 ///
 /// # Errors
 ///

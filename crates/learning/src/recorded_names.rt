@@ -19,8 +19,8 @@ use job_bodies::Pool;
 use recordings::{CheckedLines, Line, RecordingFault, first_fault};
 use std::alloc::{AllocError, Global};
 
-/// The pools, classes and client kinds that occur in the lines of a recording, and the numbers of
-/// rounds and jobs.
+/// The pools, classes and client kinds that occur in the lines of a recording, and the counts of
+/// its rounds and jobs.
 #[derive(Drop)]
 pub(crate) struct RecordedNames {
     pub(crate) pools: Vec<Pool>,
@@ -59,8 +59,9 @@ pub(crate) fn recorded_names(
     }
 }
 
-// Returns the first invalid line or, if all lines are valid, `learn_error` as an error. A line
-// after the one that exceeded a limit may still be invalid.
+// Returns the fault of the first invalid line. If all lines are valid, returns `learn_error` as an
+// error. The whole recording is checked, because a line after the one that caused `learn_error` may
+// be invalid.
 fn fault_or_error(
     alloc: Global,
     recording: &[u8],

@@ -95,10 +95,10 @@ fn push_from(jobs: &mut Vec<PathJob>, more: &[PathJob], index: usize) -> Result<
 /// Returns true if the merged list can continue with the next job of the first list and still be a
 /// shortest common supersequence.
 ///
-/// The next job is taken from one of the two lists. The merged list is shortest if the jobs that
-/// then remain in the lists have the longest possible common subsequence. The result is true if
-/// this subsequence is not shorter after taking from the first list than after taking from the
-/// second list.
+/// The next jobs of the two lists must differ, so the merged list continues with one of them. It
+/// becomes shortest if the jobs that then remain in the two lists have the longest possible common
+/// subsequence. So the result is true if this subsequence is at least as long after taking the
+/// first list's job as after taking the second list's job.
 ///
 /// - `left` is the number of jobs that remain in the first list, and `other_left` the number that
 ///   remain in the second list.
@@ -117,7 +117,8 @@ fn length_at(lengths: &[Vec<usize>], left: usize, other_left: usize) -> usize {
 
 /// Returns a table with one entry for each pair of a suffix of the first list and a suffix of the
 /// second list. The entry is the length of the longest common subsequence of the two suffixes. The
-/// lengths of the two suffixes are the outer and the inner index of the table.
+/// outer index of an entry is the length of the first list's suffix, and the inner index is the
+/// length of the second list's suffix.
 fn common_lengths(
     alloc: Global,
     first: &[PathJob],

@@ -59,9 +59,9 @@ impl Levels {
     }
 
     /// Gives `level` to each class that has no level yet and submits only classes of lower levels.
-    /// Appends these classes to the order. For each class, `known` has the number of actions at the
-    /// start of its body that need no further check. These actions submit only classes of lower
-    /// levels. Updates these numbers.
+    /// Appends these classes to `order`. For each class, `known` has the length of a prefix of its
+    /// body. The actions of this prefix submit only classes below `level`, so they are not checked
+    /// again. Updates these lengths.
     fn add_level(&mut self, plan: &Plan, level: u64, known: &mut [usize]) -> Result<(), AllocError>
         ensures { vec_len self.new.of_classes ≡ vec_len self.old.of_classes }
     {
@@ -91,7 +91,7 @@ impl Levels {
         known
     }
 
-    /// Returns whether the action submits a class below `level`, or submits no class.
+    /// Returns `false` if the action submits a class at `level` or above, and `true` otherwise.
     fn is_below(&self, action: Action, level: u64) -> bool {
         match action {
             Action::Submit(class) => number_at(&self.of_classes, class) < level,

@@ -1,10 +1,11 @@
 //! The search for vectors with small totals. A vector gives a weight to each worker, to each client
 //! at each position of its body, and to each job at each stage (queued, at a position of its body,
-//! or done). The weights are chosen so that no event increases their sum. For example, if each
-//! queued job of a pool weighs at least 1, the sum bounds the number of queued jobs of this pool.
+//! or done). The weights are chosen so that no event increases the sum of the weights in a state.
+//! For example, if each queued job of a pool weighs at least 1, this sum bounds the number of
+//! queued jobs of the pool.
 //!
-//! Searches for certificates use these vectors. The contracts promise only the shape of a vector,
-//! so a caller must check a vector before it relies on it, for example with `cert_check::accepts`.
+//! Searches for certificates use these vectors. The contracts promise only the shape of a vector.
+//! So each vector must be checked before its use, for example with `cert_check::accepts`.
 #![tactic(auto)]
 
 mod levels;

@@ -1,8 +1,9 @@
 //! The search for a vector with a small total. The [`Target`] determines the pool, the kind of the
-//! vector and the limit of its total. At first, workers weigh 0. A *loan* gives each worker of one
-//! pool a weight. A worker that takes a queued job adds its weight to the weight of the job. So the
-//! queued jobs of this pool can weigh less, and the total can become smaller. A [`Sketch`] has the
-//! weights that determine the total.
+//! vector and the limit of its total. At first, workers weigh 0. A *loan* sets the weight of the
+//! workers of one pool. When a worker takes a queued job, the job that then runs may weigh as much
+//! as the queued job and the worker together. So the more a worker weighs, the less the queued jobs
+//! of its pool need to weigh, and the total can become smaller. A [`Sketch`] has the weights that
+//! determine the total.
 
 ghost use Rattle.std.specs.Prelude.{◌≡◌, ◌<◌, ◌≤◌, length, IfOk, IfSome, IsTrue, vec_len};
 ghost use Rattle.weights.specs.Vector.{vector_fits};
@@ -22,8 +23,8 @@ use weights::Vector;
 /// This limit bounds the time of a search.
 const MAX_LOANS: usize = 256;
 
-/// A loan: a new weight for each worker of one pool. The fields are the pool, the weight, and the
-/// index of the resulting sketch in the cache.
+/// A loan: a new weight for the workers of one pool. The fields are the pool, the weight, and the
+/// index that the resulting sketch has in the cache.
 #[derive(Clone, Copy)]
 pub(crate) struct Loan {
     pub(crate) pool: usize,
@@ -43,11 +44,11 @@ pub(crate) struct Loans {
 }
 
 /// Makes loans to reduce the total of the vector, and returns the resulting worker weights and
-/// their sketch. A *loan* gives each worker of one pool a weight, so that the queued jobs of this
-/// pool can weigh less (see [`next_loan`]). The loans end when one of these conditions holds:
+/// their sketch. A *loan* sets the weight of the workers of one pool, so that the queued jobs of
+/// this pool can weigh less. The loans end when one of these conditions holds:
 ///
 /// - The total is at most the limit of the target.
-/// - No further loan helps. The total is then still above the limit.
+/// - [`next_loan`] finds no loan that helps. The total is then still above the limit.
 /// - [`MAX_LOANS`] loans were made. The total can then still be above the limit.
 pub(crate) fn minimize_total(
     alloc: Global,
@@ -125,14 +126,14 @@ pub(crate) fn lightest_vector(
     vector_of(alloc, plan, target, workers, &sketch)
 }
 
-/// Returns the next loan, or `None` if no loan helps. A loan gives the workers of one pool a new
-/// weight. If there is an *overweight* class, uses [`relieving_loan`] to make fewer classes
-/// overweight. Otherwise, uses [`best_loan`] to make the total smaller. A class is overweight if it
-/// is never submitted and has a weight above `MAX_WEIGHT`.
+/// Returns the next loan, or `None` if no loan helps. A loan sets the weight of the workers of one
+/// pool. A class is *overweight* if it is never submitted and has a weight above `MAX_WEIGHT`. If
+/// there is an overweight class, returns the loan of [`relieving_loan`], which reduces the number
+/// of overweight classes. Otherwise, returns the loan of [`best_loan`], which reduces the total.
 ///
 /// - `workers` has the current weights of workers. They are the same after the call, unless memory
 ///   runs out.
-/// - `place` is the index in the cache of the sketch for these weights.
+/// - `place` is the index that the sketch for these weights has in the cache.
 fn next_loan(
     sketch_cache: &mut SketchCache,
     workers: &mut [u64],
@@ -151,9 +152,10 @@ fn next_loan(
     }
 }
 
-/// Returns the loan that gives the smallest total, or `None` if no loan makes the total smaller. A
-/// loan gives each worker of one pool the weight that [`peak`] returns. Ignores classes that are
-/// never submitted, because their jobs do not count towards the total.
+/// Returns the loan that gives the smallest total, or `None` if no loan makes the total smaller.
+/// Each loan that it tries gives the workers of one pool the weight that [`peak`] returns for this
+/// pool. Ignores classes that are never submitted, because their jobs do not count towards the
+/// total.
 ///
 /// `workers` and `place` are as in [`next_loan`].
 fn best_loan(
@@ -199,7 +201,7 @@ fn best_loan(
 }
 
 /// Returns the largest weight that a job of the pool has at any position of its body, under two
-/// assumptions. The workers of the pool weigh 0, and the job weighs as little as possible when it
+/// assumptions: the workers of the pool weigh 0, and the job weighs as little as possible when it
 /// is done. Classes that are never submitted are ignored.
 ///
 /// `workers` and `place` are as in [`next_loan`].

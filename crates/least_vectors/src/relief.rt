@@ -1,7 +1,8 @@
 //! Loans for classes that are never submitted and have a weight above `MAX_WEIGHT`. The jobs of
 //! such a class do not count towards the total, but their weights in the vector must still be at
-//! most `MAX_WEIGHT`. A loan gives the workers of a pool weight. A worker adds its weight to the
-//! queued job that it takes, so the queued jobs of the pool can weigh less.
+//! most `MAX_WEIGHT`. A loan sets the weight of the workers of one pool. When a worker takes a
+//! queued job, the job that then runs may weigh as much as the queued job and the worker together.
+//! So the more a worker weighs, the less the queued jobs of its pool need to weigh.
 
 ghost use Rattle.std.specs.Prelude.{◌≡◌, ◌<◌, ◌≤◌, IfOk, IfSome, vec_len, length};
 
@@ -11,17 +12,17 @@ use crate::sketch_cache::SketchCache;
 use job_bodies::MAX_SIZE;
 use std::alloc::AllocError;
 
-/// The number of steps in which bisection finds one weight from 0 to [`MAX_SIZE`].
+/// The number of steps in which bisection finds one of the weights from 0 to [`MAX_SIZE`].
 const HALVINGS: usize = 20;
 
-/// Returns the loan that leaves the fewest *overweight* classes. A loan gives the workers of one
-/// pool a new weight. A class is overweight if it is never submitted and has a weight above
+/// Returns the loan that leaves the fewest *overweight* classes. A loan sets the weight of the
+/// workers of one pool. A class is overweight if it is never submitted and has a weight above
 /// `MAX_WEIGHT`. Returns `None` if no loan makes the number of overweight classes smaller. If
 /// several loans leave the fewest, returns the loan after which all workers together weigh least.
 ///
 /// - `workers` has the current weights of workers. They are the same after the call, unless memory
 ///   runs out.
-/// - `place` is the index in the cache of the sketch for these weights.
+/// - `place` is the index that the sketch for these weights has in the cache.
 pub(crate) fn relieving_loan(
     sketch_cache: &mut SketchCache,
     workers: &mut [u64],
@@ -68,13 +69,12 @@ pub(crate) fn relieving_loan(
     Ok(best)
 }
 
-/// Returns a weight for each worker of the pool: the least weight that leaves at most
-/// `overweight_unsubmitted` classes overweight. A class is *overweight* if it is never submitted
-/// and has a weight above `MAX_WEIGHT`. Returns `MAX_SIZE` if every smaller weight leaves more
-/// classes overweight.
+/// Returns the least weight of the pool's workers with which at most `overweight_unsubmitted`
+/// classes are *overweight*. A class is overweight if it is never submitted and has a weight above
+/// `MAX_WEIGHT`. Returns `MAX_SIZE` if no smaller weight suffices.
 ///
-/// Uses bisection, since heavier workers never leave more classes overweight. Changes the weight of
-/// the pool's workers in `workers`.
+/// Uses bisection, since a larger weight of workers never increases the number of overweight
+/// classes. Changes the weight of the pool's workers in `workers`.
 fn least_weight(
     sketch_cache: &SketchCache,
     workers: &mut [u64],

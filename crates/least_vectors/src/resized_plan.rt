@@ -24,9 +24,10 @@ use weights::Vector;
 pub struct VectorSummary {
     /// For each pool, the weight of one of its workers.
     pub workers: Vec<u64>,
-    /// The pools whose workers had weight at some point in the search. A search with other maximums
-    /// gives the same result under two conditions: the maximums of these pools are the same, and no
-    /// other pool has a smaller maximum.
+    /// The pools whose workers had weight at some point in the search. A second search, with other
+    /// maximums, gives the same result under two conditions: each of these pools has the same
+    /// maximum in both searches, and no pool has a smaller maximum in the second search than in
+    /// this one.
     pub lenders: Vec<usize>,
     /// The total of the vector: the weight of all clients at the start of their bodies, plus the
     /// weight of all workers if each pool has its maximum of workers.
@@ -45,8 +46,8 @@ pub enum Kind<'a> {
     Lifetime,
     /// A blocked vector of a pool with the rank `rank`. It bounds the number of the pool's jobs
     /// that wait at certain gets. These gets wait for jobs of classes with a reach of at least
-    /// `rank`. The workers of this pool weigh 0. Otherwise, the total would be at least the core
-    /// size, but it must be less.
+    /// `rank`. The workers of this pool weigh 0. With a larger weight, the total would be at least
+    /// the core size, but it must be less.
     Blocked {
         /// The reach of each class. A job of the class depends on its own pool, and on the pools of
         /// all jobs that it gets, directly or through other jobs. The reach is the greatest rank of
@@ -73,7 +74,8 @@ impl ResizedPlan<'_> {
     /// Otherwise, returns the summary of the vector with the smallest total that the search found.
     ///
     /// Returns `None` if the search finds no vector at all, because a number would be above
-    /// `MAX_WEIGHT` or a repeating client would need more weight in each repetition.
+    /// `MAX_WEIGHT`, or because a repeating client would need more weight in each round than in the
+    /// round before.
     ///
     /// # Errors
     ///
@@ -106,8 +108,8 @@ impl ResizedPlan<'_> {
 
     /// Returns the vector of this kind for the pool. `workers` has the worker weights of the
     /// vector, one for each pool. Returns `None` if a number of the vector is above `MAX_WEIGHT`,
-    /// or if the number of worker weights is wrong. The conditions of the returned vector need not
-    /// hold, so the caller must check them.
+    /// or if `workers` does not have one weight for each pool. The conditions of the returned
+    /// vector need not hold, so the caller must check them.
     ///
     /// # Errors
     ///

@@ -10,8 +10,9 @@ use std::alloc::{AllocError, Global};
 use weights::submitted_class;
 
 /// The total of a sketch if there is no vector with the given worker weights, or if the total
-/// overflows. There is no vector in two cases: another weight would be above `MAX_WEIGHT`, or a
-/// repeating client would need more weight in each repetition.
+/// overflows. There is no vector in two cases: the weight of a job or a client would be above
+/// `MAX_WEIGHT`, or a repeating client would need more weight in each round than in the round
+/// before.
 pub(crate) const TOO_HEAVY: u64 = u64::MAX;
 
 /// The parts of a vector that determine its total, without the weights at the positions of bodies.
@@ -70,8 +71,8 @@ impl Sketch {
     /// class is submitted, raises the peak of its pool to the largest weight that the job has in
     /// its body.
     ///
-    /// If a weight is above `MAX_WEIGHT`, sets the total to [`TOO_HEAVY`]. If the class is also
-    /// never submitted, adds 1 to `overweight_unsubmitted`.
+    /// If a weight of the job is above `MAX_WEIGHT`, sets the total to [`TOO_HEAVY`] and, if the
+    /// class is never submitted, adds 1 to `overweight_unsubmitted`.
     fn weigh_class(
         &mut self,
         target: &Target,
@@ -108,7 +109,8 @@ impl Sketch {
 
     /// Computes the weight of a client of this kind at the start of its body, and adds this weight
     /// to the total once for each client. Sets the total to [`TOO_HEAVY`] if a weight is above
-    /// `MAX_WEIGHT`, or if a repeating client would need more weight in each repetition.
+    /// `MAX_WEIGHT`, or if a repeating client would need more weight in each round than in the
+    /// round before.
     fn weigh_client(&mut self, target: &Target, client: &Client) -> Result<(), AllocError> {
         let mut weight = Weight::at_end(0);
         let mut peak = 0;

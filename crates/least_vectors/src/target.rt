@@ -94,8 +94,8 @@ impl<'a> Target<'a> {
         }
     }
 
-    /// Returns the target without weights of workers if its limit is 0, and the unchanged target
-    /// otherwise. Any weight of a worker makes the total positive, which a limit of 0 forbids.
+    /// Returns the target with no lenders if its limit is 0, and the unchanged target otherwise.
+    /// Any weight of a worker makes the total positive, which a limit of 0 forbids.
     pub(crate) fn without_useless_loans(self) -> Target<'a> {
         if self.limit > 0 {
             return self;
@@ -115,8 +115,8 @@ impl<'a> Target<'a> {
         }
     }
 
-    /// Returns the maximum of `pool`, which has the index `number`. This is the maximum in `maxes`
-    /// or, if `maxes` is `None`, the maximum that the pool declares.
+    /// Returns the maximum of `pool`, which has the index `number`. If `maxes` is `None`, this is
+    /// the maximum that the pool declares, and otherwise the maximum in `maxes`.
     pub(crate) fn max_of(&self, number: usize, pool: &Pool) -> u64 {
         match self.maxes {
             Some(maxes) => number_at(maxes, number),

@@ -39,8 +39,8 @@ impl Model for CompactReceipt {
 }
 
 impl CompactReceipt {
-    /// Returns the compact form of a receipt, or `None` if a number of the receipt has more than 32
-    /// bits.
+    /// Returns the compact form of a receipt, or `None` if a number of the receipt does not fit in
+    /// 32 bits.
     pub fn new(receipt: Receipt<Event>) -> Option<CompactReceipt>
         ensures same { IfSome result (λ kept. kept ≡ receipt) }
         ensures keepable { IsSome result ↔ IsKeepable receipt }

@@ -44,7 +44,7 @@ pub(crate) fn is_complete(
 
 /// Returns `true` if each client has performed all events of its rounds and is at the end of its
 /// body. For each client, `kinds` has the index of its client kind, and `made` has the number of
-/// events that it performed.
+/// events that the client performed.
 fn clients_are_complete(
     plan: &Plan,
     kinds: &[usize],
@@ -106,9 +106,9 @@ fn events_made(alloc: Global, clients: usize, history: &[Event]) -> Result<Vec<u
     Ok(made)
 }
 
-/// Counts the event for the client that performed it. `made` has a count for each client. Does
-/// nothing if no client performed the event, or if `made` has no count for the client. A count does
-/// not exceed `u64::MAX`.
+/// Adds 1 to the count of the client that performed the event. `made[c]` is the count of the client
+/// with the number c. Does nothing if no client performed the event, or if `made` has no count for
+/// the client. A count of `u64::MAX` does not change.
 fn count_event(made: &mut [u64], event: Event)
     ensures as_many { length made.new ≡ length made.old }
     ensures made { (c : ℕ)

@@ -14,8 +14,9 @@ pub fn totals_add_up()
     ensures { TotalsAddUp }
 {}
 
-/// States that the numbers of jobs and units of work of a run do not depend on the certificate, and
-/// neither does the bound of its events. They are the same for any ranks whose conditions hold.
+/// States that three numbers of a run do not depend on the certificate: the number of jobs, the
+/// number of units of work, and the upper bound of the number of events. Each of them is the same
+/// for all ranks whose conditions hold.
 pub fn numbers_are_of_the_plan()
     ensures { NumbersAreOfThePlan }
 {}

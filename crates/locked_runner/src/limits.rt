@@ -22,8 +22,9 @@ pub enum RunLimit {
 }
 
 /// Returns the first limit that a run of the plan exceeds, in the order of the variants of
-/// [`RunLimit`]. The result is meaningful only if the run exceeds a limit. If it exceeds no other
-/// limit, the result is [`RunLimit::Events`].
+/// [`RunLimit`]. The number of events is not compared with its limit: if the run exceeds none of
+/// the first three limits, the result is [`RunLimit::Events`]. So the result is meaningful only if
+/// the run exceeds a limit.
 pub fn limit_of(plan: &Plan) -> RunLimit
     ensures { result ≡ spec.limit_of plan.now }
 {

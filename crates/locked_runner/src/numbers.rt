@@ -18,9 +18,9 @@ pub struct RunNumbers {
     pub jobs: u64,
     /// The units of work of clients and jobs.
     pub units: u64,
-    /// An upper bound of the number of events. For each job, it includes an event that takes the
-    /// job from the queue. A job that starts on a new thread has no such event, so the number of
-    /// events can be smaller.
+    /// An upper bound of the number of events. For each job, the bound includes an event that takes
+    /// the job from the queue. A job that starts on a new thread has no such event, so the number
+    /// of events can be below the bound.
     pub events: u64,
 }
 
@@ -227,10 +227,10 @@ fn greatest(levels: &[u64]) -> u64
     greatest
 }
 
-/// Extends the quantities in `numbers` by one generation of jobs, and returns the result. `numbers`
-/// and the result have, for each class, the quantity of one job and of the jobs that it submits.
-/// The result includes one more generation of submitted jobs than `numbers`. If `numbers` is empty,
-/// the result includes no submitted jobs. `measure` selects the quantity.
+/// Returns the quantities in `numbers`, extended by one generation of jobs. `numbers` and the
+/// result have, for each class, the quantity of one job and of the jobs that it submits. The result
+/// includes one more generation of submitted jobs than `numbers`. If `numbers` is empty, the result
+/// includes no submitted jobs. `measure` selects the quantity.
 fn add_generation(
     alloc: Global,
     plan: &Plan,

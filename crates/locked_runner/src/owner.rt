@@ -15,16 +15,16 @@ use interleaving::{Event, World};
 use job_bodies::Plan;
 use std::alloc::{AllocError, Global};
 
-/// The owner of an event: a client or a pool. A pool owns the events in which its threads take jobs
-/// and perform the actions of jobs.
+/// The owner of an event: a client or a pool. A pool owns each event in which one of its threads
+/// takes a job, performs an action of a job, or ends a job.
 #[derive(Clone, Copy, PartialEq, Eq)]
 pub enum Owner {
     Client(usize),
     Pool(usize),
 }
 
-/// Returns the pool of the job that performs the event. `world` is the world before the event.
-/// Returns 0 if no job performs the event, or if the job is not in `world`.
+/// Returns the number of the pool of the job that performs the event. `world` is the world before
+/// the event. Returns 0 if no job performs the event, or if the job is not in `world`.
 pub(crate) fn pool_of(plan: &Plan, world: &World, event: Event) -> u8
     ensures { (s : State)
         → IsReached plan.now s
@@ -41,7 +41,7 @@ pub(crate) fn pool_of(plan: &Plan, world: &World, event: Event) -> u8
     }
 }
 
-/// Returns the pool of the class, or 0 if there is no such class. The number of the pool fits in 8
+/// Returns the number of the class's pool, or 0 if there is no such class. The number fits in 8
 /// bits, because a plan has at most 64 pools.
 fn pool_of_class(plan: &Plan, class: usize) -> u8
     ensures exists { class < length plan.now.classes → result ≡ state.pool_of plan.now class }

@@ -8,7 +8,7 @@ use crate::ThreadFault;
 pub(crate) struct Progress {
     /// The number of clients that have an event left.
     clients_left: usize,
-    /// Whether the threads must stop before the run is complete.
+    /// Whether the threads must stop early, before the run is complete.
     is_over: bool,
     /// The reported fault with the lowest number, if any.
     fault: Option<ThreadFault>,
@@ -29,7 +29,7 @@ impl Progress {
         self.clients_left == 0
     }
 
-    /// Returns `true` if the threads must stop before the run is complete.
+    /// Returns `true` if the threads must stop early, before the run is complete.
     pub(crate) fn is_over(&self) -> bool {
         self.is_over
     }
@@ -39,8 +39,8 @@ impl Progress {
         self.clients_left = self.clients_left.saturating_sub(1);
     }
 
-    /// Stops the run before it is complete, without a fault. The check of the results later finds
-    /// that the run is not complete.
+    /// Stops the run early, before it is complete, and stores no fault. The check of the results
+    /// later finds that the run is not complete.
     pub(crate) fn end(&mut self) {
         self.is_over = true;
     }

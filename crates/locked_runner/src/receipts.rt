@@ -15,7 +15,8 @@ use std::alloc::{AllocError, Global};
 
 /// Checks the lists of receipts against the history. Returns `true` if these conditions hold:
 ///
-/// - There is one list of receipts for each owner in `of_lists`.
+/// - There is one list of receipts for each entry of `of_lists`. This entry is the owner of the
+///   list.
 /// - The receipts of each list are in ascending order.
 /// - For a receipt with the number n, event n of the history is the receipt's event.
 /// - This event belongs to the owner of the list.

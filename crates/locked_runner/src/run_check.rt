@@ -104,8 +104,8 @@ fn report(
     }
 }
 
-/// Returns the fault of a run, or `None` if the run is complete. `replay` is the replay of the
-/// history up to the first impossible event.
+/// Returns the fault of a run, or `None` if the results of its threads form a complete run.
+/// `replay` is the replay of the history up to the first impossible event.
 ///
 /// # Errors
 ///

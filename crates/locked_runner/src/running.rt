@@ -69,7 +69,8 @@ pub fn run<R: Threads + Wait + Sync, G: Gate>(
     check_run(alloc, certified, rounds, numbers, results)
 }
 
-/// Returns the numbers of jobs, units of work and events of the run.
+/// Returns the numbers of jobs and units of work of the run, and the upper bound of the number of
+/// its events.
 ///
 /// # Errors
 ///

@@ -12,9 +12,9 @@ use std::collections::VecDeque;
 use std::sync::{Condvar, Mutex, MutexGuard, Wait};
 
 /// The state that the threads of a run share: the plan's machine under its lock, the hand-off
-/// queues and the progress of the run. A hand-off queue passes the jobs that a submit started to
-/// the worker threads of a pool. A thread accesses the hand-off queues and the progress only while
-/// it holds the machine's lock.
+/// queues and the progress of the run. If a submit starts a job without queueing it, the hand-off
+/// queue of the job's pool passes the job to a worker thread of this pool. A thread accesses the
+/// hand-off queues and the progress only while it holds the machine's lock.
 ///
 /// A thread whose actor is at a get waits on the condition variable of the machine's lock. A worker
 /// thread without a job waits on the condition variable of its pool's hand-off queue. Only the end
@@ -29,7 +29,7 @@ pub(crate) struct SharedState<'a> {
 }
 
 /// The hand-off queue of one pool. It has the jobs that a submit has started and that no worker
-/// thread has taken yet. The worker threads of the pool that have no job wait at this queue.
+/// thread has taken yet. A worker thread of the pool waits at this queue while it has no job.
 #[derive(Drop)]
 struct HandoffQueue {
     started: Mutex<VecDeque<usize>>,
@@ -200,8 +200,8 @@ impl<'a> SharedState<'a> {
         self.wake_all();
     }
 
-    /// Makes every thread stop before the run is complete, and records no fault. The check of the
-    /// results later finds that the run is not complete.
+    /// Makes every thread stop early, before the run is complete, and records no fault. The check
+    /// of the results later finds that the run is not complete.
     pub(crate) fn end<R: Wait>(&self, rt: &R) {
         let guard = self.machine.lock(rt);
         self.progress.lock(rt).end();
@@ -209,7 +209,7 @@ impl<'a> SharedState<'a> {
         self.wake_all();
     }
 
-    /// Returns `true` if the threads must stop before the run is complete.
+    /// Returns `true` if the threads must stop early, before the run is complete.
     fn is_over<R: Wait>(&self, rt: &R) -> bool {
         self.progress.lock(rt).is_over()
     }
@@ -220,8 +220,8 @@ impl<'a> SharedState<'a> {
             && guard.state().world.world().unfinished() == 0
     }
 
-    /// Returns the threads to wake after the last event. If the event started a job, also puts this
-    /// job into its pool's hand-off queue.
+    /// Returns the threads to wake after the latest event. If this event started a job, also puts
+    /// the job into its pool's hand-off queue.
     fn wakeups_after<R: Wait>(&self, rt: &R, guard: &MachineGuard<'a, '_>) -> Wakeup {
         match guard.state().outcome {
             Some(Outcome::Started(job)) => self.hand_off(rt, guard, job),
@@ -249,7 +249,7 @@ impl<'a> SharedState<'a> {
         let Some(handoff) = self.handoffs.get(pool) else {
             return self.end_without_worker(rt);
         };
-        // A hand-off queue has room for a job of each thread of its pool, so no job is lost.
+        // A hand-off queue has room for one job for each thread of its pool, so no job is lost.
         if handoff.started.lock(rt).push_back(job).is_err() {
             self.progress.lock(rt).note(ThreadFault::Memory);
             return Wakeup::All;
@@ -290,8 +290,8 @@ impl<'a> SharedState<'a> {
     }
 }
 
-/// Creates an empty hand-off queue for each pool. Each queue has room for a job of each thread of
-/// its pool.
+/// Creates an empty hand-off queue for each pool. Each queue has room for one job for each thread
+/// of its pool.
 fn handoff_queues(alloc: Global, pools: &[Pool]) -> Result<Vec<HandoffQueue>, AllocError> {
     let mut handoffs = Vec::with_capacity(alloc, pools.len())?;
     for pool in pools {
@@ -300,9 +300,9 @@ fn handoff_queues(alloc: Global, pools: &[Pool]) -> Result<Vec<HandoffQueue>, Al
     Ok(handoffs)
 }
 
-/// Returns the job that the last event took from a queue. `receipt` is the receipt of that event,
-/// and becomes a part of the result. Returns `None` if the last event took no job, or if the job is
-/// not found.
+/// Returns the job that the latest event took from a queue. `receipt` is the receipt of this event,
+/// and becomes a part of the result. Returns `None` if the latest event took no job, or if the job
+/// is not found.
 fn work_taken(guard: &MachineGuard<'_, '_>, receipt: Receipt<Event>) -> Option<Work> {
     match guard.state().outcome {
         Some(Outcome::Took(job)) => work_on(guard, job, Some(receipt)),

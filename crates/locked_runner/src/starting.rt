@@ -33,8 +33,8 @@ pub(crate) fn run_threads<R: Threads + Wait + Sync, G: Gate>(
     run_owners(rt, alloc, certified, rounds, gate, &kinds, &owners)
 }
 
-/// Runs a thread for each owner, and returns the results of all threads. `kinds` has, for each
-/// client, the index of its kind.
+/// Runs a thread for each entry of `owners`, and returns the results of all threads. A pool has one
+/// entry for each of its threads. `kinds` has, for each client, the index of its kind.
 ///
 /// # Errors
 ///

@@ -45,7 +45,7 @@ impl<'a, 'b, R: Wait, G: Gate> Runner<'a, 'b, R, G> {
     }
 
     /// Runs the thread of a client, which performs the client's body `rounds` times unless the run
-    /// stops. Returns the receipts of the thread.
+    /// stops early. Returns the receipts of the thread.
     pub(crate) fn run_client(
         mut self,
         client: &Client,
@@ -65,7 +65,7 @@ impl<'a, 'b, R: Wait, G: Gate> Runner<'a, 'b, R, G> {
     }
 
     /// Runs a worker thread of a pool. The thread performs jobs of the pool, one at a time, until
-    /// the run is complete or stops. Returns the receipts of the thread.
+    /// the run is complete or stops early. Returns the receipts of the thread.
     pub(crate) fn run_worker(mut self, pool: usize) -> Vec<CompactReceipt> {
         for _ in self.rt.forever() {
             let Some(work) = self.shared.next_job(self.rt, pool) else {
@@ -93,7 +93,7 @@ impl<'a, 'b, R: Wait, G: Gate> Runner<'a, 'b, R, G> {
         self.perform_body(&class.body, Actor::Job(job)) && self.act(Event::Job(job))
     }
 
-    /// Performs the actions of a body. Calls the gate before each event of a `work` action, and
+    /// Performs the actions of a body. Calls the gate before the event of each `work` action, and
     /// stops the run if the gate fails. Returns `false` if the thread must stop.
     fn perform_body(&mut self, body: &[Action], actor: Actor) -> bool {
         for action in body {
@@ -120,7 +120,7 @@ impl<'a, 'b, R: Wait, G: Gate> Runner<'a, 'b, R, G> {
     }
 
     /// Records the receipt. Stops the run and returns `false` if there is not enough memory, or if
-    /// a number of the receipt has more than 32 bits.
+    /// a number of the receipt does not fit in 32 bits.
     fn note(&mut self, receipt: Receipt<Event>) -> bool {
         let Some(kept) = CompactReceipt::new(receipt) else {
             self.shared.end(self.rt);

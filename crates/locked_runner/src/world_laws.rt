@@ -11,8 +11,8 @@ use held_machines::Held;
 /// States that the machine in `held` has refused no submit, and refuses none in its next event. In
 /// detail:
 ///
-/// - The history leads to a state with the live jobs, the pools, the clients and the number of
-///   refused submits of the world in `held`.
+/// - The history leads to a state that has the same live jobs, pools, clients and number of refused
+///   submits as the world in `held`.
 /// - No submit of the history was refused.
 /// - No event that is possible next is a refused submit.
 pub fn held_worlds_refuse_nothing(held: &Held<CertifiedWorld<'_>>)
@@ -24,7 +24,8 @@ pub fn held_worlds_refuse_nothing(held: &Held<CertifiedWorld<'_>>)
     let _history = held.history();
 }
 
-/// States that `world` has no refused submits if some history of the certified plan leads to it.
+/// States that `world` has no refused submits if some history of the certified plan leads to this
+/// world.
 pub fn reached_worlds_refuse_nothing(certified: &Certified, world: &ViewedWorld)
     ensures { (history : List Event)
         → IsReachedBy certified.now.plan history world.now

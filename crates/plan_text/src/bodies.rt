@@ -184,7 +184,7 @@ fn client_of<'a>(
 /// - It is malformed.
 /// - It submits a class that does not exist.
 /// - It fills a slot that is already filled.
-/// - It gets from an empty slot.
+/// - It is a get of an empty slot.
 pub fn classes_of<'p, 'd: 'p>(
     alloc: Global,
     pools: &Names<'p>,

@@ -110,8 +110,8 @@ pub fn check_classes<'a>(
     Ok(names)
 }
 
-/// Returns the first fault of the client kinds, if there is one. The names of the kinds must be
-/// valid and distinct, and their counts must be valid.
+/// Checks the client kinds: all names must be valid and distinct, and all counts must be valid.
+/// Returns the first fault, if there is one.
 #[tactic(auto, unfolding(crate::specs::Checks::check_clients))]
 pub fn check_clients(alloc: Global, clients: &[ClientEntry]) -> Result<(), TextError>
     ensures { Gives (λ _. tt) result (spec.check_clients clients.now) }

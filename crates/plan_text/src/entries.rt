@@ -1,5 +1,5 @@
 //! The shape of the entries in the text of a plan: each required key must be present, no key may be
-//! unknown, each value must have the type of its key, and a body must not be too long.
+//! unknown, each value must have the type that its key requires, and a body must not be too long.
 
 ghost use Rattle.std.specs.Prelude.{◌≡◌, map};
 ghost use Rattle.toml.specs.View.{view, table_view};
@@ -99,7 +99,8 @@ struct PoolNumbers {
     queue: Option<u64>,
 }
 
-/// Reads the numbers of a pool. Returns the first fault among them.
+/// Reads the numbers of a pool. Returns a fault for the first one that is missing or has the wrong
+/// type.
 fn numbers_of(entry: &Entry<'_>) -> Result<PoolNumbers, TextError>
     ensures { Gives (λ numbers. numbers) result (spec.numbers_of (entry_view entry.now)) }
 {
@@ -117,7 +118,8 @@ struct PoolFlags {
     may_reject: bool,
 }
 
-/// Reads the flags of a pool. Returns the first fault among them.
+/// Reads the flags of a pool. A flag that is missing is `false`. Returns a fault for the first one
+/// that is not a boolean.
 fn flags_of(entry: &Entry<'_>) -> Result<PoolFlags, TextError>
     ensures { Gives (λ flags. flags) result (spec.flags_of (entry_view entry.now)) }
 {

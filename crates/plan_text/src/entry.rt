@@ -39,7 +39,7 @@ fn count_of(number: i64) -> u64
 
 impl<'a> Entry<'a> {
     /// Creates the entry whose table is `value`. The entry is at `index` in the list for `part`,
-    /// such as the list of pools. Returns a fault that names this entry in these cases:
+    /// such as the list of pools. In these cases, returns a fault that names this entry:
     ///
     /// - The value is not a table.
     /// - The table has a key that is not one of `keys`.

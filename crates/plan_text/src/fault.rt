@@ -3,6 +3,6 @@
 use job_bodies::PlanFault;
 use support::ReadError;
 
-/// The error of a function that reads the text of a plan: the first fault of the text, or out of
-/// memory.
+/// The error of a function that reads the text of a plan: either the first fault of the text, or
+/// that memory ran out.
 pub type TextError = ReadError<PlanFault>;

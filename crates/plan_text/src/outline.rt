@@ -25,33 +25,34 @@ pub(crate) struct Header {
     pub(crate) in_list: bool,
 }
 
-/// A part of a text. The parts of a table follow its header, the value of a key follows the key,
-/// and the elements of an array follow the array.
+/// A part of a text. In an outline, the parts of a table follow its header, and the value of a key
+/// follows the key. If the value is an array, the elements of the array follow the value.
 #[derive(Clone, Copy)]
 pub(crate) enum Part {
     Header(Header),
     Key(Range),
-    /// The value of the last key, which begins at this offset.
+    /// The value of the key before this part. The field is the offset at which the value begins.
     Value(usize),
-    /// An element of an array, or a key of an inline table, which begins at this offset. If the
-    /// array or inline table is empty or ends with a comma, its closing bracket is an element too.
+    /// An element of an array, or a key of an inline table. The field is the offset at which the
+    /// element or key begins. If the array or inline table is empty or ends with a comma, its
+    /// closing bracket counts as an element too.
     Element(usize),
 }
 
-/// The part of a line that the parser is in.
+/// The state of the outline parser: where in a line it is.
 #[derive(Clone, Copy)]
 enum LineState {
     /// At the start of a line.
     Begin,
-    /// In a table header, which is read up to here.
+    /// In a table header. The field has what was read of the header so far.
     Head(Header),
     /// After a key.
     Key,
     /// In a value, inside `depth` open brackets. If `is_next` is true, the next token begins the
     /// value or an element.
     Value { depth: usize, is_next: bool },
-    /// In a part of a line that the parser skips: the end of a table header, or syntax that no plan
-    /// uses.
+    /// In the rest of a line, which the parser skips: the end of a table header, or syntax that no
+    /// plan uses.
     Rest,
 }
 
@@ -71,8 +72,8 @@ pub(crate) fn parts_of(alloc: Global, tokens: &[Token]) -> Result<Vec<Part>, All
     Ok(parts)
 }
 
-/// Returns the part that begins at this token, or the header that ends before it. Returns `None` if
-/// there is none.
+/// Returns the part that begins at this token, or the header that ends at this token. Returns
+/// `None` if there is neither.
 #[tactic(auto, unfolding(crate::specs::Outline::part_at))]
 fn part_at(line: LineState, token: Token) -> Option<Part>
     ensures { result ≡ part_at line token }
@@ -116,7 +117,7 @@ fn value_part(depth: usize, is_next: bool, token: Token) -> Option<Part>
     }
 }
 
-/// Returns the part of a line that the parser is in after this token.
+/// Returns the state of the parser after this token. `line` is the state before the token.
 #[tactic(auto, unfolding(crate::specs::Outline::line_after))]
 fn line_after(line: LineState, token: Token) -> LineState
     ensures { result ≡ line_after line token }

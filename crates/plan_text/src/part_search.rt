@@ -1,13 +1,13 @@
-//! Searches in the outline of a text. Each search returns the parts from the part that it found on,
-//! up to the end of the text.
+//! Searches in the outline of a text. Each search finds a part, and returns this part and all later
+//! parts of the text.
 
 ghost use Rattle.std.specs.Prelude.{◌≡◌, option_map, drop};
 ghost use Rattle.plan_text.specs.Places.{is_quoted, unquoted, is_named, is_entry, entry_in, key_in, value_in, element_in, header_in, top_in, entry_key_in, start_of_part, start_of};
 
 use crate::outline::{Part, Range};
 
-/// Returns the parts from the header of an entry on. The entry is at `index`, counted from 0, in the
-/// list named `list`.
+/// Finds the header of an entry, and returns the header and all later parts. The entry is at
+/// `index`, counted from 0, in the list named `list`.
 pub(crate) fn entry_in<'p>(
     text: &[u8],
     parts: &'p [Part],
@@ -39,7 +39,8 @@ fn is_entry(text: &[u8], part: Part, list: &str) -> bool
     }
 }
 
-/// Returns the parts from a key of an entry on. The entry is the one that [`entry_in`] finds.
+/// Finds the key named `key` of an entry, and returns the key and all later parts. The entry is the
+/// one that [`entry_in`] finds.
 pub(crate) fn entry_key_in<'p>(
     text: &[u8],
     parts: &'p [Part],
@@ -54,7 +55,8 @@ pub(crate) fn entry_key_in<'p>(
     key_in(text, after_first(entry), key)
 }
 
-/// Returns the parts from the first key with this name on. Only searches up to the next header.
+/// Finds the first key with this name, and returns the key and all later parts. Searches only up to
+/// the first header in `parts`.
 fn key_in<'p>(text: &[u8], parts: &'p [Part], name: &str) -> Option<&'p [Part]>
     ensures { option_map (λ found. found.now) result ≡ key_in text.now name.now parts.now }
 {
@@ -72,8 +74,8 @@ fn key_in<'p>(text: &[u8], parts: &'p [Part], name: &str) -> Option<&'p [Part]>
     None
 }
 
-/// Returns the parts from a value on. The first of `parts` is the value's key. If the key has no
-/// value, returns `parts`.
+/// Returns the parts after the key with which `parts` begins, if the first of them is the value of
+/// this key. Otherwise returns `parts` unchanged.
 pub(crate) fn value_in(parts: &[Part]) -> &[Part]
     ensures { result.now ≡ value_in parts.now }
 {
@@ -83,8 +85,8 @@ pub(crate) fn value_in(parts: &[Part]) -> &[Part]
     }
 }
 
-/// Returns the parts from an element of an array on. The first of `parts` is the array's key.
-/// Elements are counted from 0.
+/// Finds an element of an array, and returns the element and all later parts. The first of `parts`
+/// is the array's key, and `index` is the index of the element, counted from 0.
 pub(crate) fn element_in(parts: &[Part], index: usize) -> Option<&[Part]>
     ensures { option_map (λ found. found.now) result ≡ element_in index (drop 1 parts.now) }
 {
@@ -105,8 +107,8 @@ pub(crate) fn element_in(parts: &[Part], index: usize) -> Option<&[Part]>
     None
 }
 
-/// Returns the parts from the first header with this name on. If there is no such header, returns
-/// the parts from the first key with this name before all headers on.
+/// Finds the first header with this name, and returns the header and all later parts. If there is
+/// no such header, finds the first key with this name before all headers instead.
 pub(crate) fn top_in<'p>(text: &[u8], parts: &'p [Part], name: &str) -> Option<&'p [Part]>
     ensures { option_map (λ found. found.now) result ≡ top_in text.now name.now parts.now }
 {

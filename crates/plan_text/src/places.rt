@@ -15,10 +15,10 @@ use std::marker::Model;
 /// An index can be built for any text, even if the text is not a plan. The index can lack a part if
 /// the text is not TOML, or if an entry does not have the header `[[pool]]`, `[[class]]` or
 /// `[[client]]`. The methods return `None` for a part that the index lacks. The caller can then use
-/// the position of a larger part, such as that of the entry instead of a key.
+/// the position of a larger part: for example, the position of the entry instead of that of a key.
 ///
-/// In contracts, an index is the text that it was built for. Each method returns the position of the
-/// byte at an offset that a definition gives for this text, such as `key_start`.
+/// In contracts, an index is the text that it was built for. Definitions such as `key_start` give
+/// offsets in this text, and each method returns the position of the byte at such an offset.
 #[derive(Drop)]
 pub struct Places<'a> {
     text: &'a [u8],
@@ -85,7 +85,8 @@ impl<'a> Places<'a> {
 
     /// Returns the position of an element of an array, such as an action of a body. The array is a
     /// value in an entry. The key of the array is named `key`, and the entry is at `index` in the
-    /// list named `list`. Elements are counted from 0. Returns `None` if no such element was found.
+    /// list named `list`. `element` is the index of the element, counted from 0. Returns `None` if
+    /// no such element was found.
     #[tactic(auto, unfolding(crate::specs::Places::element_start))]
     pub fn element(&self, list: &str, index: usize, key: &str, element: usize) -> Option<TextPlace>
         ensures { IsPlaceOf self.now

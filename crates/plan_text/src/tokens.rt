@@ -7,7 +7,7 @@ ghost use Rattle.plan_text.specs.Tokens.{class_of, string_at, string_after, begi
 use crate::token::{Kind, Token};
 use std::alloc::{AllocError, Global};
 
-/// The class of a byte that is not part of a string or a comment.
+/// The kind of a byte that is part of neither a string nor a comment.
 #[derive(Clone, Copy)]
 enum ByteClass {
     /// White space within a line.
@@ -20,7 +20,7 @@ enum ByteClass {
     Quote,
     /// One of the characters `[ ] { } = , .`
     Mark,
-    /// A byte of a word.
+    /// Any other byte. It is part of a word.
     Word,
 }
 
@@ -44,8 +44,8 @@ struct OpenString {
     quote: u8,
     /// Whether the last byte was a `\` that escapes the next byte.
     escaped: bool,
-    /// The number of consecutive quotes that were read last. Opening quotes and escaped quotes are
-    /// not counted.
+    /// The number of consecutive quotes that were read last, or 0 if the last byte was not a quote.
+    /// Opening quotes and escaped quotes are not counted.
     quotes: u8,
 }
 
@@ -144,7 +144,7 @@ fn begin(offset: usize, byte: u8) -> ByteStep
     }
 }
 
-/// Reads a byte after a word that began at `start`.
+/// Reads the byte that follows an unfinished word, which began at `start`.
 fn word_step(start: usize, offset: usize, byte: u8) -> ByteStep
     requires { offset < usize.MAX }
     ensures { result ≡ word_step start offset byte }

@@ -18,14 +18,14 @@ use std::alloc::{AllocError, Global};
 /// sizes that have no effect. These are sizes of pools with an unbounded queue:
 ///
 /// - The parsed `queue` is 1,000,000.
-/// - If core threads may not time out, the parsed maximum is the core size.
+/// - If the core threads of the pool never time out, the parsed maximum is the core size.
 ///
-/// An unbounded queue is written as `queue = "unbounded"`. The `max` of a pool is written as
+/// An unbounded queue is written as `queue = "unbounded"`. The maximum of a pool is written as
 /// `max = "unbounded"` if the queue is unbounded, core threads may time out, and the maximum is
-/// [`MAX_THREADS`](job_bodies::MAX_THREADS). Otherwise it is written as a number.
+/// [`MAX_THREADS`](job_bodies::MAX_THREADS). Otherwise the maximum is written as a number.
 ///
-/// A submit fills a slot if the body has a get of this submit. The slot is named `s`, followed by
-/// the position of the submit in its body. Other submits fill no slot.
+/// A submit fills a slot if the body has a get of this submit. The name of the slot is `s` followed
+/// by the position of the submit in its body, such as `s2`. Other submits fill no slot.
 ///
 /// # Errors
 ///

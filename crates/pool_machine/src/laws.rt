@@ -17,7 +17,7 @@ pub fn sizes_stay()
 
 /// Proves that a pool with valid sizes never exceeds them:
 ///
-/// - It has at most its maximum of threads.
+/// - It has at most as many threads as its maximum.
 /// - It has at most as many idle workers as threads.
 /// - A bounded queue has at most as many jobs as its capacity. With capacity 0, it has at most as
 ///   many jobs as the pool has idle workers.
@@ -52,15 +52,16 @@ pub fn load_is_offered()
 /// Proves when the operations of a pool fail. Each operation fails in these cases, and in no
 /// others:
 ///
-/// - The pool refuses a job if its queue is bounded and full, and it has its maximum of threads.
+/// - The pool refuses a job if its queue is bounded and full, and it has as many threads as its
+///   maximum.
 /// - [`PoolState::take`](crate::PoolState::take) fails if no worker is idle or the queue is empty.
 /// - [`PoolState::retire`](crate::PoolState::retire) fails if no worker is idle, or if the pool
-///   needs its threads. It also fails if the queue has capacity 0, and each idle worker was already
-///   handed a job.
+///   needs its threads. It also fails if the queue is bounded with capacity 0, and each idle worker
+///   was already handed a job.
 ///
 /// The pool needs its threads in these cases:
 ///
-/// - Its core threads may not time out, and it has at most as many threads as its core size.
+/// - Its core threads never time out, and it has at most as many threads as its core size.
 /// - Its core threads may time out, it has only one thread, and a job is queued.
 pub fn failure_conditions()
     ensures { (pool : PoolView) → IsSound pool → FailureConditions pool }

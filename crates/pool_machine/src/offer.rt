@@ -7,7 +7,7 @@ pub enum Offer {
     Started,
     /// The job is appended to the queue.
     Queued,
-    /// The queue is full and the pool has its maximum of threads, so the job is refused. In Java,
-    /// `AbortPolicy` rejects such a job.
+    /// The queue is full and the pool has as many threads as its maximum, so the job is refused. In
+    /// Java, `AbortPolicy` rejects such a job.
     Refused,
 }

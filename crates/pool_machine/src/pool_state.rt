@@ -61,9 +61,9 @@ impl Model for PoolState {
 }
 
 impl PoolState {
-    /// Creates a pool of these sizes with an empty queue. A prestarted pool first has as many
-    /// threads as its core size, and all of them are idle. Any other pool first has no threads. The
-    /// sizes must be [valid](Pool::has_valid_sizes). Allocates no memory.
+    /// Creates a pool of these sizes with an empty queue. A prestarted pool begins with as many
+    /// threads as its core size, and all of them are idle. Any other pool begins without threads.
+    /// The sizes must be [valid](Pool::has_valid_sizes). Allocates no memory.
     pub fn new(alloc: Global, pool: &Pool) -> PoolState
         requires { IsTrue (has_valid_sizes pool.now) }
         ensures { result ≡ new_pool pool.now }
@@ -113,7 +113,7 @@ impl PoolState {
         Ok(answer)
     }
 
-    // Returns the number of jobs that a bounded queue can hold at most: its capacity, or the number of idle
+    // Returns the maximum number of jobs in a bounded queue: its capacity, or the number of idle
     // workers if the capacity is 0.
     fn queue_limit(&self) -> u64
         ensures { result ≡ queue_limit self.now.capacity self.now.idle }
@@ -196,8 +196,9 @@ impl PoolState {
         ends
     }
 
-    // Returns whether an idle worker is not needed: the pool has more than core threads, or core
-    // threads may time out and the pool has another thread or no queued job.
+    // Returns whether the pool can do without one of its threads. It can if it has more threads
+    // than its core size. It also can if core threads may time out, and it has more than one thread
+    // or no queued job.
     fn has_spare_thread(&self) -> bool
         ensures { result ≡ has_spare_thread self.now }
     {
@@ -205,8 +206,9 @@ impl PoolState {
         above_core || (self.times_out && (self.threads > 1 || self.queue.is_empty()))
     }
 
-    // Returns whether an idle worker has no job of its own in the queue. In a bounded queue of
-    // capacity 0 each job was handed to an idle worker.
+    // Returns whether some idle worker was not handed a queued job. If the queue is bounded with
+    // capacity 0, each queued job was handed to a different idle worker. In any other queue, no job
+    // was handed to a worker.
     fn has_spare_worker(&self) -> bool
         requires { 0 < self.now.idle }
         ensures { result ≡ (self.now.unbounded || nat_lt 0 self.now.capacity || nat_le (length self.now.queue) (self.now.idle - 1)) }
@@ -223,7 +225,7 @@ impl PoolState {
     }
 
     /// Returns the maximum number of threads, which is from the core size to `MAX_SIZE`. If the
-    /// pool has no maximum of its own, returns `MAX_THREADS`.
+    /// pool has no maximum, returns `MAX_THREADS`.
     pub fn max(&self) -> u64
         ensures { result ≡ self.now.max }
     {

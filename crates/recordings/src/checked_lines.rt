@@ -58,7 +58,7 @@ impl<'a> CheckedLines<'a> {
             → IsCheckerState all self.old
             → IfOk result (λ next. IsNext all self.old next self.new) }
     {
-        // Never saturates, since the number of lines is below the maximum.
+        // Never saturates, since the number of lines is below `usize::MAX`.
         let number = self.number.saturating_add(1);
         match self.lines.next() {
             Some(Ok(line)) => match self.validator.take(&line)? {

@@ -1,4 +1,5 @@
-//! A fast parser for the most frequent kinds of lines.
+//! A fast parser for the most frequent kinds of lines: the `begin` lines of rounds, the `start`
+//! lines of jobs, and the `submit`, `got` and `end` lines of both.
 //!
 //! The parser reads a line from left to right, without a search for its newline. It returns `None`
 //! for a line that it does not parse, and the caller then tries the parser in `line_forms`. The
@@ -20,8 +21,8 @@ ghost use Rattle.recordings.specs.declared.recording_line.RecordedActor.TheVaria
 use crate::recording_line::{Line, RecordedActor};
 use job_bodies::MAX_NAME_BYTES;
 
-/// The maximum number of digits in a number. A number of 9 digits is below `MAX_LINE_NUMBER`, so
-/// this parser does not compare numbers with `MAX_LINE_NUMBER`.
+/// The maximum number of digits in a number. Each number of at most 9 digits is below
+/// `MAX_LINE_NUMBER`, so this parser need not compare numbers with this limit.
 const MOST_DIGITS: usize = 9;
 
 /// Parses the first line of a text if it has one of the frequent forms. Returns the line and the

@@ -1,6 +1,6 @@
-//! The events of a recording that invalidate a SAFE answer, and their texts. A plan is SAFE if no
-//! sequence of its events ends in a deadlock, and jobs are refused only by pools that may reject
-//! jobs.
+//! The events of a recording that invalidate a SAFE answer, and their texts. SAFE says of a plan
+//! that no sequence of its events ends in a deadlock, and that no pool rejects a job, except a pool
+//! that may reject jobs.
 
 ghost use Rattle.std.specs.Prelude.{◌≡◌, Some};
 ghost use Rattle.recordings.specs.EventText as spec;

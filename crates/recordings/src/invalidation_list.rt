@@ -16,15 +16,15 @@ use crate::{Line, RecordedActor};
 use std::alloc::{AllocError, Global};
 use std::collections::BTreeMap;
 
-/// A list of the invalidating events in the lines read so far. The list has each event that may be
-/// the first of its type in the recording.
+/// A list of invalidating events in the lines read so far. The list has each event that may turn
+/// out to be the first of its type in the recording.
 ///
-/// A get that timed out or was interrupted is *pending* until the next line of its actor. If that
-/// line reports a further get of the same job, the list discards the event. For each type, the list
-/// has at least these events:
+/// A get that timed out or was interrupted is a *pending* event until the next line of its actor.
+/// If that line reports another get of the same job, with any outcome, the list discards the
+/// pending event. For each type, the list has at least these events:
 ///
-/// - The first event that is not pending.
-/// - All pending events before that event.
+/// - The first event that is not pending, if there is one.
+/// - All pending events before that event, or all pending events if there is no such event.
 ///
 /// Processing a line takes one look-up of its actor. If the actor has a pending event, a second
 /// look-up finds this event.
@@ -34,8 +34,8 @@ pub(crate) struct InvalidationList {
     events: BTreeMap<usize, Invalidation>,
     // The lines of the pending events.
     pending: PendingLines,
-    // Events of different types. For each of them, `events` has an event of its type that is not
-    // pending.
+    // At most one event of each type. For each event in this list, `events` has an event of the
+    // same type that is not pending.
     certain: Vec<InvalidatingEvent>,
 }
 
@@ -77,7 +77,7 @@ impl InvalidationList {
     }
 
     /// Returns the first event of each type, in the order of the lines. A get that timed out or was
-    /// interrupted counts until a later line discards it.
+    /// interrupted counts, unless a later line has discarded it.
     ///
     /// # Errors
     ///
@@ -89,7 +89,8 @@ impl InvalidationList {
         firsts_of(alloc, &self.events)
     }
 
-    // Decides the pending event of the line's actor: this line discards the event, or no line does.
+    // Settles the pending event of the line's actor, if there is one. The line either discards the
+    // event or makes it certain: no later line can then discard it.
     fn settle_line(&mut self, line: &Line<'_>) -> Result<(), AllocError>
         ensures { (number : ℕ)
             → stored.IsBefore number self.old
@@ -128,7 +129,8 @@ impl InvalidationList {
     }
 }
 
-// Stores whether a later line can discard the event, which is of this line.
+// Stores the event of line `line` as pending if a later line can discard it. Otherwise stores it as
+// certain.
 fn note_event(
     pending: &mut PendingLines,
     certain: &mut Vec<InvalidatingEvent>,
@@ -144,8 +146,8 @@ fn note_event(
     }
 }
 
-// Decides the event of line `number`, which was pending: the line discards the event, or the event
-// is certain now.
+// Settles the pending event of line `number`. If `line` discards the event, removes it from
+// `events`. If `line` is any other line of the event's actor, the event becomes certain.
 fn settle_event(
     events: &mut BTreeMap<usize, Invalidation>,
     certain: &mut Vec<InvalidatingEvent>,

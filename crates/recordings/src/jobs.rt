@@ -13,9 +13,9 @@ use support::IdMap;
 pub(crate) struct JobState {
     started: bool,
     cancelled: bool,
-    /// The last job that this job submitted, or `None` if it has submitted none. It is also `None`
-    /// after another line of this job, except a line that a pool refused the last job. A recording
-    /// may report a refusal only directly after the submit, and this field is used to check that.
+    /// The job that the last line of this job submits, or `None` if that line is not a submit.
+    /// `refused` lines are ignored. The field is used to check that no line of this job comes
+    /// between a submit and the `refused` line of the submitted job, except other `refused` lines.
     last_submit: Option<usize>,
 }
 
@@ -58,7 +58,7 @@ impl Jobs {
         job < self.submitted && self.get(job).is_some_and(|state| state.started)
     }
 
-    /// Returns true if the job was submitted and is done or cancelled.
+    /// Returns true if the job is done or cancelled. Returns false if the job was not submitted.
     pub(crate) fn is_settled(&self, job: usize) -> bool
         ensures { result ≡ is_settled self.now job }
     {
@@ -68,8 +68,9 @@ impl Jobs {
     /// Returns the last job that `job` submitted. Returns `None` in these cases:
     ///
     /// - `job` has submitted no job.
-    /// - After the submit, `job` has a further line that is not a `refused` line.
-    /// - `job` was not submitted itself, or it is done.
+    /// - After its last submit, `job` has another line that is not a `refused` line.
+    /// - `job` itself was not submitted.
+    /// - `job` is done.
     pub(crate) fn last_submit(&self, job: usize) -> Option<usize>
         ensures { result ≡ last_submit_in (job_at self.now job) }
     {

@@ -27,8 +27,8 @@ pub(crate) fn event_of(line: &Line<'_>) -> Option<InvalidatingEvent>
     }
 }
 
-/// Returns the actor whose next line can discard the event. This is the actor of a get that timed
-/// out or was interrupted. Returns `None` for any other event.
+/// Returns the actor of the event if the event is a get that timed out or was interrupted. The next
+/// line of this actor can discard the event. Returns `None` for any other event.
 pub(crate) fn getter_of(event: InvalidatingEvent) -> Option<RecordedActor>
     ensures { result ≡ stored.getter_of event }
 {
@@ -48,7 +48,8 @@ pub(crate) fn is_same_type(one: InvalidatingEvent, other: InvalidatingEvent) -> 
 }
 
 /// Returns true if the line discards the event. This is the case if the event is a get that timed
-/// out or was interrupted, and the line reports a further get of the same job by the same actor.
+/// out or was interrupted, and the line reports another get of the same job by the same actor, with
+/// any outcome.
 pub(crate) fn excuses(event: InvalidatingEvent, line: &Line<'_>) -> bool
     ensures { result ≡ stored.excuses (line_view line.now) event }
 {

@@ -37,8 +37,8 @@ pub(crate) fn actor_of(line: &Line<'_>) -> Option<RecordedActor>
 /// Returns the job that the line names, such as job 5 in `round 2 got 5` and in `job 5 start`.
 /// Returns `None` in these cases:
 ///
-/// - The line is a submit, whose job has no earlier line.
-/// - The line names no job except its actor.
+/// - The line is a `submit` line, which is the first line that names its job.
+/// - The line names no job, or only the job that is its actor.
 pub(crate) fn job_of(line: &Line<'_>) -> Option<usize>
     ensures { result ≡ spec.job_of (line_view line.now) }
 {

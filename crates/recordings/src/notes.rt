@@ -21,9 +21,10 @@ use std::alloc::{AllocError, Global};
 /// In a foreign get, an actor gets a job that another actor submitted. The other actor has not got
 /// the job yet.
 ///
-/// The size grows with the number of jobs that were submitted but not yet got by their submitters.
-/// It also grows with the number of actors whose last line is `timeout` or `interrupted`.
-/// Processing a line takes a constant number of look-ups. No contract states the size or the time.
+/// The size of the notes grows with the number of jobs that were submitted but not yet got by their
+/// submitters. It also grows with the number of actors whose last line is `timeout` or
+/// `interrupted`. Processing a line takes a constant number of look-ups. No contract states the
+/// size or the time.
 #[derive(Drop)]
 pub struct RecordedNotes {
     pub(crate) invalidations: InvalidationList,

@@ -12,8 +12,8 @@ use crate::step::RecordedStep;
 use std::alloc::{AllocError, Global};
 use support::IdMap;
 
-/// A map from the numbers of live actors to their paths. An actor is live until it ends. One map
-/// has only jobs, or only rounds: a round is one pass of a client through its body.
+/// A map from the numbers of live actors to their paths. An actor is live until it ends. The actors
+/// in one map are either all jobs or all rounds. A round is one pass of a client through its body.
 #[derive(Drop)]
 pub(crate) struct PathTable {
     paths: IdMap<LivePath>,

@@ -14,9 +14,9 @@ use crate::step::RecordedStep;
 use crate::{Line, RecordedActor};
 use std::alloc::{AllocError, Global};
 
-/// The paths of the live actors after the lines read so far. A round is live from its begin to its
-/// end. A job is live from its submit until it is done. If a job never runs because it was refused,
-/// cancelled or removed, the job remains live with an empty path.
+/// The paths of the live actors after the lines read so far. A round is live from its `begin` line
+/// to its `end` line. A job is live from its submit until it is done. If a job never runs because
+/// it was refused, cancelled or removed, the job remains live with an empty path.
 ///
 /// Processing a line takes at most two look-ups in tables. For a `got` line, it also takes a binary
 /// search among the submits of the actor. No contract states the size or the time.
@@ -56,7 +56,8 @@ impl Paths {
     }
 
     /// Processes the next line of a valid recording, as [`take`](Paths::take) does. Returns the
-    /// path of the round or job that ends with the line, or `None` if none ends.
+    /// path of the round or job that ends with the line. Returns `None` if the line ends no round
+    /// and no job.
     ///
     /// # Errors
     ///

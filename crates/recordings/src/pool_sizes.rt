@@ -62,7 +62,7 @@ impl QueueKind {
     }
 }
 
-/// The kind of a pool's handler for jobs that it refuses.
+/// The kind of a pool's handler for refused jobs.
 #[derive(Clone, Copy, PartialEq, Eq)]
 pub enum HandlerKind {
     Abort,
@@ -123,7 +123,8 @@ fn yes_or_no(word: &[u8]) -> Option<bool>
     }
 }
 
-/// Parses `queue KIND` at the start of the text. Returns the kind and the text after it.
+/// Parses `queue KIND` and a space at the start of the text. Returns the kind and the text after
+/// the space.
 #[tactic(auto, unfolding(crate::specs::PoolSizes::parse_queue))]
 fn parse_queue(text: &[u8]) -> Option<(QueueKind, &[u8])>
     ensures { option_map (λ read. (read.0, read.1.now)) result ≡ spec.parse_queue text.now }
@@ -132,8 +133,8 @@ fn parse_queue(text: &[u8]) -> Option<(QueueKind, &[u8])>
     Some((queue_kind_of(word)?, rest))
 }
 
-/// Parses `timeout yes` or `timeout no` at the start of the text. Returns true for `yes` and false
-/// for `no`. Also returns the text after this word.
+/// Parses `timeout WORD` and a space at the start of the text. The word must be `yes` or `no`.
+/// Returns true for `yes` and false for `no`. Also returns the text after the space.
 #[tactic(auto, unfolding(crate::specs::PoolSizes::parse_timeout))]
 fn parse_timeout(text: &[u8]) -> Option<(bool, &[u8])>
     ensures { option_map (λ read. (read.0, read.1.now)) result ≡ spec.parse_timeout text.now }

@@ -13,8 +13,9 @@ use support::IdMap;
 
 /// The names of the pools that have a `pool` line.
 ///
-/// A look-up computes a hash of the name, which takes little time. If several names have the same
-/// hash, `firsts` has the name that was added first, and `others` has the other names.
+/// A look-up computes a cheap hash, from the first and the last byte of the name. If several names
+/// have the same hash, `firsts` has the name that was added first, and `others` has the other
+/// names.
 #[derive(Drop)]
 pub(crate) struct Pools {
     firsts: IdMap<String>,
@@ -70,7 +71,7 @@ fn contains_other(others: &HashSet<String>, name: &str) -> bool
     others.contains(name)
 }
 
-// Returns whether there is a stored name and it equals `name`.
+// Returns whether `kept` is a name that equals `name`.
 fn is_name(kept: Option<&String>, name: &str) -> bool
     ensures { result ≡ is_name name.now (option_copied kept.entry) }
 {
@@ -80,7 +81,7 @@ fn is_name(kept: Option<&String>, name: &str) -> bool
     }
 }
 
-// Computes the number of a name, from its first and last byte. Few names have the same number.
+// Computes the hash of a name, from its first and last byte. Few names have the same hash.
 fn number_of(name: &str) -> usize
     ensures { result ≡ number_of name.now }
 {

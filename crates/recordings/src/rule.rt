@@ -20,7 +20,7 @@ pub enum LineRule {
     /// O4: the lines of a round come between its `begin` line and its `end` line.
     Rounds,
     /// O5: a job has at most one `start` line. All lines with the job as the actor come after its
-    /// `start` line. The last of these lines is `end` or `threw`.
+    /// `start` line, and none of them comes after its `end` or `threw` line.
     Jobs,
     /// O6: a `refused` line comes after the `submit` line of the same job by the same actor.
     /// Between the `submit` line and the `refused` line, the actor has only `refused` lines of this

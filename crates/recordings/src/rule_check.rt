@@ -1,4 +1,5 @@
-//! The check of a line against the rules O1 to O7, which depends on the lines before it.
+//! The check of a line against the rules O1 to O7. The result depends on the lines before this
+//! line.
 
 ghost use Rattle.std.specs.Prelude.{◌≡◌, List};
 ghost use Rattle.recordings.specs.RecordingLine.{RecordedLine, line_view};

@@ -24,8 +24,8 @@ pub(crate) fn apply_line(lines: &mut TraceValidator, line: &Line<'_>) -> Result<
     Ok(())
 }
 
-// Applies the changes that the line makes: a new pool, round or job; the last submit of its actor;
-// and the progress of a round or a job.
+// Applies the changes that the line makes. A line can add a pool, a round or a job, set the last
+// submit of its actor, and record the progress of a round or a job.
 fn apply_changes(lines: &mut TraceValidator, line: &Line<'_>) -> Result<(), AllocError>
     ensures stored { OnOk result (AppliesChanges lines.old (line_view line.now) lines.new) }
     ensures same { OnErr result (IsSame lines.old lines.new) }

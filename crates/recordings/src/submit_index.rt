@@ -73,7 +73,7 @@ impl SubmitIndex {
         Ok(())
     }
 
-    // Returns whether the job is above that of the last entry, if there is one.
+    // Returns true if the job number is above that of the last entry, or if there is no entry.
     fn is_above_all(&self, job: usize) -> bool
         ensures { IsTrue result → spec.IsAboveLast self.now.entries.items job }
     {

@@ -1,8 +1,9 @@
 //! The failing conditions of a certificate, as notes. Each note belongs to a section: the ranks, or
 //! one vector of a pool. The ranks determine which gets can block a thread that other jobs need. A
-//! vector has one weight for each actor position and worker. The *bound* of a pool is its standing
-//! or lifetime vector, which bounds its queue. A pool that may reject jobs or has an unbounded
-//! queue can have no bound.
+//! vector has a weight for the workers of each pool, and for each position of each class and each
+//! client kind. The *bound* of a pool is its standing vector, which bounds how many jobs wait in
+//! its queue, or its lifetime vector, which bounds how many jobs it is ever given. A pool that may
+//! reject jobs or has an unbounded queue need not have a bound.
 
 ghost use Rattle.std.specs.Prelude.{◌≡◌, ◌<◌, ◌++◌, IsTrue, IfOk, OnOk, filter, length};
 ghost use Rattle.weights.specs.Bound.{bound_vector, bound_rows};
@@ -86,8 +87,8 @@ fn push_bound_notes(
     }
 }
 
-/// Appends the failing conditions of the pool's blocked vector to the notes. This vector limits how
-/// many jobs of the pool wait where they can block a thread that other jobs need.
+/// Appends the failing conditions of the pool's blocked vector to the notes. This vector bounds how
+/// many threads of the pool wait at counted gets.
 fn push_blocked_notes(
     alloc: Global,
     notes: &mut Vec<Note>,

@@ -14,9 +14,9 @@ use cert_text::Cert;
 use job_bodies::Plan;
 use std::alloc::{AllocError, Global};
 
-/// Appends a line for each failing condition of the certificate, which must fit the plan. Then
-/// appends a line with the number of these conditions, such as `failing 1`, and returns this
-/// number.
+/// Appends a line for each failing condition of the certificate. Then appends a line with the
+/// number of these conditions, such as `failing 1`, and returns this number. The certificate must
+/// fit the plan.
 ///
 /// To save memory, stores the failing conditions of only one pool at a time.
 ///

@@ -20,8 +20,8 @@ pub(crate) fn active_client_count(alloc: Global, events: &[Event]) -> Result<usi
     Ok(clients.len())
 }
 
-/// Returns the number of the acting client for each event, in the order of the events. Skips events
-/// in which no client acts. A client that acts several times occurs several times.
+/// Returns the numbers of the clients that act in the events, in the order of the events. Skips
+/// events in which no client acts. A client that acts several times occurs several times.
 fn active_clients(alloc: Global, mut events: &[Event]) -> Result<Vec<usize>, AllocError>
     ensures { IfOk result (λ clients. clients.items ≡ spec.active_clients events.now) }
 {

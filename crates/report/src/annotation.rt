@@ -8,14 +8,14 @@ use diagnostics::Lint;
 use plan_text::TextPlace;
 use std::alloc::{AllocError, Global};
 
-/// The kind of an annotation, which SARIF calls a rule.
+/// The kind of an annotation. SARIF calls this kind a rule.
 #[derive(Clone, Copy)]
 pub(crate) enum Rule {
-    /// A fault. The field is the number of the fault's kind, such as 13.
+    /// A fault. The field is the fault's number, such as 13.
     Fault(u8),
-    /// The number of the faults that are omitted, because at most 100 are listed.
+    /// A remark with the number of faults that are not listed, because at most 100 are listed.
     MoreFaults,
-    /// The warning that the plan has this lint.
+    /// A warning or a note about this lint.
     Warning(Lint),
     /// The answer SAFE.
     Safe,

@@ -1,5 +1,5 @@
 //! The annotations of an answer. An annotation is a remark about the plan's file, or about a place
-//! in it. If the plan's text has faults, the annotations are about these faults. Otherwise they are
+//! in it. If the plan's text has faults, the annotations show these faults. Otherwise they are
 //! about the plan's warnings and the finding: SAFE, NOT SAFE or NOT DECIDED.
 
 ghost use Rattle.std.specs.Prelude.{◌≡◌, ◌∷◌, ◌++◌, [], IfOk, string_bytes};
@@ -23,8 +23,8 @@ use std::alloc::{AllocError, Global};
 
 // ---- faults
 
-/// Returns one annotation for each fault that `faults` lists. If `faults` omits further faults, a
-/// last annotation gives their number, such as `... and 3 more faults`.
+/// Returns one annotation for each fault that `faults` lists. If `faults.omitted` is above 0, also
+/// returns a last annotation with this number, such as `... and 3 more faults`.
 pub(crate) fn fault_annotations(
     alloc: Global,
     faults: &Faults,
@@ -264,8 +264,9 @@ fn first_line(text: &str) -> &str
     }
 }
 
-/// Returns the place of a pool's name in the plan's text: the pool that refuses the last submit of
-/// the counterexample. Returns `None` if no submit is refused, or if the place is not known.
+/// Returns the place of a pool's name in the plan's text. The pool is the one that refuses the last
+/// submit of the counterexample. Returns `None` if no submit is refused, or if the place is not
+/// known.
 fn ending_place(places: &PlanPlaces, ending: &Ending) -> Option<TextPlace>
     ensures { result ≡ spec.ending_place places.now ending.now }
 {

@@ -1,5 +1,5 @@
-//! The description of a witness as text. A witness is a counterexample: a list of events after
-//! which a submit is refused or jobs wait only for each other.
+//! The description of a witness as text. A witness is a counterexample: a list of events whose last
+//! event is a refused submit, or after which jobs wait only for each other.
 
 ghost use Rattle.std.specs.Prelude.{◌≡◌, ◌++◌, ◌∷◌, [], IfOk, string_bytes};
 ghost use Rattle.support.specs.Pushed.{Pushes};
@@ -13,12 +13,12 @@ use counterexample::{Ending, Reason, Witness};
 use job_bodies::Plan;
 use std::alloc::{AllocError, Global};
 
-/// Returns the description of a witness. A witness is a counterexample: a list of events after
-/// which a submit is refused or jobs wait only for each other.
+/// Returns the description of a witness. A witness is a counterexample: a list of events whose last
+/// event is a refused submit, or after which jobs wait only for each other.
 ///
 /// The first line has the form `refused by db, after 7 events of 2 clients`. The next lines show
-/// the events and the pools. If jobs wait only for each other, further lines show what each of
-/// these jobs waits for. A last line then says why their wait is permanent or what may end it. Long
+/// the events and the pools. If jobs wait only for each other, the lines after these show what each
+/// of the jobs waits for, and a last line says why their wait is permanent or what may end it. Long
 /// lists of events or of jobs are shortened.
 ///
 /// # Errors
@@ -85,8 +85,8 @@ fn push_stuck(text: &mut String, how: &str, members: &[usize]) -> Result<(), All
     write!(text, "{how}{jobs} jobs wait only for each other")
 }
 
-/// Appends the last line. It says why jobs wait only for each other permanently, or what may end
-/// their wait. Appends nothing if the counterexample ends with a refused submit.
+/// Appends the last line, for jobs that wait only for each other. The line says why their wait is
+/// permanent, or what may end it. Appends nothing if the counterexample ends with a refused submit.
 fn push_why(text: &mut String, plan: &Plan, ending: &Ending) -> Result<(), AllocError>
     ensures { Pushes result text.old text.new (spec.why_text plan.now ending.now) }
 {
@@ -140,14 +140,14 @@ fn has_timeouts(plan: &Plan) -> bool
 }
 
 /// Returns the words that say why a pool with fewer threads than its maximum starts no thread.
-/// `timeouts` says whether core threads may time out.
+/// `timeouts` says whether core threads of some pool may time out.
 ///
 /// - If core threads never time out, the words say that the pool never starts a thread above its
 ///   core size.
 /// - If core threads may time out, the words say that the pool has at least as many threads as its
-///   core size, and that its queue is never full. A pool with fewer threads can start one for a
-///   job. A pool can also start a thread in place of one that timed out, and this thread can be
-///   above the core size.
+///   core size, and that its queue is never full. A pool with fewer threads than its core size can
+///   start one for a job. A pool can also start a thread in place of one that timed out, even if it
+///   then has more threads than its core size.
 #[tactic(auto, unfolding(crate::specs::Description::at_core_words))]
 fn at_core_words(timeouts: bool) -> &'static str
     ensures { result.now ≡ spec.at_core_words timeouts }
@@ -159,9 +159,10 @@ fn at_core_words(timeouts: bool) -> &'static str
     }
 }
 
-/// Returns the words for the thread that may end a wait when it starts. If core threads may time
-/// out, this can be any thread, so the words are `another thread`. Otherwise the words are
-/// `a thread above core`.
+/// Returns the words for a thread whose start may end the wait of the jobs that wait only for each
+/// other. `timeouts` says whether core threads of some pool may time out. If so, the start of any
+/// thread may end the wait, and the words are `another thread`. Otherwise the words are `a thread
+/// above core`.
 fn started_words(timeouts: bool) -> &'static str
     ensures { result.now ≡ spec.started_words timeouts }
 {

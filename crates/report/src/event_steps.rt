@@ -1,6 +1,6 @@
 //! The events of a witness: the actor of each event, and what this actor does. A witness is a
-//! counterexample: a list of events after which a submit is refused or jobs wait only for each
-//! other.
+//! counterexample: a list of events whose last event is a refused submit, or after which jobs wait
+//! only for each other.
 
 ghost use Rattle.std.specs.Prelude.{◌≡◌, IfOk};
 ghost use Rattle.job_bodies.specs.WellFormed.{IsWellFormed};
@@ -23,7 +23,7 @@ pub(crate) enum Actor {
     Client(usize, usize),
     /// A job. The first field is the index of its class, and the second field is its own number.
     Job(usize, usize),
-    /// An idle worker of the pool with this index.
+    /// An idle thread of the pool with this index.
     Pool(usize),
 }
 
@@ -150,7 +150,7 @@ fn class_of(world: &World, number: usize) -> usize
 }
 
 /// Returns the position that the actor of the event has in its body before the event. Returns 0 if
-/// the actor is a pool, a client that does not exist, or a job that does not run.
+/// the event is one of a pool, of a client that does not exist, or of a job that does not run.
 fn position_of(world: &World, event: Event) -> usize
     ensures { result ≡ performed.position_seen world.now.view event }
 {
@@ -222,7 +222,8 @@ fn pool_of_actor(plan: &Plan, actor: Actor) -> Option<usize>
     }
 }
 
-/// Returns the pool of the class with this index, or 0 if there is no such class.
+/// Returns the index of the pool to which a class belongs. `class` is the index of the class.
+/// Returns 0 if there is no such class.
 pub(crate) fn pool_of(plan: &Plan, class: usize) -> usize
     ensures { result ≡ pool_of plan.now class }
 {

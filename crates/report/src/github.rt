@@ -1,4 +1,5 @@
-//! The answer of `ask` as workflow commands. GitHub Actions shows them at the lines of the plan.
+//! The answer of `ask` as workflow commands. GitHub Actions shows the messages of these commands at
+//! lines of the plan's file.
 
 ghost use Rattle.std.specs.Prelude.{◌≡◌, IfOk, string_bytes};
 ghost use Rattle.support.specs.Pushed.{Pushes};
@@ -14,8 +15,8 @@ use job_bodies::Plan;
 use plan_text::TextPlace;
 use std::alloc::{AllocError, Global};
 
-/// Returns the commands of GitHub Actions for the finding about a plan, and for the plan's
-/// warnings. `file` is the name of the plan's file.
+/// Returns the GitHub workflow commands for the finding about a plan, and for the plan's warnings.
+/// `file` is the name of the plan's file.
 ///
 /// # Errors
 ///
@@ -35,8 +36,8 @@ pub fn finding_github(
     commands(alloc, file, &annotations)
 }
 
-/// Returns the commands of GitHub Actions for the faults of a plan's text. `file` is the name of
-/// the plan's file.
+/// Returns the GitHub workflow commands for the faults of a plan's text. `file` is the name of the
+/// plan's file.
 ///
 /// # Errors
 ///
@@ -49,7 +50,7 @@ pub fn faults_github(alloc: Global, file: &str, faults: &Faults) -> Result<Strin
     commands(alloc, file, &annotations)
 }
 
-/// Returns the command of GitHub Actions for a fault that has no place in the plan's text. `number`
+/// Returns the GitHub workflow command for a fault that has no place in the plan's text. `number`
 /// is the number of the fault, and `words` is its message. `file` is the name of the plan's file.
 ///
 /// # Errors
@@ -68,7 +69,7 @@ pub fn fault_github(
     commands(alloc, file, &annotations)
 }
 
-/// Returns a command for each annotation, on a line of its own.
+/// Returns a workflow command for each annotation, each on a line of its own.
 fn commands(alloc: Global, file: &str, annotations: &[Annotation]) -> Result<String, AllocError>
     ensures { IfOk result (λ text.
         string_bytes text ≡ spec.github_text file.now (remarks_in annotations.now)) }
@@ -78,7 +79,7 @@ fn commands(alloc: Global, file: &str, annotations: &[Annotation]) -> Result<Str
     Ok(text)
 }
 
-/// Appends a command for each annotation, on a line of its own.
+/// Appends a workflow command for each annotation, each on a line of its own.
 fn push_commands(
     text: &mut String,
     file: &str,

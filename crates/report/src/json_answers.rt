@@ -111,8 +111,8 @@ fn word_of(finding: &PlanFinding) -> &'static str
     }
 }
 
-/// Creates the object of an answer. `word` is the name of the answer, such as `NOT SAFE`, and `file`
-/// is the name of the plan's file.
+/// Creates the JSON object of an answer. `word` is the name of the answer, such as `NOT SAFE`, and
+/// `file` is the name of the plan's file.
 #[tactic(auto, unfolding(crate::specs::Json::answer_data))]
 fn answer_value(
     alloc: Global,
@@ -149,8 +149,8 @@ fn answer_value(
         .done()
 }
 
-/// Returns the JSON text of the answer `FAULTS`. `faults` lists the faults that are reported, and
-/// `omitted` is the number of those that are left out. `file` is the name of the plan's file, and
+/// Returns the JSON text of the answer `FAULTS`. `faults` is the list of reported faults. `omitted`
+/// is the number of faults that are not in this list. `file` is the name of the plan's file, and
 /// `text` is the content of this file.
 fn faulty_line(
     alloc: Global,

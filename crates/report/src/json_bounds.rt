@@ -1,7 +1,8 @@
 //! Two members of a pool's JSON object: the bound of its queue, and the maximum number of its core
-//! threads that wait. The bound is the total of a vector, which has one weight for each actor
-//! position and worker. The total is split into shares. The share of a client kind is the weight of
-//! all its clients. The share of a pool is the weight of all its threads.
+//! threads that wait at counted gets at once. The bound is the total of a vector, which has a
+//! weight for each worker of each pool, and for each position of each class and each client kind.
+//! The total is split into shares. The share of a client kind is the weight of all its clients. The
+//! share of a pool is the weight of all its threads.
 
 ghost use Rattle.std.specs.Prelude.{◌≡◌, ◌++◌, IfOk, IsTrue, OnOk, map};
 ghost use Rattle.serde_json.specs.View.{view};

@@ -17,7 +17,7 @@ use std::alloc::{AllocError, Global};
 
 /// Returns a JSON object for the reason why no sizes were found. The object has the kind of the
 /// reason, its place in the plan's text, and a message. It also has the members `action`, `class`,
-/// `client` and `pool`. Each of these is null unless the reason names it.
+/// `client` and `pool`. A member that does not apply to the reason is null.
 pub(crate) fn cause_value(
     alloc: Global,
     places: &PlanPlaces,

@@ -1,7 +1,7 @@
 //! The ending of a witness as JSON. It has the pool that refuses a submit, or the jobs that wait
 //! only for each other. For each of these jobs, it also says what the job waits for. A witness is a
-//! counterexample: a list of events after which a submit is refused or jobs wait only for each
-//! other.
+//! counterexample: a list of events whose last event is a refused submit, or after which jobs wait
+//! only for each other.
 
 ghost use Rattle.std.specs.Prelude.{◌≡◌, ◌++◌, ◌∷◌, [], map, flat_map, IfOk, OnOk, slice_get};
 ghost use Rattle.serde_json.specs.View.{view};
@@ -139,8 +139,8 @@ fn push_wait(
 }
 
 /// Appends a JSON object that says what a job waits for. The object has the number of the job, the
-/// name of its pool, and the numbers of the jobs in `awaited`. The job waits for these jobs.
-/// `place` is `queue` if the job waits in the pool's queue, and `get` if it waits at a get.
+/// name of its pool, and the numbers in `awaited`, which are those of the jobs for which this job
+/// waits. `place` is `queue` if the job waits in the pool's queue, and `get` if it waits at a get.
 #[tactic(auto, using(std::proofs::lemmas::List::map_push), unfolding(crate::specs::JsonEnding::wait_data))]
 fn push_wait_for(
     values: &mut Vec<Value>,
@@ -178,9 +178,9 @@ pub(crate) fn action_at(plan: &Plan, class: usize, position: usize) -> Option<Ac
     }
 }
 
-/// Returns the number of the job that is awaited, in a list of one element. The waiting job has the
-/// number `number`, and `action` is its current action. The list is empty if the action is not a
-/// get, or if the awaited job is not in `world`.
+/// Returns a list with the number of the job that is awaited. The waiting job has the number
+/// `number`, and `action` is its current action. The list is empty if the action is not a get, or
+/// if the awaited job is not in `world`.
 fn awaited(
     alloc: Global,
     world: &World,

@@ -70,8 +70,8 @@ pub(crate) fn outcome_word(outcome: Outcome) -> &'static str
     }
 }
 
-/// Returns the number of the job that the event created, got, took or ended. Returns `None` if the
-/// outcome has no job.
+/// Returns the number of the job that an event with this outcome created, got, took or ended.
+/// Returns `None` if the outcome has no job.
 pub(crate) fn job_of(outcome: Outcome) -> Option<usize>
     ensures { result ≡ spec.job_of outcome }
 {

@@ -1,7 +1,8 @@
-//! The events of a witness as JSON. A witness is a counterexample: a list of events after which a
-//! submit is refused or jobs wait only for each other.
+//! The events of a witness as JSON. A witness is a counterexample: a list of events whose last
+//! event is a refused submit, or after which jobs wait only for each other.
 //!
-//! Consecutive similar steps form a run, and each run is one JSON object. Steps are similar if
+//! A step is an event that was performed. Consecutive similar steps form a run, and each run is one
+//! JSON object. Steps are similar if
 //!
 //! - their actors are clients of one kind, with consecutive numbers,
 //! - their actions and outcomes are the same, and

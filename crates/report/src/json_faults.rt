@@ -1,5 +1,5 @@
-//! Faults as JSON. Each fault has its number, its place and a message. For a number that is out of
-//! range, the fault also has the range of the allowed numbers.
+//! Faults as JSON. Each fault has its number, its place and a message. A fault about a number that
+//! is out of range also has the range of the allowed numbers.
 
 ghost use Rattle.std.specs.Prelude.{◌≡◌, ◌∷◌, ◌++◌, IfOk, OnOk, map};
 ghost use Rattle.serde_json.specs.Data.{array};

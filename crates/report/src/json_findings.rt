@@ -41,7 +41,7 @@ pub(crate) fn finding_parts(
     })
 }
 
-/// Converts the assumptions on which the answer SAFE depends to a JSON list. The list is empty if
+/// Returns a JSON list of the assumptions on which the answer SAFE depends. The list is empty if
 /// the answer is not SAFE.
 fn assumptions_value(alloc: Global, finding: &PlanFinding) -> Result<Value, AllocError>
     ensures { IfOk result (λ value. view value ≡ spec.assumptions_data finding.now) }

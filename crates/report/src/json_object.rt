@@ -11,8 +11,8 @@ use std::alloc::{AllocError, Global};
 /// A JSON object that is being built. If memory runs out, the object keeps the error until
 /// [`done`](Object::done) returns it. So a function that builds an object has no early return.
 ///
-/// This makes proofs fast. An early return drops values, and most of a proof's time is spent on
-/// such drops.
+/// This makes proofs fast. An early return drops values, and a proof with early returns spends most
+/// of its time on these drops.
 #[derive(Drop)]
 pub(crate) struct Object {
     alloc: Global,
@@ -31,14 +31,14 @@ impl Object {
         }
     }
 
-    /// Adds a member.
+    /// Adds a member with this key and this value.
     pub(crate) fn value(self, key: &str, value: Value) -> Object
         ensures { spec.HasAlso self key.now (view value) result }
     {
         self.part(key, Ok(value))
     }
 
-    /// Adds a member with a string.
+    /// Adds a member whose value is this text, as a JSON string.
     pub(crate) fn text(self, key: &str, text: &str) -> Object
         ensures { spec.HasAlso self key.now (string text.now) result }
     {
@@ -46,7 +46,7 @@ impl Object {
         self.part(key, value)
     }
 
-    /// Adds a member with the value `true` if `flag` is true.
+    /// Adds a member with the value `true` if `flag` is true. Otherwise adds nothing.
     pub(crate) fn flag(self, key: &str, flag: bool) -> Object
         ensures { spec.HasFlag self key.now flag result }
     {
@@ -71,7 +71,7 @@ impl Object {
     ///
     /// # Errors
     ///
-    /// [`AllocError`] if memory ran out for the object or for a part of it.
+    /// Returns [`AllocError`] if memory ran out for the object or for a part of it.
     #[tactic(auto, unfolding(crate::specs::JsonObject::members_of))]
     pub(crate) fn done(self) -> Result<Value, AllocError>
         ensures { IfOk result (λ value.

@@ -1,6 +1,6 @@
 //! Pools as JSON. Each pool has its sizes, and the names of the pools for which its jobs wait. If a
 //! certificate accepts the plan, each pool also has the bound of its queue, and the maximum number
-//! of its core threads that wait.
+//! of its core threads that wait at counted gets at once.
 //!
 //! Some members exist only in certain pools. `may_reject` and `rejects_after` exist only if the
 //! plan allows the pool to reject jobs. `rejects_after` is the number of events after which the

@@ -1,6 +1,6 @@
 //! The event lines of a witness as a JSON list. The command `replay` reads lines of this form. A
-//! witness is a counterexample: a list of events after which a submit is refused or jobs wait only
-//! for each other.
+//! witness is a counterexample: a list of events whose last event is a refused submit, or after
+//! which jobs wait only for each other.
 
 ghost use Rattle.std.specs.Prelude.{◌≡◌, ◌++◌, ◌∷◌, map, flat_map, codes, decimal, string_bytes, IfOk, OnOk};
 ghost use Rattle.serde_json.specs.View.{view};

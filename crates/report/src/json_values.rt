@@ -20,14 +20,16 @@ pub(crate) fn optional_number(number: Option<usize>) -> Value
     }
 }
 
-/// Converts the pool's maximum to JSON: a number, or the string `unbounded` if the pool has none.
+/// Converts the pool's maximum to JSON: a number, or the string `unbounded` if the pool has no
+/// maximum.
 pub(crate) fn max_value(alloc: Global, pool: &Pool) -> Result<Value, AllocError>
     ensures { IfOk result (λ value. view value ≡ max_data pool.now) }
 {
     limit_value(alloc, pool.has_no_max(), pool.max)
 }
 
-/// Converts the capacity of the pool's queue to JSON: a number, or the string `unbounded`.
+/// Converts the capacity of the pool's queue to JSON: a number, or the string `unbounded` if the
+/// queue has no limit.
 pub(crate) fn queue_value(alloc: Global, pool: &Pool) -> Result<Value, AllocError>
     ensures { IfOk result (λ value. view value ≡ queue_data pool.now) }
 {

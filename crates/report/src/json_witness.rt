@@ -1,6 +1,6 @@
 //! A witness as JSON: how it ends, its events, and the event lines that `replay` reads. A witness
-//! is a counterexample: a list of events after which a submit is refused or jobs wait only for each
-//! other.
+//! is a counterexample: a list of events whose last event is a refused submit, or after which jobs
+//! wait only for each other.
 
 ghost use Rattle.std.specs.Prelude.{◌≡◌, [], map, flat_map, IfOk};
 ghost use Rattle.serde_json.specs.View.{view};

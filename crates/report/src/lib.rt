@@ -1,7 +1,7 @@
 //! The report of `sizing ask` as text, JSON, HTML page, picture, workflow commands or SARIF log.
 //! This crate also writes the lines of `sizing fit` and the story of a witness. A witness is a
-//! counterexample: a list of events after which a submit is refused or jobs wait only for each
-//! other.
+//! counterexample: a list of events whose last event is a refused submit, or after which jobs wait
+//! only for each other.
 #![tactic(auto)]
 
 mod active_clients;

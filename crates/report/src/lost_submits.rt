@@ -1,4 +1,4 @@
-//! Texts about the bodies that submit a job to a pool and never get it.
+//! Texts about the bodies that submit a job to a pool and never get this job.
 
 ghost use Rattle.std.specs.Prelude.{◌≡◌, ◌++◌, IfOk, OnOk, flat_map, map, string_bytes};
 ghost use Rattle.report.specs.LostSubmits as spec;

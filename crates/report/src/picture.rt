@@ -1,9 +1,9 @@
 //! The picture of a plan, as a Graphviz graph. A pool is a box with its sizes and classes. The
-//! sizes are a node of the box, because some versions of Graphviz fail to route edges next to a
-//! box whose label is wider than its nodes. The clients are outside of the boxes. An arrow stands
-//! for submits of a class's jobs, and a dashed line stands for gets of its jobs. The dashed line is
-//! bold if at least one of these gets is counted. A counted get can block a thread that other jobs
-//! need.
+//! sizes are the label of a node in the box, and not of the box itself, because some versions of
+//! Graphviz fail to route edges next to a box whose label is wider than its nodes. The clients are
+//! outside of the boxes. An arrow stands for submits of a class's jobs, and a dashed line stands
+//! for gets of its jobs. The dashed line is bold if at least one of these gets is counted. A
+//! counted get can block a thread that other jobs need.
 
 ghost use Rattle.std.specs.Prelude.{◌≡◌, IfOk, option_map, string_bytes};
 ghost use Rattle.support.specs.Pushed.{Pushes};
@@ -140,7 +140,7 @@ fn push_box(
     push_nodes(text, plan.classes(), number)
 }
 
-/// Appends the first lines of the pool's box: its name and its sizes are a node.
+/// Appends the start of the pool's box, and the node with the pool's name and sizes.
 fn push_start(
     text: &mut String,
     plan: &Plan,
@@ -201,7 +201,7 @@ fn push_label(
 }
 
 /// Appends the bound of the pool's queue. `part` has the vectors of the certificate for this pool.
-/// Appends nothing if `part` is `None`, because there is no certificate.
+/// Appends nothing if `part` is `None`, which means that there is no certificate.
 fn push_bound(
     text: &mut String,
     plan: &Plan,
@@ -241,9 +241,10 @@ fn push_bound_of(
     }
 }
 
-/// Returns the text for a pool for which the certificate has no bound. If the capacity of the
-/// pool's queue is limited, the text says that the pool may reject jobs. If the capacity is
-/// unlimited, the text is empty, because the pool then rejects no jobs.
+/// Returns the text that replaces the bound if no bound of the certificate limits the jobs in the
+/// pool's queue. If the capacity of the pool's queue is limited, the text says that the pool may
+/// reject jobs. If the capacity is unlimited, the text is empty, because the pool then rejects no
+/// jobs.
 fn no_bound_words(pool: &Pool) -> &'static str
     ensures { result.now ≡ spec.no_bound_part pool.now }
 {

@@ -118,8 +118,8 @@ fn has_finite_total(pools: &[Pool], vector: &Vector) -> bool
         .all(|(number, pool)| has_finite_share(vector, number, pool))
 }
 
-/// Returns whether the pool has a maximum, or the vector gives its threads no weight. `number` is
-/// the number of the pool.
+/// Returns `true` if the pool has a maximum, or if the vector gives the pool's threads no weight.
+/// `number` is the number of the pool.
 fn has_finite_share(vector: &Vector, number: usize, pool: &Pool) -> bool
     ensures { result ≡ spec.has_finite_share vector.now (number, pool.now) }
 {
@@ -146,8 +146,8 @@ fn counts_classes(pool: usize, bound: &Bound, classes: &[Class]) -> bool
         .all(|(number, class)| counts_if_of(pool, bound, number, class))
 }
 
-/// Returns whether the class belongs to another pool, or its jobs have the weights that
-/// [`counts_class`] requires. `number` is the number of the class.
+/// Returns `true` if the class does not belong to the pool with the number `pool`, or if its jobs
+/// have the weights that [`counts_class`] requires. `number` is the number of the class.
 fn counts_if_of(pool: usize, bound: &Bound, number: usize, class: &Class) -> bool
     ensures { result ≡ spec.counts_if_of pool bound.now (number, class.now) }
 {

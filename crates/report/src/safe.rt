@@ -41,7 +41,7 @@ pub(crate) fn push_safe(
 
 /// Returns the words for what the certificate guarantees: no submit is refused, and no jobs wait
 /// for each other forever. If [`may_reject_jobs`] returns `true` for a pool, submits to this pool
-/// are an exception. The words then say that no submit to another pool is refused.
+/// are an exception. The words then say that no submit to any other pool is refused.
 pub(crate) fn safe_words(plan: &Plan, cert: &Cert) -> &'static str
     ensures { result.now ≡ spec.safe_words plan.now cert.now }
 {
@@ -62,7 +62,7 @@ fn any_may_reject(plan: &Plan, parts: &[PoolCert]) -> bool
         .any(|(number, part)| may_reject_jobs(plan, number, part))
 }
 
-/// Returns whether the pool with this number has a queue of limited capacity, and no bound in the
+/// Returns whether the pool with this number has a queue of limited capacity but no bound in the
 /// certificate. If a certificate accepts the plan, such a pool may reject jobs.
 fn may_reject_jobs(plan: &Plan, number: usize, part: &PoolCert) -> bool
     ensures { result ≡ spec.may_reject_jobs plan.now (number, part.now) }

@@ -1,8 +1,9 @@
 //! The line about a pool's threads and queue. The line is part of the text for a plan that a
 //! certificate accepts. It has the number of threads, the bound of the queue, and the shares that
-//! client kinds and pools have in the bound. The bound is the total of a vector, which has one
-//! weight for each actor position and worker. The share of a client kind is the weight of all its
-//! clients. The share of a pool is the weight of all its threads.
+//! client kinds and pools have in the bound. The bound is the total of a vector, which has a weight
+//! for each worker of each pool, and for each position of each class and each client kind. The
+//! share of a client kind is the weight of all its clients. The share of a pool is the weight of
+//! all its threads.
 
 ghost use Rattle.std.specs.Prelude.{◌≡◌, ◌++◌, IsTrue, OnOk, map, string_bytes};
 ghost use Rattle.support.specs.Pushed.{Pushes};
@@ -63,8 +64,8 @@ fn push_queue(
     }
 }
 
-/// Appends the text for a queue without a bound in the certificate: the capacity of the queue, and
-/// the text of [`push_no_bound`].
+/// Appends the capacity of the pool's queue and the text of [`push_no_bound`]. No bound of the
+/// certificate limits the jobs in this queue.
 fn push_open_queue(
     alloc: Global,
     text: &mut String,
@@ -93,7 +94,8 @@ pub(crate) fn push_queue_size(text: &mut String, pool: &Pool) -> Result<(), Allo
     write!(text, "{queue}")
 }
 
-/// Appends the text for a queue if no bound of the certificate limits its jobs.
+/// Appends the text that replaces the bound of a queue. No bound of the certificate limits the jobs
+/// in this queue.
 ///
 /// - If the capacity of the queue is unlimited, the text is the reason why there is no bound.
 /// - If the capacity is limited, the text says that the pool may reject jobs. It also says after
@@ -147,9 +149,9 @@ fn push_rejection(text: &mut String, rejection: Option<u64>) -> Result<(), Alloc
     }
 }
 
-/// Appends the capacity of the pool's queue, how many jobs can wait in the queue at once, and how
-/// many of these each client kind and each pool can add. Appends nothing if the vector of `bound`
-/// does not fit the plan.
+/// Appends the capacity of the pool's queue, the bound of the queue, and the shares that client
+/// kinds and pools have in the bound. Appends nothing if the vector of `bound` does not fit the
+/// plan.
 fn push_bounded(
     alloc: Global,
     text: &mut String,
@@ -170,9 +172,9 @@ fn push_bounded(
     push_places(alloc, text, plan, bound)
 }
 
-/// Returns the words that are written before the bound of a queue. They are `never rejects: ` if
-/// the queue is bounded and the plan allows the pool to reject jobs. The words then say that the
-/// pool never uses this permission. Otherwise the words are empty.
+/// Returns the words that are written before the bound of a queue. If the queue is bounded and the
+/// plan allows the pool to reject jobs, the words are `never rejects: `, because the pool never
+/// uses this permission. Otherwise the words are empty.
 fn never_words(pool: &Pool) -> &'static str
     ensures { result.now ≡ spec.never_text pool.now }
 {
@@ -183,7 +185,8 @@ fn never_words(pool: &Pool) -> &'static str
     }
 }
 
-/// Appends the bound of a queue, and the shares that client kinds and pools have in the bound.
+/// Appends the bound of a queue, and the shares that client kinds and pools have in the bound. If
+/// the bound is 0, appends only that no job waits in the queue.
 fn push_places(
     alloc: Global,
     text: &mut String,
@@ -220,8 +223,8 @@ pub(crate) fn push_most(text: &mut String, bound: &Bound, total: u64) -> Result<
 }
 
 /// Appends the number of threads that the pool can have, such as `4 threads`, or `2 to 4 threads`
-/// if the pool can have more than its core size. If core threads may time out, the text says so, as
-/// `2 to 4 threads that may time out`.
+/// if the pool can have more threads than its core size. If core threads may time out, the text
+/// says so, as in `2 to 4 threads that may time out`.
 pub(crate) fn push_threads(text: &mut String, pool: &Pool) -> Result<(), AllocError>
     ensures { Pushes result text.old text.new (spec.threads_text pool.now) }
 {
@@ -232,8 +235,8 @@ pub(crate) fn push_threads(text: &mut String, pool: &Pool) -> Result<(), AllocEr
     }
 }
 
-/// Appends the threads of a pool whose core threads may time out, such as
-/// `2 to 4 threads that may time out`.
+/// Appends the number of threads of a pool whose core threads may time out, followed by words that
+/// say so, such as `2 to 4 threads that may time out`.
 fn push_timeouts(text: &mut String, pool: &Pool) -> Result<(), AllocError>
     ensures { Pushes result text.old text.new (spec.timeouts_text pool.now) }
 {

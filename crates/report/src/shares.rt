@@ -1,6 +1,7 @@
-//! Splits the total of a certificate's vector into shares. A vector has one weight for each actor
-//! position and worker. The share of a client kind is the weight of all its clients at their start.
-//! The share of a pool is the weight of all its threads.
+//! Splits the total of a certificate's vector into shares. A vector has a weight for each worker of
+//! each pool, and for each position of each class and each client kind. The share of a client kind
+//! is the weight of all its clients at their start. The share of a pool is the weight of all its
+//! threads.
 
 ghost use Rattle.std.specs.Prelude.{◌≡◌, ◌+◌, IfOk, IsTrue, sum};
 ghost use Rattle.weights.specs.Vector.{total, vector_fits};

@@ -1,5 +1,5 @@
-//! The lines with the sizes of a fitted plan, next to the declared sizes. A fitted plan is the plan
-//! with the sizes that a search found.
+//! The lines with the sizes of a fitted plan, next to the declared sizes. A fitted plan is the
+//! declared plan with the sizes that a search found.
 
 ghost use Rattle.std.specs.Prelude.{◌≡◌, IfOk};
 ghost use Rattle.support.specs.Pushed.{Pushes};
@@ -64,7 +64,7 @@ pub(crate) fn has_useless_max(pool: &Pool) -> bool
     pool.unbounded && !pool.core_timeout
 }
 
-/// Appends the maximum of the pool, or `unbounded` if the pool has none.
+/// Appends the maximum of the pool, or `unbounded` if the pool has no maximum.
 pub(crate) fn push_max_size(text: &mut String, pool: &Pool) -> Result<(), AllocError>
     ensures { Pushes result text.old text.new (spec.max_size pool.now) }
 {

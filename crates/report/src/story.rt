@@ -1,6 +1,6 @@
 //! The story of a witness: its events, the state after them, and what each waiting job waits for. A
-//! witness is a counterexample: a list of events after which a submit is refused or jobs wait only
-//! for each other.
+//! witness is a counterexample: a list of events whose last event is a refused submit, or after
+//! which jobs wait only for each other.
 
 ghost use Rattle.std.specs.Prelude.{◌++◌, flat_map};
 ghost use Rattle.std.specs.List.{enumerate_from};

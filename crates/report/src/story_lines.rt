@@ -27,7 +27,7 @@ const LAST_LINES: usize = 10;
 pub(crate) struct Line<'a> {
     pub(crate) text: &'a str,
     pub(crate) times: usize,
-    /// The number of steps that are shown up to and including this line.
+    /// The number of steps in this line and in all lines before it.
     pub(crate) end: usize,
 }
 
@@ -111,8 +111,8 @@ fn push_shortened(text: &mut String, lines: &[Line<'_>]) -> Result<(), AllocErro
     push_each(text, &lines[last..])
 }
 
-/// Returns the number of steps that are shown up to and including the line with this index. Returns
-/// 0 if there is no such line.
+/// Returns the number of steps in the line with this index and in all lines before it. Returns 0 if
+/// there is no such line.
 fn end_at(lines: &[Line<'_>], index: usize) -> usize
     ensures { result ≡ spec.end_of (slice_get (map line_seen lines.now) index) }
 {

@@ -67,7 +67,7 @@ fn push_number(text: &mut String, number: u64) -> Result<(), AllocError>
     write!(text, "{number}")
 }
 
-/// Returns whether the pool has no maximum of its own. This is so if all of these hold:
+/// Returns whether the pool has no maximum. This is so if all of these hold:
 ///
 /// - The core threads of the pool may time out.
 /// - The queue of the pool is unbounded.

@@ -1,5 +1,5 @@
 //! The turns of a story, which is a text that describes a counterexample. A turn is a group of
-//! consecutive steps of one actor within one pass through its body.
+//! consecutive steps of one actor. A client's turn ends when the client starts its body again.
 
 ghost use Rattle.std.specs.Prelude.{◌≡◌, ◌<◌, ◌≤◌, ◌+◌, ◌++◌, ◌∷◌, List, length, map, codes, IfOk, OnOk};
 ghost use Rattle.support.specs.Pushed.{Pushes};
@@ -20,8 +20,8 @@ use std::alloc::{AllocError, Global};
 pub(crate) struct Turn {
     pub(crate) actor: Actor,
     pub(crate) text: String,
-    /// Whether the next step must begin a new turn. This is so if the last step of this turn starts
-    /// the client's body again, or if a thread times out in that last step.
+    /// Whether the next step must begin a new turn. This is so if, in the last step of this turn, a
+    /// client starts its body again or a thread times out.
     pub(crate) is_ended: bool,
     /// The number of steps in this turn and in all turns before it.
     pub(crate) end: usize,

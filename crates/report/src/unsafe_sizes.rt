@@ -102,8 +102,8 @@ pub(crate) fn push_open(text: &mut String, sizes: &SizesFound) -> Result<(), All
     text.push('\n')
 }
 
-/// Returns the words that say what was not found: a counterexample, and a certificate for the
-/// declared sizes. If no other sizes can have a certificate either, the words say so.
+/// Returns the words that say that neither a counterexample nor a certificate for the declared
+/// sizes was found. If no certificate accepts the plan with other sizes either, the words say so.
 pub(crate) fn open_words(sizes: &SizesFound) -> &'static str
     ensures { result.now ≡ spec.open_words sizes.now }
 {

@@ -1,5 +1,4 @@
-//! The waits between pools: a pool waits for another pool if one of its jobs gets a job of the
-//! other pool.
+//! The waits between pools. A pool P waits for a pool Q if a job of P gets a job of Q.
 
 ghost use Rattle.std.specs.Prelude.{◌≡◌, option_map};
 ghost use Rattle.std.specs.List.{list_any};

@@ -19,8 +19,8 @@ pub fn page_of(alloc: Global, json: &str) -> Result<String, AllocError>
     page_between(alloc, BEFORE, json, AFTER)
 }
 
-/// Returns a page that consists of the text `before`, the JSON text and the text `after`, in this
-/// order. The JSON text is escaped for a script element.
+/// Returns a page that consists of the text `before`, the JSON text `json` and the text `after`, in
+/// this order. The JSON text is escaped for a script element.
 fn page_between(alloc: Global, before: &str, json: &str, after: &str) -> Result<String, AllocError>
     ensures { IfOk result (λ page.
         string_bytes page ≡ (before.now ++ spec.script_text json.now) ++ after.now) }

@@ -1,7 +1,6 @@
 //! One attempt to find sizes with which a certificate accepts the plan. The attempt works in
-//! rounds. A round gives a rank, which is a number in the certificate, to some pools. It may also
-//! raise the core of one pool. After the rounds, the attempt computes the least sizes for the
-//! resulting certificate.
+//! rounds. Each round gives a rank to some pools, and may raise the core of one of these pools.
+//! After the rounds, the attempt computes the least sizes for the resulting certificate.
 
 use crate::certified::cert_of;
 use crate::found::AttemptError;

@@ -28,8 +28,9 @@ pub(crate) fn bound_of(
         return standing_bound(alloc, cache, number, maxes);
     }
     if pool.may_reject {
-        // The final maximum can be smaller than the current one, but not than the declared one. A
-        // lifetime vector must fit the queue with each of them, because the queue stays unchanged.
+        // The final maximum can be smaller than the current one, but not smaller than the declared
+        // one. The queue stays unchanged, so a lifetime vector must fit it with each of these
+        // maximums.
         let least_threads = PoolThreads {
             max: pool.max,
             ..pool_threads
@@ -46,8 +47,8 @@ pub(crate) fn bound_of(
     }
 }
 
-/// Searches for standing vectors of the pool, and returns the one with the smallest total that was
-/// found. Returns `None` if no standing vector was found.
+/// Searches for standing vectors of the pool, and returns the one with the smallest total. Returns
+/// `None` if the search finds none.
 fn standing_bound(
     alloc: Global,
     cache: &mut VectorCache,
@@ -126,8 +127,8 @@ fn least_bound(
 
 /// Returns the queue capacity that the pool needs to accept this number of jobs in its lifetime.
 /// Each thread that is not prestarted starts with a job, which needs no place in the queue. So the
-/// capacity is the number of jobs minus the number of these threads, or 0 if there are fewer jobs.
-/// If core threads may time out, the capacity equals the number of jobs.
+/// capacity is the number of jobs minus the number of these threads, or 0 if there are fewer jobs
+/// than threads. If core threads may time out, the capacity equals the number of jobs.
 fn lifetime_queue(pool: &Pool, pool_threads: PoolThreads, jobs: u64) -> u64 {
     if pool.core_timeout {
         return jobs;

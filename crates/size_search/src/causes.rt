@@ -39,9 +39,9 @@ pub fn cause_of(alloc: Global, plan: &Plan) -> Result<Option<Cause>, AllocError>
     pool_circle(alloc, plan)
 }
 
-/// Returns whether the plan's steady certificate (see [`steady`](crate::steady)) may be unusable:
-/// possibly no sizes are enough for it. The plan must have no cause (see [`cause_of`]). The
-/// certificate may be unusable in two cases:
+/// Returns `true` in two cases, in which there may be no sizes with which the plan's steady
+/// certificate (see [`steady`](crate::steady)) accepts the plan. The plan must have no cause (see
+/// [`cause_of`]). The two cases are these:
 ///
 /// - A repeating client submits a job, directly or through other jobs. The job is never got, and
 ///   its pool may reject jobs or has an unbounded queue.
@@ -133,7 +133,8 @@ fn has_unused_get(plan: &Plan, submitted: &[bool]) -> bool
     false
 }
 
-/// Returns whether the class has a get, and the core threads of its pool may time out.
+/// Returns true if the body of the class has a get and the core threads of the class's pool may
+/// time out.
 fn has_get_in_pool(plan: &Plan, number: usize) -> bool
     requires { number < length plan.now.classes }
     ensures has { result ≡ true

@@ -7,7 +7,7 @@
 //!   number of queued jobs. A pool needs no bound if it may reject jobs or its queue is unbounded.
 //!
 //! If the core threads of a pool may time out, its blocked vector is 0, and the ranks are such that
-//! no get of its jobs is counted.
+//! no get in the bodies of the pool's jobs is counted.
 
 ghost use Rattle.std.specs.Prelude.{◌≡◌, ◌≤◌, take, drop, length, IfOk, IfSome, IfNone, true, false, map};
 ghost use Rattle.weights.specs.Vector.{has_small_numbers};
@@ -72,7 +72,7 @@ fn steady_vector(alloc: Global, plan: &Plan, levels: &[u64]) -> Result<Option<Ve
     }))
 }
 
-/// Returns `vector` as the bound of a pool's queue, or `None` if the pool needs no bound.
+/// Returns the bound of a pool's queue: a copy of `vector`, or `None` if the pool needs no bound.
 fn bound_of(
     alloc: Global,
     vector: &Vector,
@@ -120,8 +120,8 @@ fn zero_vector(alloc: Global, vector: &Vector) -> Result<Vector, AllocError>
 }
 
 /// Returns the blocked vector of a pool: a copy of `vector`, or a vector of zeros if `uncounted` is
-/// `true`. `uncounted` says that no get of the pool's jobs is counted. A counted get can block a
-/// thread that other jobs need.
+/// `true`. `uncounted` says that no get in the bodies of the pool's jobs is counted. A counted get
+/// can block a thread that other jobs need.
 fn blocked_of(alloc: Global, vector: &Vector, uncounted: bool) -> Result<Vector, AllocError>
     ensures { IfOk result (λ blocked. blocked ≡ spec.blocked_of vector.now uncounted) }
 {
@@ -133,10 +133,9 @@ fn blocked_of(alloc: Global, vector: &Vector, uncounted: bool) -> Result<Vector,
     Ok(vector)
 }
 
-/// Returns the part of the steady certificate for one pool. This part has a bound and a blocked
-/// vector:
+/// Returns the part of the steady certificate that belongs to one pool:
 ///
-/// - If the pool needs a bound, the bound is `vector`. Otherwise there is no bound.
+/// - If the pool needs a bound, its bound is `vector`. Otherwise the pool has no bound.
 /// - If the core threads of the pool never time out, the blocked vector is `vector`. Otherwise the
 ///   blocked vector is 0.
 fn pool_of(alloc: Global, vector: &Vector, pool: &Pool) -> Result<PoolCert, AllocError>
@@ -148,7 +147,7 @@ fn pool_of(alloc: Global, vector: &Vector, pool: &Pool) -> Result<PoolCert, Allo
     Ok(PoolCert { bound, blocked })
 }
 
-/// Returns the parts of the steady certificate for all pools.
+/// Returns, for each pool, the part of the steady certificate that belongs to this pool.
 fn pools_of(alloc: Global, plan: &Plan, vector: &Vector) -> Result<Vec<PoolCert>, AllocError>
     requires { has_small_numbers vector.now ≡ true }
     ensures { IfOk result (λ pools. pools.items ≡ map (spec.pool_of vector.now) plan.now.pools) }
@@ -190,8 +189,8 @@ fn halves_of(
 }
 
 /// Returns the steady certificate of the plan, or `None` if a weight of its vector is above
-/// [`MAX_WEIGHT`](job_bodies::MAX_WEIGHT). No class of the plan may submit itself, directly or
-/// through other classes.
+/// [`MAX_WEIGHT`](job_bodies::MAX_WEIGHT). The plan must have no class that submits itself,
+/// directly or through other classes.
 ///
 /// In this certificate, one vector is the blocked vector of every pool whose core threads never
 /// time out. The same vector is the standing vector of every pool that needs a bound. A pool needs

@@ -12,8 +12,8 @@ use std::alloc::{AllocError, Global};
 use weights::{Ranks, Vector};
 
 /// Returns the certificate that results from a [`RankAssignment`] in which every pool has a rank.
-/// The certificate can need smaller sizes than those of the assignment. So the caller computes the
-/// sizes anew, from the plan's sizes.
+/// The certificate can need smaller cores and maximums than the assignment has. So the caller
+/// computes the sizes anew, starting with the plan's sizes.
 ///
 /// # Errors
 ///
@@ -22,7 +22,8 @@ use weights::{Ranks, Vector};
 /// - A pool has no rank.
 /// - The blocked vector of a pool is not found.
 /// - A pool needs a bound, and no bound is found for it.
-/// - The search has already computed as many vectors as it may.
+/// - Another vector must be computed, but the search has already computed the maximum number of
+///   vectors.
 pub(crate) fn cert_of(
     alloc: Global,
     cache: &mut VectorCache,
@@ -71,11 +72,12 @@ fn pool_certs(
 }
 
 /// Returns the blocked vector of a pool. `hit` names the pool and the place of the vector in the
-/// cache. The search found this vector in the round that gave the pool its rank. If the search
-/// found none, returns the pool as the obstacle.
+/// cache. The search found this vector in the round that gave the pool its rank. If there is no
+/// such vector, returns the pool as the obstacle.
 ///
-/// The vector remains valid after that round: every other pool that had no rank yet gets the same
-/// rank or a higher one. So the same gets are [counted](weights::Counted) as in that round.
+/// The vector remains valid after that round: every other pool that had no rank before that round
+/// gets the same rank or a higher one. So the same gets are [counted](weights::Counted) as in that
+/// round.
 fn blocked_of(
     alloc: Global,
     cache: &VectorCache,

@@ -1,8 +1,8 @@
 //! Laws about the existence of sizes with which a certificate accepts a plan. Each law is the
-//! contract of a function with an empty body. In the steady certificate of a plan, one vector is
-//! the blocked vector of every pool whose core threads never time out, and also the standing vector
-//! of every pool that needs a bound. A pool needs none if it may reject jobs or its queue is
-//! unbounded. The other blocked vectors are 0.
+//! contract of a function with an empty body. In the steady certificate of a plan, the same vector
+//! serves as the blocked vector of every pool whose core threads never time out, and as the
+//! standing vector of every pool that needs a bound. A pool needs none if it may reject jobs or its
+//! queue is unbounded. The other blocked vectors are 0.
 
 ghost use Rattle.size_search.specs.NoSizesHelp.{NoSizesHelp};
 ghost use Rattle.size_search.specs.NoSizesHelp.{SizesExist};
@@ -19,9 +19,9 @@ pub fn no_sizes_help()
     ensures { NoSizesHelp }
 {}
 
-/// States that enough sizes exist for a plan without a cause, and do not exist for a plan with a
-/// cause. Sizes are *enough* if some certificate accepts the plan with these sizes. The causes are
-/// listed in [`no_sizes_help`]. The premises are these:
+/// States that a plan without a cause has sizes with which some certificate accepts it, and that a
+/// plan with a cause has no such sizes. The causes are listed in [`no_sizes_help`]. The premises
+/// are these:
 ///
 /// - Each weight of the plan's steady certificate (see [`steady`](crate::steady)) is at most
 ///   `MAX_WEIGHT`.

@@ -68,8 +68,8 @@ fn queue_needed(plan: &Plan, bound: &Option<Bound>, number: usize, pool: &Pool) 
     }
 }
 
-/// Returns the capacity of the pool's queue, but at least `needed`. If the pool needs no bound,
-/// returns the capacity unchanged.
+/// Returns the capacity of the pool's queue, raised to at least `needed`. If the pool needs no
+/// bound, returns the capacity unchanged.
 fn raised_queue(pool: &Pool, needed: u64) -> u64
     ensures { result
         ≡ (if needs_no_bound pool.now then pool.now.queue else max pool.now.queue needed) }
@@ -81,8 +81,8 @@ fn raised_queue(pool: &Pool, needed: u64) -> u64
     }
 }
 
-/// Returns the core of the pool, raised to `needed`. A core whose threads may time out stays
-/// unchanged.
+/// Returns the core of the pool, raised to at least `needed`. A core whose threads may time out
+/// stays unchanged.
 fn raised_core(pool: &Pool, needed: u64) -> u64
     ensures { result
         ≡ (if pool.now.core_timeout then pool.now.core else max pool.now.core needed) }
@@ -126,15 +126,15 @@ fn raised_pools(alloc: Global, plan: &Plan, cert: &Cert) -> Result<Vec<Pool>, Al
 }
 
 /// Returns whether the place is [`Place::Total`]. The conditions at this place limit the total of a
-/// vector. The limits depend on the sizes of pools.
+/// vector, and their limits depend on the sizes of pools.
 fn is_total(place: Place) -> bool
     ensures { result ≡ spec.is_total place }
 {
     matches!(place, Place::Total)
 }
 
-/// Returns the first of these failing conditions that does not limit a total, or `None` if each of
-/// them limits a total.
+/// Returns the first condition in `notes` that does not limit a total, or `None` if each of them
+/// limits a total. `notes` has failing conditions.
 fn first_elsewhere(notes: &[Note]) -> Option<Note>
     ensures { result ≡ find (λ note. not (spec.is_total note.place)) notes.now }
 {
@@ -146,8 +146,8 @@ fn first_elsewhere(notes: &[Note]) -> Option<Note>
     None
 }
 
-/// Returns the first failing condition of the certificate that does not depend on cores and queues,
-/// or `None` if there is no such condition.
+/// Returns the first failing condition of the certificate that depends neither on cores nor on
+/// queues, or `None` if there is no such condition.
 fn failing_elsewhere(alloc: Global, plan: &Plan, cert: &Cert) -> Result<Option<Note>, AllocError>
     requires { IsTrue (cert_fits plan.now cert.now) }
     ensures { IfOk result (λ found. found ≡ failing_elsewhere plan.now cert.now) }
@@ -156,9 +156,8 @@ fn failing_elsewhere(alloc: Global, plan: &Plan, cert: &Cert) -> Result<Option<N
     Ok(first_elsewhere(&failing))
 }
 
-/// Returns whether the queue of the pool with this number is smaller than the certificate needs,
-/// after the sizes were raised. This is possible only for a pool that may reject jobs, because the
-/// queue of such a pool is not raised.
+/// Returns whether the raised pool with this number has a smaller queue than the certificate needs.
+/// This is possible only if the pool may reject jobs, because its queue is then not raised.
 fn is_tight(plan: &Plan, cert: &Cert, raised: &[Pool], number: usize) -> bool
     requires well_formed { IsWellFormed plan.now }
     requires fits { IsTrue (cert_fits plan.now cert.now) }
@@ -172,8 +171,8 @@ fn is_tight(plan: &Plan, cert: &Cert, raised: &[Pool], number: usize) -> bool
     pool.queue < queue_needed(plan, &needs.bound, number, pool)
 }
 
-/// Returns [`FitError::Queue`] with the number of the first raised pool that has a smaller queue than
-/// the certificate needs. Returns `None` if there is no such pool.
+/// Returns [`FitError::Queue`] with the number of the first raised pool that has a smaller queue
+/// than the certificate needs. Returns `None` if there is no such pool.
 fn tight_queue(plan: &Plan, cert: &Cert, raised: &[Pool]) -> Option<FitError>
     requires well_formed { IsWellFormed plan.now }
     requires fits { IsTrue (cert_fits plan.now cert.now) }
@@ -204,8 +203,8 @@ fn is_short(plan: &Plan, cert: &Cert, raised: &[Pool], number: usize) -> bool
     pool.least_threads() < core_needed(plan, &needs.blocked)
 }
 
-/// Returns [`FitError::CoreTimeout`] with the number of the first raised pool that has fewer threads
-/// than the certificate needs. Returns `None` if there is no such pool.
+/// Returns [`FitError::CoreTimeout`] with the number of the first raised pool that has fewer
+/// threads than the certificate needs. Returns `None` if there is no such pool.
 fn short_pool(plan: &Plan, cert: &Cert, raised: &[Pool]) -> Option<FitError>
     requires well_formed { IsWellFormed plan.now }
     requires fits { IsTrue (cert_fits plan.now cert.now) }
@@ -237,9 +236,8 @@ fn unfit_sizes(plan: &Plan, cert: &Cert, raised: &[Pool]) -> Option<FitError>
     }
 }
 
-/// Returns the reason why no choice of cores and queues makes the certificate accept the plan, or
-/// `None` if some choice does. `raised` has the plan's pools with the sizes that the certificate
-/// needs.
+/// Returns the reason why the plan cannot be fitted to the certificate, or `None` if it can be
+/// fitted. `raised` has the plan's pools with the sizes that the certificate needs.
 fn fit_error(
     alloc: Global,
     plan: &Plan,
@@ -259,14 +257,14 @@ fn fit_error(
 
 /// Returns the plan with the least cores and queues that make the certificate accept the plan. A
 /// core or a queue is only raised, never made smaller. Larger maximums would not allow smaller
-/// cores. If no cores and queues are enough, the inner error has the given plan and the reason.
+/// cores. If there are no such cores and queues, the inner error has the given plan and the reason.
 ///
 /// These sizes stay unchanged:
 ///
 /// - The queue of a pool that may reject jobs. If the certificate has a bound of this queue, the
 ///   queue must already be large enough.
 /// - An unbounded queue, which is large enough for every bound.
-/// - A core whose threads may time out. The total of the pool's blocked vector must be 0.
+/// - A core whose threads may time out. The total of its pool's blocked vector must then be 0.
 ///
 /// # Errors
 ///
@@ -330,11 +328,12 @@ fn smallest_pools(alloc: Global, plan: &Plan) -> Result<Vec<Pool>, AllocError>
     Ok(small)
 }
 
-/// Returns the plan with each core and each queue set to 1. These sizes stay unchanged: the cores
-/// whose threads may time out, the queues of pools that may reject jobs, and the unbounded queues.
+/// Returns the plan with each core and each queue set to 1, except for these sizes, which stay
+/// unchanged: the cores whose threads may time out, the queues of pools that may reject jobs, and
+/// the unbounded queues.
 ///
 /// [`fitted`] raises the sizes of the returned plan to the least cores and queues that make a
-/// certificate accept the plan. These sizes can be smaller than the declared sizes.
+/// certificate accept the plan. The fitted sizes can be smaller than the declared sizes.
 ///
 /// # Errors
 ///

@@ -1,5 +1,4 @@
-//! The reasons why a plan cannot be fitted to a certificate. Fitting raises the cores and queues to
-//! what the certificate needs.
+//! The reasons why the sizes of a plan cannot be raised to what a certificate needs.
 
 ghost use Rattle.std.specs.Prelude.{◌≡◌};
 ghost use Rattle.std.specs.List.{enumerate_from};
@@ -8,13 +7,14 @@ ghost use Rattle.size_search.specs.FitError as spec;
 use job_bodies::{MAX_SIZE, Pool};
 use soundness::Note;
 
-/// The reason why no choice of cores and queues makes the certificate accept the plan.
+/// The reason why [`fitted`](crate::fitted) or [`widened`](crate::widened) cannot raise the sizes
+/// of a plan to what a certificate needs.
 #[derive(Clone, Copy, Debug, PartialEq, Eq)]
 pub enum FitError {
     /// The certificate does not have the shape of the plan, or it has a number above
     /// [`MAX_WEIGHT`](job_bodies::MAX_WEIGHT).
     Shape,
-    /// The first failing condition that does not depend on cores and queues.
+    /// The first failing condition that depends neither on cores nor on queues.
     Condition(Note),
     /// A pool needs a core that is too large. The field is the number of the pool. For
     /// [`fitted`](crate::fitted), a core is too large if it is above the pool's maximum. For
@@ -23,7 +23,7 @@ pub enum FitError {
     /// The queue of a pool is too small. The field is the number of the pool. This happens in two
     /// cases:
     ///
-    /// - The queue would have to be larger than 1,000,000.
+    /// - The certificate needs a queue larger than 1,000,000.
     /// - The pool may reject jobs, so its queue is not raised.
     ///
     /// An unbounded queue is never the reason.
@@ -49,7 +49,8 @@ fn unfit_pool(number: usize, pool: &Pool) -> Option<FitError>
     }
 }
 
-/// Returns the reason for the first invalid pool of the list, or `None` if all are valid.
+/// Returns the reason for the first pool of the list whose sizes are invalid, or `None` if all
+/// sizes are valid.
 pub(crate) fn unfit_pools(pools: &[Pool]) -> Option<FitError>
     ensures { result ≡ spec.first_unfit (enumerate_from 0 pools.now) }
 {

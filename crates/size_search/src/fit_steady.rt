@@ -1,7 +1,7 @@
-//! The least sizes for the steady certificate, which are used if the rounds find no sizes. In that
-//! certificate, one vector is the blocked vector of every pool whose core threads never time out.
-//! The same vector is the bound of every pool that needs one. A pool needs none if it may reject
-//! jobs or has an unbounded queue. The other blocked vectors are 0.
+//! The least sizes for the steady certificate, which are used if the rounds find no sizes. In the
+//! steady certificate, one vector is the blocked vector of every pool whose core threads never time
+//! out. The same vector is the bound of every pool that needs one. A pool needs none if it may
+//! reject jobs or has an unbounded queue. The other blocked vectors are 0.
 
 ghost use Rattle.std.specs.Prelude.{◌≡◌, ◌≤◌, IfOk, IfSome, IfNone, IsTrue};
 ghost use Rattle.job_bodies.specs.WellFormed.{IsWellFormed};
@@ -21,10 +21,10 @@ use cert_text::Cert;
 use job_bodies::Plan;
 use std::alloc::{AllocError, Global};
 
-/// Returns the plan with the least sizes that its steady certificate needs (see [`steady`]).
-/// Returns [`NoSizes::TooLarge`] if this certificate is too large, or if possibly no sizes are
-/// enough for it. This reason names the pool of `obstacle`, which is the point at which the search
-/// for sizes failed before.
+/// Returns the plan with the least sizes that its steady certificate needs (see [`steady`]). If
+/// this certificate is too large, or if there may be no sizes with which it accepts the plan,
+/// returns [`NoSizes::TooLarge`] with the pool of `obstacle`. `obstacle` is the point at which the
+/// search for sizes failed before.
 pub(crate) fn fit_steady(
     alloc: Global,
     plan: &Plan,
@@ -41,8 +41,9 @@ pub(crate) fn fit_steady(
     fit_steady_plan(alloc, plan, obstacle)
 }
 
-/// Returns the plan with the least sizes that its steady certificate needs, or
-/// [`NoSizes::TooLarge`] with the pool of `obstacle` if they are too large.
+/// Returns the plan with the least sizes that its steady certificate needs. If these sizes or the
+/// weights of the certificate are too large, returns [`NoSizes::TooLarge`] with the pool of
+/// `obstacle`.
 fn fit_steady_plan(alloc: Global, plan: &Plan, obstacle: Obstacle) -> Result<SizesFound, AllocError>
     requires steady_plan { IsSteady plan.now }
     requires well_formed { IsWellFormed plan.now }
@@ -82,8 +83,8 @@ fn too_large(plan: &Plan, obstacle: Obstacle) -> SizesFound
     SizesFound::NotFound(NoSizes::TooLarge(obstacle.pool(plan)))
 }
 
-/// Returns the plan with the least sizes that `cert`, its steady certificate, accepts. Returns
-/// `None` if the total of the certificate's vector is at least `MAX_SIZE`.
+/// Returns the plan with the least sizes with which `cert`, its steady certificate, accepts it.
+/// Returns `None` if the total of the certificate's vector is at least `MAX_SIZE`.
 fn least_steady_sizes(alloc: Global, plan: &Plan, cert: &Cert) -> Result<Option<Plan>, AllocError>
     requires steady_plan { IsSteady plan.now }
     requires well_formed { IsWellFormed plan.now }

@@ -1,5 +1,6 @@
-//! Laws about fitted plans, whose cores and queues were raised to what a certificate needs. Each
-//! law is the contract of a function with an empty body.
+//! Laws about fitted plans, whose cores and queues were raised to what a certificate needs, and
+//! about widened plans, whose maximums were raised. Each law is the contract of a function with an
+//! empty body.
 
 ghost use Rattle.size_search.specs.Fitted.{FittedSizesAreLeast, AcceptedPlansFit, LargerSizesAreAccepted, SmallestFitIsLeast};
 ghost use Rattle.size_search.specs.Widened.{WidenedMaxesAreLeast};
@@ -41,21 +42,21 @@ pub fn larger_sizes_are_accepted()
 /// States that fitting the smallest plan gives the least cores and queues that make the certificate
 /// accept a plan.
 ///
-/// In the smallest plan, each core and each queue is 1. These sizes are unchanged in the smallest
-/// plan and in the fitted plan: the queues of pools that may reject jobs, the unbounded queues, and
-/// the cores whose threads may time out. If there is no fitted plan, no choice of the other cores
-/// and queues makes the certificate accept the plan.
+/// In the smallest plan, each core and each queue is 1, except for these sizes: the queues of pools
+/// that may reject jobs, the unbounded queues, and the cores whose threads may time out. These
+/// sizes are unchanged in the smallest plan and in the fitted plan. If there is no fitted plan, no
+/// choice of the other cores and queues makes the certificate accept the plan.
 pub fn smallest_fit_is_least()
     ensures { SmallestFitIsLeast }
 {}
 
-/// States that no maximum of the widened plan is larger than necessary. In the widened plan, a
-/// maximum is raised if the certificate needs a larger core. It is then equal to this core. The
+/// States that no maximum of the widened plan is larger than necessary. In the widened plan, each
+/// maximum that is smaller than the core that the certificate needs is raised to this core. The
 /// needed cores are computed with the plan's own maximums. The maximum of a pool whose core threads
 /// may time out stays unchanged.
 ///
 /// Let the certificate accept the plan with other sizes, whose maximums are no smaller than the
-/// plan's. Then these sizes satisfy two conditions:
+/// plan's. Then these other sizes satisfy two conditions:
 ///
 /// - Each maximum is at least as large as in the widened plan.
 /// - Each core whose threads never time out is at least the core that the certificate needs with
@@ -64,11 +65,11 @@ pub fn widened_maxes_are_least()
     ensures { WidenedMaxesAreLeast }
 {}
 
-/// States what it means that a plan cannot be fitted to a certificate because of a pool's core: the
-/// maximum of this pool is too small.
+/// States that the maximum of a pool is too small if a plan cannot be fitted to a certificate
+/// because of this pool's core.
 ///
-/// Suppose that the certificate accepts the plan with other sizes, and that no maximum is smaller
-/// than in the plan. Then the maximum of this pool is larger than in the plan.
+/// Let the certificate accept the plan with other sizes, whose maximums are no smaller than the
+/// plan's. Then these other sizes have a larger maximum of this pool than the plan.
 pub fn reported_cores_need_larger_maxes()
     ensures { ReportedCoresNeedLargerMaxes }
 {}

@@ -7,8 +7,8 @@ use cert_text::Cert;
 use job_bodies::Plan;
 use std::alloc::AllocError;
 
-/// The result of a search for sizes: the plan with enough sizes and a certificate that accepts it,
-/// or the reason why the search found no sizes.
+/// The result of a search for sizes: the plan with the sizes that were found and a certificate that
+/// accepts this plan, or the reason why no sizes were found.
 #[derive(Drop)]
 pub enum SizesFound {
     /// The plan with the sizes that were found, and a certificate that accepts it.
@@ -23,18 +23,19 @@ pub enum NoSizes {
     /// A cause: a reason why no certificate accepts the plan with any sizes. The plan can still be
     /// safe.
     Cause(Cause),
-    /// The plan's steady certificate is too large, for one of these reasons:
+    /// No attempt found sizes, and the plan's steady certificate cannot be used, for one of these
+    /// reasons:
     ///
     /// - It needs sizes above 1,000,000.
     /// - It has a weight above [`MAX_WEIGHT`](job_bodies::MAX_WEIGHT).
-    /// - Possibly no sizes are enough for it, because some job is never got. A repeating client
-    ///   submits this job, directly or through other jobs. The job goes to a pool that may reject
-    ///   jobs or has an unbounded queue.
-    /// - Possibly no sizes are enough for it, because a class has a get, but no client submits this
-    ///   class, directly or through other jobs. The core threads of the class's pool may time out.
+    /// - A repeating client submits, directly or through other jobs, a job that is never got and
+    ///   whose pool may reject jobs or has an unbounded queue.
+    /// - A class that has a get, and whose pool's core threads may time out, is submitted by no
+    ///   client, neither directly nor through other jobs.
     ///
-    /// Other sizes can exist. The field is the number of the pool at which the first attempt
-    /// failed, or 0 if that attempt failed at no particular pool.
+    /// In the last two cases, there may be no sizes with which the steady certificate accepts the
+    /// plan. In all cases, sizes for another certificate can exist. The field is the number of the
+    /// pool at which the first attempt failed, or 0 if that attempt failed at no particular pool.
     TooLarge(usize),
 }
 

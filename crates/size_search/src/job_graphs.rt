@@ -3,8 +3,9 @@
 //! - The graph of submits shows which classes a class submits. The nodes are the classes, and the
 //!   successors of a class are the classes that it submits.
 //! - The graph of waits shows what a job can wait for. The nodes are the classes and then the
-//!   pools. The successors of a class are its pool and the classes of the jobs that it gets. The
-//!   successors of a pool are the classes for whose jobs its last thread can wait at a get.
+//!   pools. The successors of a class are its pool and the classes of the jobs that it gets. If
+//!   core threads of a pool may time out, the successors of the pool are the classes for whose jobs
+//!   its last thread can wait at a get. Any other pool has no successors.
 
 ghost use Rattle.std.specs.Prelude.{◌≡◌, ◌<◌, ◌++◌, [], OnOk, IfOk, length};
 ghost use Rattle.std.specs.List.{enumerate_from, flat_map};

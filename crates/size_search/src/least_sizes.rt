@@ -30,9 +30,10 @@ pub(crate) fn least_sizes(
 }
 
 /// Returns the plan with its maximums raised until no maximum is below the core that its pool
-/// needs. One raise can make another necessary, so the raises are repeated, at most once for each
-/// pool. If no sizes are enough, or the certificate does not have the shape of the plan, the inner
-/// error is the reason.
+/// needs. The maximum of a pool whose core threads may time out stays unchanged. One raise can make
+/// another necessary, so the raises are repeated. There are at most as many repetitions as pools.
+/// If no sizes are enough, or the certificate does not have the shape of the plan, the inner error
+/// is the reason.
 fn widest(alloc: Global, plan: &Plan, cert: &Cert) -> Result<Result<Plan, FitError>, AllocError>
     ensures { IfOk result (λ answer. IfOk answer (IsLeastWide plan.now cert.now)) }
 {
@@ -72,8 +73,8 @@ fn obstacle_of_wide(unfit: FitError) -> Obstacle {
 }
 
 /// Returns the obstacle for the reason why the plan with raised maximums could not be fitted. If
-/// the reason is [`FitError::Core`], returns [`Obstacle::Unknown`]. The needed core is then above the
-/// pool's maximum, but not necessarily above `MAX_SIZE`.
+/// the reason is [`FitError::Core`], returns [`Obstacle::Unknown`], because the needed core is then
+/// above the pool's maximum, but not necessarily above `MAX_SIZE`.
 fn obstacle_of_fit(unfit: FitError) -> Obstacle {
     match unfit {
         FitError::Queue(pool) | FitError::CoreTimeout(pool) => Obstacle::Pool(pool),

@@ -1,5 +1,5 @@
-//! The levels, ranks and reaches of the steady certificate. The level of a class is above the levels
-//! of the classes that it submits.
+//! The levels, ranks and reaches of the steady certificate. The level of a class is above the
+//! levels of the classes that it submits.
 
 ghost use Rattle.std.specs.Prelude.{◌≡◌, ◌+◌, IfOk, length, slice_index};
 ghost use Rattle.job_bodies.specs.WellFormed.{IsWellFormed};
@@ -20,7 +20,7 @@ pub(crate) fn number_at(numbers: &[u64], place: usize) -> u64
     }
 }
 
-/// Returns the level of each class in the steady certificate: 0 if the class submits none, and
+/// Returns the level of each class in the steady certificate: 0 if the class submits no class, and
 /// otherwise 1 more than the greatest level of the classes that it submits. The result is
 /// meaningful only if no class submits itself, directly or through other classes.
 pub(crate) fn steady_levels(alloc: Global, plan: &Plan) -> Result<Vec<u64>, AllocError>
@@ -55,7 +55,7 @@ fn has_core_timeouts(plan: &Plan) -> bool
     plan.pools().iter().any(|pool| pool.core_timeout)
 }
 
-/// Returns the level of each node of the graph of waits (see [`wait_graph`]) in which every class
+/// Returns the level of each node of the graph of waits that [`wait_graph`] returns if every class
 /// is marked. The level of a node is 0 if it has no successors, and otherwise 1 more than the
 /// greatest level of its successors.
 fn levels_of_waits(alloc: Global, plan: &Plan) -> Result<Vec<u64>, AllocError>

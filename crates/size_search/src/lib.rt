@@ -2,7 +2,7 @@
 //! the search returns the cause.
 //!
 //! The heuristics of the search are not trusted: [`search_sizes`] returns only sizes that
-//! [`fitted`] or [`cert_check::accepts`] has accepted.
+//! [`fitted`] or [`cert_check::accepts`] has checked.
 #![tactic(auto)]
 
 mod attempt;

@@ -10,7 +10,7 @@ pub(crate) struct PoolThreads {
     pub(crate) max: u64,
     /// Whether the queue of the pool is unbounded. The maximum of such a pool has no effect.
     pub(crate) unbounded: bool,
-    /// Whether core threads may time out, so that a larger core or maximum does not help.
+    /// Whether core threads may time out. If they may, a larger core or maximum does not help.
     pub(crate) core_timeout: bool,
 }
 

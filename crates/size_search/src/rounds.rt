@@ -1,7 +1,7 @@
 //! The rounds in which pools get ranks. The blocked vector of a pool bounds the number of the
-//! pool's jobs that wait for other jobs. In each round, the pools whose cores are large enough for
-//! their blocked vectors get the number of the round as their rank. If there is no such pool, the
-//! round raises the core of one pool.
+//! pool's jobs that wait for other jobs. In each round, the unranked pools whose cores are large
+//! enough for their blocked vectors get the number of the round as their rank. If there is no such
+//! pool, the round raises the core of one pool, which then gets this rank.
 
 use crate::found::{AttemptError, Obstacle};
 use crate::pool_threads::{PoolThreads, maxes_of};
@@ -92,8 +92,8 @@ impl RankAssignment {
     }
 
     /// Gives the rank to one of the pools of `hits`. Raises the core of this pool, and if necessary
-    /// its maximum, to what its blocked vector needs. `choice` selects the pool: it is the index of
-    /// the pool, from 0, in ascending order of the necessary increases.
+    /// its maximum, to what its blocked vector needs. `choice` selects the pool: it is an index,
+    /// from 0, into the pools of `hits` in ascending order of the necessary increases.
     ///
     /// # Errors
     ///
@@ -118,7 +118,7 @@ impl RankAssignment {
 
     /// Returns the entries of `hits` whose pools need a core of at most `MAX_SIZE`. Each entry has
     /// a pool and the total of its blocked vector. A pool whose core threads may time out is
-    /// included only if it needs no larger core.
+    /// included only if a core of 1 is enough for it.
     fn within_limit(&self, alloc: Global, hits: &[CacheHit]) -> Result<Vec<CacheHit>, AllocError> {
         hits.iter()
             .filter(|hit| core_for(hit) <= MAX_SIZE && self.shortfall(hit) < u64::MAX)
@@ -126,9 +126,9 @@ impl RankAssignment {
             .collect(alloc)
     }
 
-    /// Returns the obstacle of a round that finds no candidate: for each pool without a rank, no
-    /// core up to `MAX_SIZE` is enough. The obstacle names the pool whose core and maximum would
-    /// have to grow least, in total.
+    /// Returns the obstacle of a round in which no core up to `MAX_SIZE` is enough for any pool
+    /// without a rank. The obstacle names the pool whose core and maximum would have to grow least,
+    /// in total.
     fn obstacle_of(&self, hits: &[CacheHit]) -> Obstacle {
         match self.choice_of(hits, 0) {
             Some(hit) => Obstacle::Pool(hit.pool),
@@ -139,7 +139,7 @@ impl RankAssignment {
     /// Returns one entry of `hits`. Each entry has a pool and the total of its blocked vector. The
     /// shortfall of a pool is how much its core and maximum must grow, in total, for its blocked
     /// vector. `choice` is the index of the returned entry, from 0, in ascending order of the
-    /// shortfalls. Returns `None` if there are not that many entries.
+    /// shortfalls. Returns `None` if `choice` is not below the number of entries.
     fn choice_of(&self, hits: &[CacheHit], choice: usize) -> Option<CacheHit> {
         for hit in hits {
             let shortfall = self.shortfall(hit);
@@ -178,14 +178,14 @@ fn core_for(hit: &CacheHit) -> u64 {
     hit.total.saturating_add(1)
 }
 
-/// Gives each pool a rank and a blocked vector, in rounds that start with the cores and maximums in
-/// `threads`.
+/// Gives each pool a rank and a blocked vector, in rounds. The first round starts with the cores
+/// and maximums in `threads`.
 ///
-/// - In each round, all pools whose cores are large enough for their blocked vectors get the number
-///   of the round as their rank.
+/// - In each round, all unranked pools whose cores are large enough for their blocked vectors get
+///   the number of the round as their rank.
 /// - If there is no such pool, the round raises the core of one pool and gives the rank to it. This
-///   is the pool with the smallest shortfall: the increase of its core plus the increase of its
-///   maximum.
+///   is the pool with the smallest shortfall: the necessary increase of its core plus the necessary
+///   increase of its maximum.
 /// - The first round that raises a core is an exception. It skips `passed_over` pools, in ascending
 ///   order of the shortfalls, and raises the core of the next pool.
 ///
@@ -195,8 +195,8 @@ fn core_for(hit: &CacheHit) -> u64 {
 /// # Errors
 ///
 /// Returns an obstacle if a round must raise a core, but no core up to `MAX_SIZE` is enough for any
-/// pool. The first such round also fails if such a core is enough only for pools that the round
-/// skips.
+/// unranked pool. The first such round also fails if such a core is enough only for pools that the
+/// round skips.
 pub(crate) fn assign_ranks(
     alloc: Global,
     cache: &mut VectorCache,
@@ -228,9 +228,9 @@ pub(crate) fn assign_ranks(
 }
 
 /// Executes the rounds of [`assign_ranks`], repeats them until no maximum grows, and returns the
-/// last assignment. The repetitions are necessary because a larger maximum can increase totals.
-/// Their number is limited. In the last possible repetition, workers have no weight, so that totals
-/// do not depend on maximums.
+/// last assignment. The repetitions are necessary because a larger maximum can increase totals. The
+/// number of repetitions is limited. In the last possible repetition, workers have no weight, so
+/// that totals do not depend on maximums.
 ///
 /// `passed_over` applies only to the first execution of the rounds. The field `choices` of the
 /// result describes only this execution.

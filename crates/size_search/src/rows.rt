@@ -1,7 +1,7 @@
-//! The rows of the vector of a plan's steady certificate. A row has the weights of one class or
-//! client kind. A row depends on the rows of the classes that this class or client kind submits.
-//! The level of a class is above the levels of the classes that it submits. So the rows are
-//! computed from the lowest level to the highest.
+//! The rows of the vector of a plan's steady certificate. In this module, a *row* is the list of
+//! the weights of one class or client kind. A row depends on the rows of the classes that this
+//! class or client kind submits. The level of a class is above the levels of the classes that it
+//! submits. So the rows are computed from the lowest level to the highest.
 
 ghost use Rattle.std.specs.Prelude.{◌≡◌, ◌≤◌, ◌<◌, ◌+◌, [], IfOk, IfSome, IfNone, false, length, map, slice_set, slice_index};
 ghost use Rattle.std.specs.Bool.{OnTrue, OnFalse};
@@ -25,9 +25,9 @@ fn put_row(jobs: &mut Vector, number: usize, row: Vec<u64>)
     jobs.classes[number] = row;
 }
 
-/// Computes and stores the row of one class, which has the weights of the class. `number` is the
-/// index of the class, and `level` is its level. If a weight in the row is above `MAX_WEIGHT`,
-/// stores nothing and returns `false`.
+/// Computes and stores the row of one class: the list of its weights. `number` is the index of the
+/// class, and `level` is its level. If one of the weights is above `MAX_WEIGHT`, stores nothing and
+/// returns `false`.
 fn set_class_row(
     alloc: Global,
     plan: &Plan,
@@ -53,8 +53,9 @@ fn set_class_row(
     Ok(true)
 }
 
-/// Computes and stores the row of the class if the class has this level. Does nothing if it has
-/// another level. If a weight in the row is above `MAX_WEIGHT`, stores nothing and returns `false`.
+/// Computes and stores the row of the class (the list of its weights) if the class has this level.
+/// Does nothing and returns `true` if it has another level. If one of the weights is above
+/// `MAX_WEIGHT`, stores nothing and returns `false`.
 fn set_row_of_level(
     alloc: Global,
     plan: &Plan,
@@ -80,8 +81,8 @@ fn set_row_of_level(
     }
 }
 
-/// Computes and stores the rows of the classes of this level. Stops and returns `false` at the
-/// first row with a weight above `MAX_WEIGHT`.
+/// Computes and stores the rows of the classes of this level. A row is the list of the weights of a
+/// class. Stops and returns `false` at the first row with a weight above `MAX_WEIGHT`.
 fn set_level_rows(
     alloc: Global,
     plan: &Plan,
@@ -106,7 +107,8 @@ fn set_level_rows(
     Ok(true)
 }
 
-/// Creates a vector with an empty row for each class, and without weights for workers and clients.
+/// Creates a vector with an empty list of weights for each class, and without weights for workers
+/// and clients.
 fn no_jobs(alloc: Global, plan: &Plan) -> Result<Vector, AllocError>
     ensures { IfOk result (λ jobs. IsComputedUpTo plan.now jobs 0 0) }
 {
@@ -121,8 +123,8 @@ fn no_jobs(alloc: Global, plan: &Plan) -> Result<Vector, AllocError>
     })
 }
 
-/// Returns a vector with the rows of all classes, and without weights for workers and clients. The
-/// rows are computed from the lowest level to the highest. Returns `None` if a weight in a row is
+/// Returns a vector with the weights of all classes, and without weights for workers and clients.
+/// The weights are computed from the lowest level to the highest. Returns `None` if one of them is
 /// above `MAX_WEIGHT`.
 pub(crate) fn jobs_of(
     alloc: Global,
@@ -146,7 +148,7 @@ pub(crate) fn jobs_of(
     Ok(Some(jobs))
 }
 
-/// Returns the rows of all client kinds. `jobs` has the rows of all classes.
+/// Returns the list of weights of each client kind. `jobs` has the weights of all classes.
 pub(crate) fn clients_of(
     alloc: Global,
     plan: &Plan,

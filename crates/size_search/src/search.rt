@@ -24,8 +24,8 @@ use std::alloc::{AllocError, Global};
 
 /// The maximum number of attempts that start with the declared sizes, in addition to the first
 /// attempt. These attempts differ in the pool whose core they raise first. In a plan with more than
-/// [`FEW_POOLS`] pools, it is also the maximum number of attempts that reset one pool to its
-/// declared core and maximum.
+/// [`FEW_POOLS`] pools, this number is also the maximum number of attempts that reset one pool to
+/// its declared core and maximum.
 const FURTHER_ATTEMPTS: usize = 3;
 
 /// The maximum number of pools in a small plan. In a small plan, each raised pool gets an attempt
@@ -36,12 +36,13 @@ const FEW_POOLS: usize = 8;
 /// Searches for sizes that make a certificate accept the plan, with few and small increases. If the
 /// certificate `first` already accepts the plan, returns the unchanged plan and `first`.
 ///
-/// The search makes several attempts. The result is the attempt with the smallest sum of increases.
-/// An attempt works in rounds, in which pools get ranks and blocked vectors, as in the search for a
+/// The search makes several attempts, and uses the attempt with the smallest sum of increases. An
+/// attempt works in rounds, in which pools get ranks and blocked vectors, as in the search for a
 /// certificate. If a round finds no pool with a large enough core, it raises the core of the pool
 /// that needs the smallest increase. After the rounds, the attempt computes the queues, and reduces
-/// all sizes to what the certificate needs. Later attempts raise another pool first, or start with
-/// one pool reset to its declared core and maximum.
+/// all sizes to what the certificate needs. Some later attempts raise the core of another pool
+/// first. Others start with the cores and maximums of the best attempt so far, but reset one pool
+/// to its declared core and maximum.
 ///
 /// The queue of a pool stays unchanged if the pool may reject jobs or the queue is unbounded. The
 /// certificate has a bound of such a pool only if the search finds a vector for which the queue is
@@ -54,8 +55,8 @@ const FEW_POOLS: usize = 8;
 /// needs one. A pool needs no bound if it may reject jobs or has an unbounded queue. The other
 /// blocked vectors are 0.
 ///
-/// The steady certificate is not used if it is too large. It is too large in the following cases.
-/// In the last two cases, possibly no sizes are enough for it.
+/// The steady certificate is not used in the following cases. In the last two cases, there may be
+/// no sizes with which it accepts the plan.
 ///
 /// - It needs sizes above 1,000,000.
 /// - It has a weight above [`MAX_WEIGHT`](job_bodies::MAX_WEIGHT).
@@ -67,18 +68,19 @@ const FEW_POOLS: usize = 8;
 /// If no sizes are found, one of these is the reason:
 ///
 /// - The plan has a [`Cause`](crate::Cause), so no sizes are enough.
-/// - The steady certificate is too large. Other sizes can exist.
+/// - The steady certificate is not used. Sizes for another certificate can exist.
 ///
-/// If none of these reasons holds, sizes are found. Unless the certificate is `first`, a new search
-/// then finds a certificate of the plan with these sizes.
+/// If none of these reasons holds, sizes are found. Unless the certificate is `first`, a search for
+/// a certificate of the plan with these sizes then succeeds.
 ///
 /// The contract proves that the certificate accepts the plan with the sizes that were found. It
-/// also proves that these sizes are the least for this certificate. Compare them with any other
-/// sizes that make the certificate accept the plan and are no smaller than the declared sizes:
+/// also proves that these sizes are the least for this certificate. Let the certificate also accept
+/// the plan with other sizes that are no smaller than the declared sizes. Then these statements
+/// hold:
 ///
-/// - No maximum and no core of the other sizes is smaller.
-/// - If the other sizes have the same maximums, no queue is smaller. With larger maximums, smaller
-///   queues can be enough.
+/// - No maximum and no core of the other sizes is smaller than the one that was found.
+/// - If the other sizes have the same maximums as those that were found, no queue is smaller
+///   either. With larger maximums, smaller queues can be enough.
 ///
 /// If a maximum was raised, it equals the core of the same pool. Another certificate can need
 /// smaller sizes.
@@ -117,8 +119,8 @@ fn search_without_first(alloc: Global, plan: &Plan) -> Result<SizesFound, AllocE
     Ok(found)
 }
 
-/// Searches for sizes that make the plan safe. [`cause_of`] must have found no cause by which the
-/// plan is unsafe with all sizes.
+/// Searches for sizes with which a certificate accepts the plan. The plan must have no cause (see
+/// [`cause_of`]).
 fn sizes_without_cause(alloc: Global, plan: &Plan) -> Result<SizesFound, AllocError>
     requires free { IsWithoutCause plan.now }
     requires well_formed { IsWellFormed plan.now }
@@ -145,7 +147,7 @@ fn sizes_by_rounds(alloc: Global, plan: &Plan) -> Result<Result<(Plan, Cert), Ob
     }
 }
 
-/// Returns a certificate that is likely to accept the plan after its sizes are raised. The
+/// Returns a certificate that is likely to accept the plan after the plan's sizes are raised. The
 /// certificate is not checked. Returns an obstacle if the search finds no certificate.
 pub(crate) fn unchecked_certificate(
     alloc: Global,
@@ -196,7 +198,7 @@ fn best_from_declared(
 /// Makes further attempts, and returns the attempt with the smallest sum of increases. This is
 /// `best` if no further attempt has a smaller sum. Each further attempt starts with the cores and
 /// maximums of the best attempt so far, but resets one pool to its declared core and maximum. This
-/// pool is one of the most raised pools.
+/// pool is one of the most raised pools (see [`most_raised_pools`]).
 fn improved_attempt(
     alloc: Global,
     cache: &mut VectorCache,
@@ -211,9 +213,9 @@ fn improved_attempt(
     Ok(best)
 }
 
-/// Makes an attempt that starts with these cores and maximums. Each round of the attempt raises a
-/// size. The first round that raises a core has several pools to choose from. Of these pools, in
-/// ascending order of the increases that they need, it skips the first `passed_over`.
+/// Makes an attempt that starts with these cores and maximums. The first round that raises a core
+/// skips `passed_over` pools, in ascending order of the increases that they need, and raises the
+/// core of the next pool.
 fn attempt(
     alloc: Global,
     cache: &mut VectorCache,
@@ -260,9 +262,9 @@ fn outcome(
     }
 }
 
-/// Returns the pools whose core plus maximum is larger in `best` than declared, in descending order
-/// of the increase. The maximum of a pool with an unbounded queue is ignored. If the plan has more
-/// than [`FEW_POOLS`] pools, returns at most [`FURTHER_ATTEMPTS`] pools.
+/// Returns the pools whose core or maximum is larger in `best` than declared, in descending order
+/// of the sum of both increases. The maximum of a pool with an unbounded queue is ignored. If the
+/// plan has more than [`FEW_POOLS`] pools, returns at most [`FURTHER_ATTEMPTS`] pools.
 fn most_raised_pools(
     alloc: Global,
     best: &Attempt,

@@ -23,9 +23,9 @@ const MAX_TURNS: usize = 4;
 #[derive(Drop)]
 enum Recheck {
     /// The search found a certificate that accepts the plan with these sizes, or the search was
-    /// skipped because no size has grown.
+    /// skipped because no size was raised.
     Same,
-    /// The search found a certificate that needs larger sizes.
+    /// The search found a certificate that needs larger sizes than these.
     More(Cert),
     /// The search found no certificate.
     Nothing,
@@ -33,15 +33,15 @@ enum Recheck {
 
 /// Searches for stable sizes. Sizes are *stable* if a new search finds a certificate that accepts
 /// the plan with these sizes. Returns the plan with the resulting sizes, and a certificate that
-/// accepts this plan. `fit` is the plan with the sizes that were found, and `cert` is a certificate
+/// accepts this plan. `fit` is `plan` with the sizes that were found, and `cert` is a certificate
 /// that accepts `fit`.
 ///
-/// 1. If no size of `fit` has grown, or if a new search finds a certificate that accepts `fit`,
-///    returns `fit` and `cert`.
+/// 1. If no size of `fit` is larger than in `plan`, or if a new search finds a certificate that
+///    accepts `fit`, returns `fit` and `cert`.
 /// 2. If the new search finds a certificate that needs larger sizes, repeats step 1 with this
-///    certificate and these sizes, at most [`MAX_TURNS`] times.
-/// 3. Otherwise returns the least sizes for the steady certificate. If these sizes are too large,
-///    returns `fit` and `cert`.
+///    certificate and these sizes. There are at most [`MAX_TURNS`] new searches.
+/// 3. In all other cases, returns the least sizes for the steady certificate. If these sizes are
+///    too large, returns the last `fit` and `cert`.
 pub(crate) fn stabilize(
     alloc: Global,
     plan: &Plan,
@@ -72,9 +72,9 @@ pub(crate) fn stabilize(
     or_fit_steady(alloc, plan, fit, cert)
 }
 
-/// Searches anew for a certificate of `fit`, which is the plan with the sizes that were found. If
-/// no size has grown, skips the search and returns [`Recheck::Same`], because the plan then keeps
-/// its certificate.
+/// Searches anew for a certificate of `fit`, which is `plan` with the sizes that were found. If no
+/// size of `fit` is larger than in `plan`, skips the search and returns [`Recheck::Same`], because
+/// the plan then keeps its certificate.
 fn recheck_plan(alloc: Global, plan: &Plan, fit: &Plan) -> Result<Recheck, AllocError> {
     if growth(plan, fit) == 0 {
         return Ok(Recheck::Same);

@@ -10,16 +10,17 @@ use weights::submitted_class;
 /// search. All known plans need less than a quarter of this number.
 const MAX_VECTORS: usize = 32_768;
 
-/// The kind of a vector, as a part of a cache key. For a blocked vector, it also says which gets
-/// are counted, and whether the workers of other pools can have weight. A counted get can block a
-/// thread that other jobs need. The vector that the search finds for a pool depends only on these
-/// values and the other fields of [`CacheKey`].
+/// The kind of a vector, as a part of a cache key. For a blocked vector, the kind also says which
+/// gets are counted, and whether the workers of other pools can have weight. A counted get can
+/// block a thread that other jobs need. The vector that the search finds for a pool depends only on
+/// these values and the other fields of [`CacheKey`].
 #[derive(PartialEq, Drop)]
 enum VectorKey {
     Standing,
     Lifetime,
     Blocked {
-        /// For each class, whether jobs of this pool have counted gets of jobs of that class.
+        /// For each class, whether jobs of this pool have counted gets that wait for jobs of that
+        /// class.
         counted: Vec<bool>,
         /// Whether the workers of other pools can have weight.
         lending: bool,
@@ -58,8 +59,8 @@ impl CacheEntry {
     ///
     /// - The maximum is the same as in the entry.
     /// - The maximum is larger than in the entry, but the workers of the pool got no weight in the
-    ///   search for this entry. The larger maximum then changes nothing. The workers still get no
-    ///   weight, because their weight would only add more to the total.
+    ///   search for this entry. The larger maximum then changes nothing: a weight of these workers
+    ///   would add even more to the total than before, so they still get none.
     fn is_valid_for(&self, maxes: &[u64]) -> bool {
         self.key.maxes.iter().zip(maxes).enumerate().all(|(pool, (before, now))| before == now
             || (before < now && !self.is_lender(pool)))
@@ -97,7 +98,8 @@ pub(crate) struct CacheHit {
 }
 
 impl CacheHit {
-    /// Returns the cache hit of a pool that has no vector.
+    /// Creates a cache hit without a vector, for the pool with this number. Its total is
+    /// `u64::MAX`, and its index is `None`.
     fn empty(pool: usize) -> CacheHit {
         CacheHit {
             pool,
@@ -226,9 +228,9 @@ impl PoolCache {
         })
     }
 
-    /// Returns, for each class, whether jobs of this pool have counted gets of jobs of that class.
-    /// Such a get is counted if the reach of the class is at least the rank of this pool. `rank` is
-    /// this rank, and `reach` has the reach of each class.
+    /// Returns, for each class, whether jobs of this pool have counted gets that wait for jobs of
+    /// that class. A get that waits for a job of a class is counted if the reach of the class is at
+    /// least `rank`, the rank of this pool. `reach` has the reach of each class.
     fn counted(&self, alloc: Global, reach: &[u64], rank: u64) -> Result<Vec<bool>, AllocError> {
         self.gets
             .iter()

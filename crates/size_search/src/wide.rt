@@ -1,4 +1,4 @@
-//! The plan with each maximum raised to the core that a certificate needs.
+//! Widened plans: plans whose maximums were raised to the cores that a certificate needs.
 
 ghost use Rattle.std.specs.Prelude.{◌≡◌, ◌<◌, if◌then◌else◌, IfOk, IfErr, IsTrue, Some, length, max};
 ghost use Rattle.job_bodies.specs.Plan.{pool_at};
@@ -14,8 +14,8 @@ use cert_text::Cert;
 use job_bodies::{Plan, Pool};
 use std::alloc::{AllocError, Global};
 
-/// Returns the maximum of the pool, but at least `core`. If core threads may time out, returns the
-/// maximum unchanged.
+/// Returns the maximum of the pool, raised to at least `core`. If core threads may time out,
+/// returns the maximum unchanged.
 fn raised_max(pool: &Pool, core: u64) -> u64
     ensures { result ≡ (if pool.now.core_timeout then pool.now.max else max pool.now.max core) }
 {
@@ -54,9 +54,9 @@ fn widened_pools(alloc: Global, plan: &Plan, cert: &Cert) -> Result<Vec<Pool>, A
     Ok(pools)
 }
 
-/// Returns the plan with each maximum raised to the core that the certificate needs. The maximum of
-/// a pool whose core threads may time out stays unchanged. If the raises increase totals, the
-/// certificate can need still larger cores.
+/// Returns the plan with each maximum raised to at least the core that the certificate needs. The
+/// maximum of a pool whose core threads may time out stays unchanged. The raised maximums can
+/// increase totals. The certificate can then need even larger cores.
 ///
 /// Each raise is necessary. Let the certificate accept the plan with other sizes, whose maximums
 /// are no smaller than the plan's. Then these maximums are no smaller than those of the result

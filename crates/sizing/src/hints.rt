@@ -2,7 +2,7 @@
 //! reports one of these mistakes:
 //!
 //! - A file lacks the text that must follow the plan.
-//! - A file has a text of another kind than the command reads.
+//! - A file has a text of another kind than the command expects in this file.
 //! - A line of a file ends with a carriage return.
 //! - The text of a file has a fault. The hint then says what to do.
 //!
@@ -47,7 +47,7 @@ pub(crate) enum Hint {
     FaultyPlan,
     /// The file has no certificate for the plan, and the plan has no fault.
     NoCertificate,
-    /// The file has a line that is no event, and the plan has no fault.
+    /// The file has a line that is not an event, and the plan has no fault.
     MalformedEvents,
 }
 
@@ -66,8 +66,8 @@ pub(crate) fn reason_of(rt: &impl Files, name: &str) -> &'static str {
 }
 
 /// Returns the reason why the file could not be written, or an empty text if the reason is not
-/// known. To find the reason, opens the file again, but neither creates nor changes this file.
-/// Opens only a regular file, because opening a pipe could block.
+/// known. To find the reason, opens the file again, but neither creates nor changes this file. Does
+/// not open a pipe or another special file, because this could block.
 pub(crate) fn reason_unwritten(rt: &impl Files, name: &str) -> &'static str {
     if is_special(rt, name) {
         return "";
@@ -109,7 +109,8 @@ fn is_directory(rt: &impl Files, name: &str) -> bool {
 
 /// Returns a hint about a likely mistake in a file, and the name of this file. `words` are the
 /// arguments of the command line, which name the files. Returns `None` if no file shows a known
-/// mistake. The caller must have run the command, which found a fault in a text.
+/// mistake. The caller must have run the command before, and the command must have found a fault in
+/// a text.
 pub(crate) fn hint_of<'a>(
     rt: &impl Files,
     alloc: Global,
@@ -128,7 +129,7 @@ pub(crate) fn hint_of<'a>(
     Some((name, hint_of_second(cli.command, &text, has_plan)?))
 }
 
-/// Returns `true` if the arguments name this file and it can be read.
+/// Returns `true` if there is a `name` and the file with this name can be read.
 fn is_readable(rt: &impl Files, alloc: Global, command: Command, name: Option<&str>) -> bool {
     let Some(name) = name else {
         return false;
@@ -207,8 +208,8 @@ fn hint_of_recording(text: &[u8]) -> Option<Hint> {
 }
 
 /// Returns a hint about the second file, which has the content `text`. `has_plan` says whether the
-/// arguments name a first file that could be read. The caller must have found no mistake in this
-/// file. Returns `None` in these cases:
+/// arguments name a first file that could be read. The caller must have found no mistake in the
+/// first file. Returns `None` in these cases:
 ///
 /// - The second file shows no known mistake.
 /// - The command is `ask`. Its answer already explains the mistake.

@@ -20,7 +20,7 @@ use std::alloc::{AllocError, Global};
 use std::marker::Model;
 use support::{Counter, FaultHead, number};
 
-/// The text that a command writes, and the status that it ends with.
+/// The text that a command writes, and the status with which the command ends.
 #[derive(Drop)]
 pub struct Answer {
     pub text: String,
@@ -93,15 +93,16 @@ pub fn no_separator(alloc: Global) -> Result<Answer, AllocError>
     fault(format!(in alloc; "{}", FaultHead(number::NO_SEPARATOR))?)
 }
 
-/// Returns the answer to an input that is too long, or to event lines that are too long.
+/// Returns the answer to an input that is too long as a whole, or whose event lines together are
+/// too long.
 pub fn input_too_long(alloc: Global) -> Result<Answer, AllocError>
     ensures { IfOk result (λ answer. answer ≡ spec.input_too_long) }
 {
     fault(format!(in alloc; "{}", FaultHead(number::INPUT_TOO_LONG))?)
 }
 
-/// Returns the answer to a plan that is too large to run. The answer names the limit that a run of
-/// the plan would exceed.
+/// Returns the answer to a plan that is too large to run. The answer names the first limit that a
+/// run of the plan would exceed.
 pub fn too_large(alloc: Global, plan: &Plan) -> Result<Answer, AllocError>
     ensures { IfOk result (λ answer. answer ≡ too_large plan.now) }
 {

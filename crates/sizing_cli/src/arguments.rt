@@ -40,10 +40,11 @@ use std::thread::Threads;
 /// written if its text is too long to be read back.
 ///
 /// The certificate file need not exist. A regular file is replaced only if it is empty or contains
-/// a JSON object with the keys of a certificate. The call fails before it reads the input in these
-/// cases:
+/// a JSON object with the keys of a certificate. In these cases, the call fails before it reads the
+/// input:
 ///
-/// - The certificate file is a regular file that has other content or cannot be read.
+/// - The certificate file is a regular file that cannot be read, or whose content may not be
+///   replaced.
 /// - The name of the certificate file is `-`, or is the name of a directory.
 ///
 /// # Errors
@@ -62,8 +63,8 @@ pub fn serve_words<'a, R: Threads + Wait + Sync, F: TextFiles, S: Source, K: Sin
     input: &mut S,
     sink: &mut K,
 ) -> Result<Status, CliError<'a>>
-    // What was written and the status belong to a possible answer of the named command to the named
-    // texts.
+    // The written bytes and the status are those of a possible answer of the named command to the
+    // named texts.
     ensures named { IfOk result (λ _.
         (is_some (command_of (map (λ word. word.now) words.now)) ≡ true)
         × (faults_of (map (λ word. word.now) words.now) ≡ [])) }
@@ -128,7 +129,8 @@ pub fn serve_words<'a, R: Threads + Wait + Sync, F: TextFiles, S: Source, K: Sin
     // A file whose content is known is never reported as unread.
     ensures unread { IfErr result (IsUnreadable (F.content files.old)) }
 
-    // If two texts are named, neither of them is a bundle.
+    // If two texts are named, neither of them is a bundle. Only the recording of `conform` may be
+    // one.
     ensures alone { IfOk result (λ _.
         IfSome
         (command_of (map (λ word. word.now) words.now))
@@ -139,7 +141,8 @@ pub fn serve_words<'a, R: Threads + Wait + Sync, F: TextFiles, S: Source, K: Sin
         (λ command. IsBundled command (F.content files.old) (S.remaining input.old) (files_of (map (λ word. word.now) words.now)) fault)) }
     ensures fault { IfErr result (IsFaultOf (map (λ word. word.now) words.now)) }
 
-    // The fault is 60 exactly if standard input failed, and 61 exactly if the sink failed.
+    // The error is `CliError::Serve` with fault 60 exactly if standard input failed, and with
+    // fault 61 exactly if the sink failed.
     ensures read_failed { S.failures input.new ≡ S.failures input.old + count_in READ_FAILED result }
     ensures write_failed { K.failures sink.new ≡ K.failures sink.old + count_in WRITE_FAILED result }
     ensures nothing { IfErr result

@@ -40,8 +40,8 @@ pub fn bundle_of(input: &[u8]) -> Option<Bundle<'_>>
 /// Splits an input at its first line `%%`. If this line is the last line of the input, it may have
 /// no newline. Returns `None` if no line is `%%`.
 ///
-/// The `conform` command splits its input in this way. A plan's text has no line `%%`, so any
-/// further line `%%` is in the recording. The command reports such a line as malformed, with its
+/// The `conform` command splits its input in this way. A plan's text has no line `%%`, so each line
+/// `%%` after the first is in the recording. The command reports such a line as malformed, with its
 /// line number.
 pub fn first_bundle_of(input: &[u8]) -> Option<Bundle<'_>>
     ensures { option_map (λ bundle. record { plan = bundle.plan.now; second = bundle.second.now })

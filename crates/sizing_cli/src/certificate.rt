@@ -70,8 +70,8 @@ fn workers_of(plan: &Plan, most: usize) -> usize
     most.min(plan.pools().len() / POOLS_OF_A_WORKER).max(1)
 }
 
-/// Searches for sizes, and returns the certificate of the sizes that it finds. Returns `None` if it
-/// finds no sizes, or if their certificate does not accept the declared sizes.
+/// Searches for sizes and a certificate that accepts them. Returns the certificate if it also
+/// accepts the declared sizes. Returns `None` if it does not, or if no sizes are found.
 fn certificate_of_sizes(alloc: Global, plan: &Plan) -> Result<Option<Cert>, AllocError>
     requires { accepted plan.now (steady_cert plan.now) ≡ false }
     ensures accepted { IfOk result

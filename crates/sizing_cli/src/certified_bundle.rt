@@ -58,8 +58,8 @@ fn join_texts(plan: Vec<u8>, cert: Vec<u8>) -> Result<Vec<u8>, AllocError>
     Ok(text)
 }
 
-/// Returns true if the text is a bundle with a plan of `plan_len` bytes, and `check` accepts this
-/// bundle.
+/// Returns true if two conditions hold: the text is a bundle whose plan has `plan_len` bytes, and
+/// `check` accepts this bundle.
 fn is_certified<R: Threads + Wait + Sync>(
     rt: &R,
     alloc: Global,

@@ -30,8 +30,10 @@ enum CertificateSearch {
 }
 
 /// Searches for a certificate for the plan in `input`. Returns the bundle of the plan and the
-/// certificate, after `check` accepted the bundle. If there is no such bundle, returns the reason.
-/// `workers`, from 1 to 64, is the maximum number of threads of the search and of the check.
+/// certificate, after `check` accepted the bundle. Returns the reason instead in these cases: the
+/// input has a fault, no certificate is found, or the text of the certificate would be too long to
+/// be read back. `workers`, from 1 to 64, is the maximum number of threads of the search and of the
+/// check.
 ///
 /// # Errors
 ///
@@ -148,7 +150,7 @@ fn bundle<R: Threads + Wait + Sync>(
             bytes,
             status: Status::Done,
         }),
-        // The check on threads contradicts the search. A check on one thread cannot contradict it.
+        // The check does not accept the bundle, which contradicts the search.
         None => Err(ServeFault { number: MIXED }),
     }
 }

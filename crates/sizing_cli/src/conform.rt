@@ -14,7 +14,7 @@ use job_bodies::{MAX_RECORDED_BYTES, Plan};
 use std::alloc::{AllocError, Global};
 
 /// Compares a recording with a plan, and returns the answer with the differences. The input is a
-/// bundle of the plan and the recording, split at its first line `%%`. Any further line `%%` is a
+/// bundle of the plan and the recording, split at its first line `%%`. Each later line `%%` is a
 /// malformed line of the recording. If the input has a fault, the answer is that fault.
 ///
 /// # Errors

@@ -90,8 +90,8 @@ pub fn serve_named<R: Threads + Wait + Sync, S: Source, K: Sink>(
     ensures serves { Serves command file.now (stream_change S.remaining S.failures source.old source.new)
         (stream_change K.written K.failures sink.old sink.new) result }
 
-    // If `ask` says that the plan is safe, `certificate` is the one that proves it, unless its text
-    // is too long to be read back.
+    // If `ask` says that the plan is safe, `certificate` is the text of the certificate that proves
+    // this, unless this text is too long to be read back.
     ensures left { IfOk result (λ status.
         IfSome (S.remaining source.old) (λ input.
         WritesWithCertificate command file.now input status (option_map (λ text. text.items) certificate.new)

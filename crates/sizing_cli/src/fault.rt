@@ -16,7 +16,7 @@ const USAGE: u8 = 2;
 /// The exit status for any error other than bad arguments.
 const NO_ANSWER: u8 = 3;
 
-/// The error that a command line ends with. Nothing was written, except in two cases:
+/// The error of [`serve_words`](crate::serve_words). Nothing was written, except in two cases:
 ///
 /// - If the sink failed, a prefix of the answer was written.
 /// - If the certificate's file could not be written, the whole answer was written.

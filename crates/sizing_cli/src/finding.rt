@@ -23,7 +23,7 @@ use std::alloc::{AllocError, Global};
 use std::sync::Wait;
 use std::thread::Threads;
 
-/// The maximum number of states that a search for a counterexample visits.
+/// The maximum number of states that a search for a witness visits.
 const STATES: usize = DEFAULT_STATES as usize;
 
 /// Decides whether a plan is safe. Returns the finding, and whether the given certificate is stale.
@@ -31,8 +31,11 @@ const STATES: usize = DEFAULT_STATES as usize;
 ///
 /// 1. If a certificate is given and accepts the plan, the plan is safe.
 /// 2. Otherwise, the plan is safe if a search finds a certificate.
-/// 3. Otherwise, further searches look for other sizes and for a witness. A witness shows that the
-///    plan is not safe.
+/// 3. Otherwise, the plan is not safe if a search finds a witness: events that show this.
+/// 4. Otherwise, the plan is safe if a search for sizes finds a certificate that also accepts the
+///    declared sizes. If the search finds none, the plan is undecided.
+///
+/// If the plan is undecided or not safe, the finding also has the result of the search for sizes.
 ///
 /// # Errors
 ///
@@ -89,9 +92,9 @@ fn search_finding<R: Threads + Wait + Sync>(
     }
 }
 
-/// Searches for a witness and for other sizes, and returns the finding. A witness is a list of
-/// events that shows that the plan is not safe. Before this call, a search found no certificate for
-/// the plan.
+/// Searches for a witness and for sizes, and returns the finding. A witness is a list of events
+/// that shows that the plan is not safe. Before this call, a search found no certificate for the
+/// plan.
 fn without_certificate(alloc: Global, plan: &Plan) -> Result<PlanFinding, AllocError>
     requires { accepted plan.now (steady_cert plan.now) ≡ false }
     ensures { IfOk result (IsFinding plan.now) }
@@ -104,8 +107,8 @@ fn without_certificate(alloc: Global, plan: &Plan) -> Result<PlanFinding, AllocE
     }
 }
 
-/// Returns the finding after the searches found no certificate and no counterexample. `sizes` is
-/// the result of a search for pool sizes that a certificate accepts. The plan is safe if sizes were
+/// Returns the finding after the searches found neither a certificate nor a witness. `sizes` is the
+/// result of a search for pool sizes that a certificate accepts. The plan is safe if sizes were
 /// found and their certificate also accepts the declared sizes. Otherwise, the plan is undecided.
 fn without_witness(alloc: Global, plan: &Plan, sizes: SizesFound) -> Result<PlanFinding, AllocError>
     requires known { IsKnown plan.now sizes }
@@ -118,9 +121,9 @@ fn without_witness(alloc: Global, plan: &Plan, sizes: SizesFound) -> Result<Plan
     }
 }
 
-/// Returns the finding that the plan is safe by this certificate. The finding also has a number for
-/// each pool: the number of events after which the pool rejects a job. This number is missing if a
-/// search found no such events.
+/// Returns the finding that the plan is safe by this certificate. The finding also has an entry for
+/// each pool: the number of events after which the pool rejects a job, or `None` if no such events
+/// are found.
 fn safe_finding(alloc: Global, plan: &Plan, cert: Cert) -> Result<PlanFinding, AllocError>
     requires { IsTrue (accepted plan.now cert) }
     ensures finding { IfOk result (IsFinding plan.now) }

@@ -32,8 +32,8 @@ use std::alloc::{AllocError, Global};
 
 /// Returns the answer for this finding.
 ///
-/// - `lowered` is the plan with lowered maximums, and a certificate that accepts it (see
-///   [`LoweredPlan`]). It is `None` if there is no such certificate.
+/// - `lowered` has the plan with lowered maximums, and a certificate that accepts this plan (see
+///   [`LoweredPlan`]). `lowered` is `None` if no such certificate was found.
 /// - `file` is the name that messages use for the plan's file.
 /// - `is_stale` is true if a certificate was given and does not accept the plan.
 pub(crate) fn answer_of(
@@ -102,7 +102,7 @@ fn plan_warnings(
     }
 }
 
-/// Returns the warnings about `plan` if a certificate accepts the lowered plan (see
+/// Returns the warnings about `plan` for the case that a certificate accepts the lowered plan (see
 /// [`LoweredPlan`]). `lowered` has the lowered plan and this certificate.
 fn lowered_warnings(
     alloc: Global,
@@ -137,7 +137,7 @@ fn declared_warnings(
 }
 
 /// Returns, for each pool, a queue capacity that a certificate proves to be enough. An element is
-/// `None` if the certificate proves no capacity for the pool. The certificate depends on the
+/// `None` if the certificate proves no such capacity for the pool. The certificate depends on the
 /// finding:
 ///
 /// - If the plan is safe, it is the certificate that shows this.

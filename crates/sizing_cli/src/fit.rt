@@ -119,8 +119,9 @@ fn sizes_of<R: Threads + Wait + Sync>(
     Ok(search_sizes(alloc, plan, first)?)
 }
 
-/// Returns the answer with a line for each pool. A line has the sizes that were found for its pool.
-/// If no sizes were found, the answer has the reason.
+/// Returns the answer as lines: one for each pool, with the sizes that were found for it, and a
+/// last line with the number of sizes that change. If no sizes were found, the answer has the
+/// reason.
 fn lines_of(alloc: Global, plan: &Plan, found: &SizesFound) -> Result<Answer, AllocError>
     ensures { IfOk result (λ answer. answer ≡ spec.lines_answer plan.now found.now) }
 {
@@ -144,7 +145,7 @@ fn sizes(alloc: Global, plan: &Plan, fit: &Plan) -> Result<Answer, AllocError>
     })
 }
 
-/// Returns the answer that no sizes were found, with the reason.
+/// Returns the answer that says that no sizes were found, and why.
 fn no_sizes(alloc: Global, plan: &Plan, cause: NoSizes) -> Result<Answer, AllocError>
     ensures { IfOk result (λ answer. answer ≡ spec.no_sizes_answer plan.now cause) }
 {
@@ -199,7 +200,7 @@ fn bundle_of_sizes<R: Threads + Wait + Sync>(
             bytes,
             status: Status::Done,
         }),
-        // The check on threads contradicts the search. A check on one thread cannot contradict it.
+        // The check does not accept the bundle, which contradicts the search.
         None => Err(ServeFault { number: MIXED }),
     }
 }

@@ -3,12 +3,12 @@
 ghost use Rattle.sizing_cli.specs.Laws.{InputsSplitAtTheLastSeparator, NoBundleWithoutASeparator};
 ghost use Rattle.sizing_cli.specs.SafeInput.{YesMeansSafe};
 
-/// States which inputs are bundles. An input is a bundle if it consists of three groups of whole
-/// lines, and no other input is a bundle. The groups are:
+/// States which inputs are bundles. An input is a bundle if it consists of these three parts, and
+/// no other input is a bundle:
 ///
-/// - the plan's text;
-/// - a line that is exactly `%%`;
-/// - a second part, in which no line is `%%`.
+/// - the plan's text, which is empty or ends with a newline;
+/// - a line that is exactly `%%`, whose newline may be missing if the second part is empty;
+/// - the second part, in which no line is `%%`.
 pub fn inputs_split_at_the_last_separator()
     ensures { InputsSplitAtTheLastSeparator }
 {}

@@ -79,7 +79,7 @@ fn learn_from_all(alloc: Global, strict: bool, recording: &[u8]) -> Result<Answe
 }
 
 /// Returns the answer for the derived plan. In this plan, a pool may reject jobs if it rejects jobs
-/// in the recording. The answer is one of these:
+/// in the recording or has a queue of 0. The answer is one of these:
 ///
 /// - a message that the text of the plan would be too long;
 /// - the list of differences, if `strict` is true and the recording does not conform to the plan;
@@ -199,7 +199,7 @@ fn push_head(text: &mut String, seen: &InferredPlan) -> Result<(), AllocError>
     push_failed_gets(text, seen.failed_gets)
 }
 
-/// Appends the comment with the number of rounds and jobs that the plan was derived from. A round
+/// Appends the comment with the numbers of rounds and jobs from which the plan was derived. A round
 /// is one pass of a client through its body.
 fn push_extent(text: &mut String, rounds: usize, jobs: usize) -> Result<(), AllocError>
     ensures { Pushes result text.old text.new (spec.extent_comment rounds jobs) }
@@ -354,7 +354,7 @@ fn are_of_actors(findings: &[Finding]) -> bool
 
 /// Returns true if the finding shows that a derived plan does not explain a job or a round. A round
 /// is one pass of a client through its body. Such a finding is about the label or the path of a job
-/// or round. It can also be about a client kind, a `[[client]]` of the plan, with too many rounds.
+/// or round, or about a client kind (a `[[client]]` of the plan) with too many rounds.
 fn is_of_actors(finding: &Finding) -> bool
     ensures { result ≡ is_of_actors finding.now }
 {

@@ -41,7 +41,7 @@ pub(crate) struct LoweredPlan {
 /// # Errors
 ///
 /// - Fails with fault 20 if memory runs out or a thread cannot be started.
-/// - Fails with fault 42 or 43 if a search ends with that fault.
+/// - Fails with fault 42 or 43 if the search ends with that fault.
 pub(crate) fn lowered_plan<R: Threads + Wait + Sync>(
     rt: &R,
     alloc: Global,

@@ -54,8 +54,9 @@ pub(crate) fn read_texts<'a, F: TextFiles, S: Source>(
 }
 
 /// Reads the two texts of the command, and joins them with a line `%%`. The result must split into
-/// the same two texts again, so neither text may have a line `%%` itself. Only the recording of
-/// `conform` may have such lines, because `conform` splits its input at the first one.
+/// the same two texts again, so neither text may have a line `%%` itself. The exception is the
+/// recording of `conform`: it may have such lines, because `conform` splits its input at the first
+/// one.
 fn read_both<'a, F: TextFiles, S: Source>(
     alloc: Global,
     command: Command,
@@ -141,7 +142,7 @@ fn ensure_alone<'a>(name: Option<&'a str>, text: &[u8]) -> Result<(), CliError<'
 }
 
 /// Returns true for `conform`, which splits its input at the first line `%%`. Every other command
-/// splits it at the last one.
+/// splits its input at the last one.
 fn splits_at_first(command: Command) -> bool
     ensures { result ≡ spec.splits_at_first command }
 {

@@ -73,8 +73,8 @@ fn refute_plan<R: Threads + Wait + Sync>(
     }
 }
 
-/// Searches for a counterexample, and returns the answer. Before this call, no certificate was
-/// found for the plan.
+/// Searches for a witness, and returns the answer. Before this call, no certificate was found for
+/// the plan.
 fn without_certificate(
     alloc: Global,
     states: usize,
@@ -137,7 +137,7 @@ fn story(alloc: Global, plan: &Plan, witness: &Witness) -> Result<Answer, AllocE
 }
 
 /// Returns a bundle: the plan's text, a line `%%`, and the event lines of `witness`. If the event
-/// lines are too long, the answer says only that.
+/// lines together are too long, returns an answer that says only this.
 fn bundle(
     alloc: Global,
     plan: &Plan,
@@ -159,7 +159,7 @@ fn bundle(
     })
 }
 
-/// Returns the answer that the plan is safe, because a certificate accepts it.
+/// Returns the answer for a plan that a certificate accepts. The answer says that the plan is safe.
 fn safe(alloc: Global, refute_format: RefuteFormat) -> Result<Answer, AllocError>
     ensures { IfOk result (λ answer. answer ≡ spec.safe_answer refute_format) }
 {
@@ -170,8 +170,8 @@ fn safe(alloc: Global, refute_format: RefuteFormat) -> Result<Answer, AllocError
     )
 }
 
-/// Returns the answer that neither a certificate nor a counterexample was found, with the number of
-/// states that were searched.
+/// Returns the answer that says that neither a certificate nor a witness was found, and how many
+/// states were searched.
 fn not_decided(
     alloc: Global,
     refute_format: RefuteFormat,
@@ -203,8 +203,8 @@ fn events_too_long(alloc: Global) -> Result<Answer, AllocError>
     Answer::no(alloc, "no bundle: too many events\n")
 }
 
-/// Returns the status of an answer that has no counterexample. If the user requested a bundle of
-/// the plan and events, this is [`Status::Refused`]. Otherwise it is `status`.
+/// Returns the status of an answer that has no witness. If the user requested a bundle of the plan
+/// and events, this is [`Status::Refused`]. Otherwise it is `status`.
 fn without_bundle(refute_format: RefuteFormat, status: Status) -> Status
     ensures { result ≡ spec.without_bundle refute_format status }
 {

@@ -13,8 +13,8 @@ use std::alloc::{AllocError, Global};
 const STATES: usize = 100_000;
 
 /// Returns an element for each pool: the number of events after which the pool rejects a job, or
-/// `None` if no such events are found. The search skips each pool whose queue the certificate
-/// bounds. If the certificate accepts the plan, such a pool never rejects a job.
+/// `None` if no such events are found. The search skips a pool if the certificate bounds the pool's
+/// queue. If the certificate accepts the plan, such a pool never rejects a job.
 #[tactic(auto, using(crate::proofs::RejectionLists::one_more))]
 pub(crate) fn rejections_of(
     alloc: Global,

@@ -22,7 +22,7 @@ pub enum Status {
     /// The answer is no. For example:
     ///
     /// - The plan is not safe.
-    /// - An event was refused or impossible, or jobs are stuck.
+    /// - A submit was refused, an event was impossible, or jobs are stuck.
     /// - A condition of the certificate fails.
     /// - `certify` found no certificate, or `fit` found no sizes.
     /// - `fit` lists a size that differs from the declared size.
@@ -64,7 +64,7 @@ impl Status {
 /// The fault of a command that gave no complete answer. The number of the fault is one of these:
 ///
 /// - 20 (`Memory`): memory ran out, or a thread could not be started.
-/// - 41 (`Strange`): the records that a run's threads kept of their own events were wrong (see
+/// - 41 (`Strange`): the receipts of a run's threads were wrong (see
 ///   [`RunFault`](locked_runner::RunFault)).
 /// - 42 (`Mixed`): the history of a run or the results of a search's threads were inconsistent (see
 ///   also [`SearchFault`]), or a check rejected what a search found.

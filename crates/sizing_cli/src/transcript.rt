@@ -19,8 +19,8 @@ use std::alloc::{AllocError, Global};
 use support::Counter;
 
 /// Replays the event lines from the plan's start state, and returns the answer with the replies.
-/// The replay stops at the first impossible event, whose reply is the last one. The lines after
-/// this event are still parsed.
+/// The replay stops at the first impossible event, and the reply to this event is the last reply.
+/// The lines after this event are still parsed.
 ///
 /// If a line is malformed, the answer reports only the first malformed line, without any replies.
 /// So the answer is known only after all lines are read.

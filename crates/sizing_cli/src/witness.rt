@@ -60,9 +60,9 @@ fn confirm(
 }
 
 /// Returns a vector for each pool, in plan order. A vector gives a weight to each actor position
-/// and worker. The vector can prove that the pool never starts a thread above its core size. If the
-/// search finds no such vector, the vector of the pool has no weights. The list is empty if a class
-/// submits itself, directly or through other classes.
+/// and worker. It is a vector that can prove that its pool never starts a thread above the core
+/// size. If the search finds no such vector for a pool, the vector of this pool has no weights. The
+/// list is empty if a class submits itself, directly or through other classes.
 fn standing_vectors(alloc: Global, plan: &Plan) -> Result<Vec<Vector>, AllocError> {
     let mut vectors = Vec::new(alloc);
     let Some(levels) = Levels::of(alloc, plan)? else {

@@ -4,14 +4,15 @@
 //! - A *take* is the event in which a worker takes a job from a queue.
 //! - The *remaining work* of a job is the number of job events and takes that are still needed to
 //!   finish the job and all jobs that it will submit.
-//! - A *vector* has one weight for each actor position and worker. A *standing* or *lifetime*
-//!   vector bounds the queue of a pool. The *rows* of a vector are the conditions on it.
+//! - A *vector* gives a weight to each worker, to each client at each position of its body, and to
+//!   each job at each stage. A *standing* or *lifetime* vector bounds the queue of a pool. The
+//!   *rows* of a vector are the conditions on it.
 //! - A pool that must not reject jobs *refuses* a job if it has no room. A pool that may reject
 //!   jobs *rejects* the job in this case. The submit is then skipped together with its get, and
 //!   does not count as refused.
-//! - Java *looks* at a pool whose core threads may time out, after each successful offer and after
-//!   the end of each thread. In a look, Java starts a thread if a job is queued and the pool has no
-//!   thread. Other events can occur before that look.
+//! - If core threads of a pool may time out, Java *looks* at the pool after each offer that queues
+//!   a job, and after each end of a thread. In a look, Java starts a thread if a job is queued and
+//!   the pool has no thread. Other events can occur before the look.
 
 ghost use Rattle.soundness.specs.Headline.{
   AcceptedPlansAreSafe,
@@ -31,8 +32,8 @@ ghost use Rattle.soundness.specs.Headline.{AcceptedBoundsNeverReject, AcceptedBo
 /// state, these facts hold:
 ///
 /// - No submit was refused.
-/// - No set of unfinished jobs waits only for its own members. A running job counts as waiting even
-///   before it reaches its get.
+/// - No set of unfinished jobs waits only for its own members. A running job counts as waiting for
+///   a job that it submitted, even if it has not reached its get of that job yet.
 /// - No pool has more threads than its maximum.
 /// - No bounded queue has more jobs than its capacity. If the capacity is 0, the queue has at most
 ///   as many jobs as its pool has idle workers.
@@ -60,10 +61,10 @@ pub fn accepted_plans_drain()
     ensures { AcceptedPlansDrain }
 {}
 
-/// States that a well-formed plan refuses no submit if the bounds of its pools hold. The law says
-/// nothing about jobs that wait for each other. So it needs neither the ranks nor the blocked
-/// vectors of a certificate, which concern such waits. One of these conditions must hold for each
-/// pool:
+/// States that a well-formed plan refuses no submit if each pool has a valid bound or needs none.
+/// The law says nothing about jobs that wait for each other. So it needs neither the ranks nor the
+/// blocked vectors of a certificate, which concern such waits. For each pool, one of these
+/// conditions must hold:
 ///
 /// - The pool has a bound, which is a standing or a lifetime vector, and the rows (the conditions)
 ///   of this vector hold. In this vector, a rejected job weighs at most as much as a queued job of
@@ -122,8 +123,8 @@ pub fn bounded_plans_java_refuse_nothing()
     ensures { BoundedPlansJavaRefuseNothing }
 {}
 
-/// States that no call of Java's `execute` ever finds the queue full in a pool with a standing
-/// vector. Such a vector limits the number of jobs in the queue at one time. So no call requests a
+/// States that no call of Java's `execute` ever finds the queue of a pool full if the pool has a
+/// standing vector, which limits the number of jobs in the queue at one time. So no call requests a
 /// thread above core from this pool. All pools of the plan must satisfy the conditions of
 /// [`bounded_plans_refuse_nothing`].
 pub fn standing_pools_are_not_asked()
@@ -145,7 +146,7 @@ pub fn accepted_plans_may_skip()
 
 /// States that accepted plans make progress even if actors skip submits and exchange their jobs of
 /// one class. Let a certificate accept a well-formed plan. Then one of these events is possible in
-/// every reachable state with an unfinished job, without a further skip or exchange:
+/// every reachable state with an unfinished job, without a skip or an exchange before it:
 ///
 /// - An event of a job.
 /// - A take from a queue.
@@ -171,7 +172,7 @@ pub fn accepted_plans_drain_with_skips()
 {}
 
 /// States that a pool with a bound rejects no job. Let a certificate accept a well-formed plan, and
-/// let the certificate have a bound of some pool. Then this pool rejects no job in any reachable
+/// let the certificate have a bound for some pool. Then this pool rejects no job in any reachable
 /// state, even if the plan says that the pool may reject jobs.
 pub fn accepted_bounds_never_reject()
     ensures { AcceptedBoundsNeverReject }
@@ -179,7 +180,8 @@ pub fn accepted_bounds_never_reject()
 
 /// States the law [`accepted_bounds_never_reject`] under the assumptions of
 /// [`accepted_plans_may_skip`]. If a call of Java's `execute` requests a thread of a pool with a
-/// bound, the pool has fewer threads than its maximum. So the pool refuses and rejects no job.
+/// bound, the pool has fewer threads than its maximum. So the pool neither refuses nor rejects a
+/// job.
 pub fn accepted_bounds_never_decline()
     ensures { AcceptedBoundsNeverDecline }
 {}

@@ -9,16 +9,16 @@ ghost use Rattle.soundness.specs.WithRoom.{RefusedWithRoom, StartedWithRoom};
 /// is in progress, and no look at a pool is due. In a look, Java checks whether the pool needs a
 /// thread.
 ///
-/// The reason is that no other event has to occur between the steps of a submit, or between the end
-/// of a thread and the look at its pool. If core threads of a pool may time out, the plan must be
+/// The reason is that the steps of a submit can follow each other directly, and so can the end of a
+/// thread and the look at its pool. If core threads of a pool may time out, the plan must be
 /// well-formed.
 pub fn atomic_states_are_reached()
     ensures { AtomicStatesAreReached }
 {}
 
 /// States that Java can refuse a submit while the queue has room and a thread is idle. This happens
-/// if the queue was full when the call of `execute` offered its job. When the call then requests a
-/// thread, the pool has its maximum of threads.
+/// if the queue was full when the call of `execute` offered its job, and the pool has its maximum
+/// of threads when the call then requests a thread.
 pub fn java_may_refuse_with_room()
     ensures { RefusedWithRoom }
 {}

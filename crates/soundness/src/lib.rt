@@ -1,4 +1,4 @@
-//! What the conditions of a certificate guarantee for every state that a plan reaches.
+//! What the conditions of a certificate guarantee for every state that a plan can reach.
 //!
 //! Each theorem is the contract of a function with an empty body. The definitions are in `specs/`.
 //! A running program uses only [`Note`] and its [`Section`]. The theorems also hold if a submit

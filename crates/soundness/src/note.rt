@@ -3,8 +3,8 @@
 use weights::{Place, Rule};
 
 /// A section of a certificate's conditions: the conditions of the ranks, or those of one vector of
-/// a pool. The ranks determine which gets can block a thread that other jobs need. The field of a
-/// variant is the index of the vector's pool.
+/// a pool. The ranks determine which gets can block a thread that other jobs need. Each variant for
+/// a vector has the index of the vector's pool.
 #[derive(Clone, Copy, Debug, PartialEq, Eq)]
 pub enum Section {
     Ranks,

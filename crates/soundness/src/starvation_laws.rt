@@ -9,9 +9,9 @@ ghost use Rattle.soundness.specs.Drain.{FullIsWhole, FullIsOfThePlan};
 
 /// Proves a limit on how many jobs of a pool can be blocked. A running job *can be blocked* if its
 /// current action or a later action is a counted get. Such a get can block a thread that other jobs
-/// need. Let the rows (the conditions) of a certificate's ranks hold, which determine the counted
-/// gets. Let the rows of its blocked vector for the pool also hold. Then the number of jobs that
-/// can be blocked has two limits in every reachable state:
+/// need. The ranks of a certificate determine which gets are counted. Let the rows (the conditions)
+/// of the ranks and of the pool's blocked vector hold. Then the number of the pool's jobs that can
+/// be blocked has two limits in every reachable state:
 ///
 /// - It is at most the total of the blocked vector.
 /// - It is less than the pool's core size. If core threads may time out, it is 0.
@@ -30,8 +30,9 @@ pub fn no_loose_waiting_sets()
     ensures { NoLooseWaitingSets }
 {}
 
-/// States the *work* of a new job, if the rows (the conditions) of the ranks hold. The work is the
-/// number of events of the job and of all jobs that it causes. It is the sum of these numbers:
+/// States what the *work* of a new job is, if the rows (the conditions) of the ranks hold. The work
+/// is the number of events of the job and of all jobs that it submits, directly or through other
+/// jobs. It is the sum of these numbers:
 ///
 /// - One event for each action of the job's body.
 /// - One event for the take of the job from the queue, and one for its end.
@@ -41,8 +42,8 @@ pub fn full_is_whole()
 {}
 
 /// States that the work of a new job depends only on the plan, although its definition uses ranks.
-/// The work is the number of events of the job and of all jobs that it causes. It is the same for
-/// all ranks that satisfy their rows (the conditions).
+/// The work is the number of events of the job and of all jobs that it submits, directly or through
+/// other jobs. It is the same for all ranks whose rows (the conditions) hold.
 pub fn full_is_of_the_plan()
     ensures { FullIsOfThePlan }
 {}

@@ -4,8 +4,8 @@
 //! clients, its jobs and its workers that are not busy. Each pool counts here as if it had its
 //! maximum of workers.
 //!
-//! The laws require that *rejected jobs are light*: if a pool may reject jobs, a done job of its
-//! classes weighs at most as much as a queued one.
+//! The laws require that *rejected jobs are light*: if a pool may reject jobs, a done job of each
+//! of its classes weighs at most as much as a queued job of the same class.
 //! [`done_within_queued`](crate::done_within_queued) proves this condition from the rows of the
 //! ranks and of the vector.
 
@@ -27,8 +27,8 @@ pub fn sum_stays_within_total()
     ensures { SumStaysWithinTotal }
 {}
 
-/// States that a pool refuses and rejects no job in any reachable state. The pool must have a
-/// standing or a lifetime vector, and the rows (the conditions) of this vector must hold. In this
+/// States that a pool neither refuses nor rejects a job in any reachable state. The pool must have
+/// a standing or a lifetime vector, and the rows (the conditions) of this vector must hold. In this
 /// vector, a rejected job must weigh at most as much as a queued job. Nothing is assumed about the
 /// other pools.
 pub fn bounds_refuse_nothing()

@@ -7,8 +7,8 @@ ghost use Rattle.support.specs.Each.{IsReadOfEach};
 use crate::ReadError;
 use std::alloc::Global;
 
-/// Calls `read` with the index and a reference to each element, in order, and returns the list of
-/// the results.
+/// Calls `read` for each element in order, with the index of the element and a reference to it.
+/// Returns the list of the results.
 ///
 /// # Errors
 ///

@@ -6,7 +6,7 @@ ghost use Rattle.std.specs.Borrow.{sem};
 ghost use Rattle.support.specs.Entry.{has_number, is_free_for, value_in};
 ghost use Rattle.support.specs.MutEntry.{returns_mut_value_in};
 
-/// An entry of the map: a number, which is the key, and its value.
+/// An entry of an [`IdMap`](crate::IdMap): a number, which is the key, and its value.
 #[derive(Drop)]
 pub(crate) struct Entry<V> {
     pub(crate) number: usize,

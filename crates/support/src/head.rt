@@ -7,7 +7,8 @@ use crate::name_of;
 use std::fmt;
 
 /// The start of the text of a fault: the number and the name of the fault, such as
-/// `fault 6 BadName`. The position of the fault can follow.
+/// `fault 6 BadName`. The field is the number. In the whole text, the position of the fault can
+/// follow.
 #[derive(Clone, Copy, PartialEq, Eq)]
 pub struct FaultHead(pub u8);
 

@@ -79,7 +79,7 @@ pub const GATE: u8 = 43;
 pub const NO_SEPARATOR: u8 = 50;
 /// An event line is malformed, or names a pool that does not exist.
 pub const BAD_EVENT: u8 = 51;
-/// The input or its event lines are too long.
+/// The whole input is too long, or its event lines together are too long.
 pub const INPUT_TOO_LONG: u8 = 52;
 /// A line of a recording is malformed, or breaks a rule of recordings.
 pub const BAD_RECORDING: u8 = 53;

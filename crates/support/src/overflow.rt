@@ -15,8 +15,9 @@ use std::marker::Model;
 /// A map from numbers to values, as a part of an [`IdMap`](crate::IdMap). It has the entries whose
 /// slot was occupied when they were inserted.
 ///
-/// Look-ups in this map are rare, so its methods are not inlined. A caller first checks whether the
-/// map is empty, because a look-up in an empty map would still hash the number.
+/// Look-ups in this map are rare, so the methods that hash a number are not inlined. Most callers
+/// first check whether the map is empty, because a look-up in an empty map would still hash the
+/// number.
 #[derive(Drop)]
 pub(crate) struct OverflowMap<V> {
     map: HashMap<usize, V>,

@@ -17,7 +17,7 @@ ghost use Rattle.weights.specs.Blocked.{is_get, counted_rows, blocked_rows};
 use crate::{Counted, FirstFault, GetReturn, Place, Row, RowVisitor, Rule, Vector};
 use job_bodies::{Action, Class, Plan};
 
-/// A [`Row`] of a blocked vector. Its condition does not hold: `left` is greater than `right`.
+/// A failing [`Row`] of a blocked vector: its `left` is greater than its `right`.
 pub type BlockedFault = Row;
 
 /// Passes condition B1 (see [`Rule`]) to the visitor if `action` is a counted get. Otherwise does

@@ -42,8 +42,8 @@ pub(crate) struct Body<'a> {
     pub(crate) weights: &'a [u64],
 }
 
-/// Returns the index of the submitted class. The submit is at position `submit` of the body.
-/// Returns 0 if there is no submit at this position.
+/// Returns the index of the class that is submitted at position `submit` of a body, or 0 if there
+/// is no submit at this position. `actions` has the actions of the body.
 pub fn submitted_class(actions: &[Action], submit: usize) -> usize
     ensures { result ≡ submitted_class actions.now submit }
 {

@@ -1,4 +1,4 @@
-//! The test that a vector has the shape of a plan, and that each of its numbers is at most
+//! The test that a vector has the shape of a plan, and that each number of the vector is at most
 //! [`MAX_WEIGHT`]. A body with `n` actions has the positions 0 to `n`. Position 0 is before the
 //! first action, and position `n` is after the last action.
 
@@ -33,10 +33,10 @@ impl Vector {
     /// Returns whether the vector has the shape of the plan, and each number is at most
     /// [`MAX_WEIGHT`]. A vector has the shape of the plan if it has these numbers:
     ///
-    /// - A number for a worker of each pool.
-    /// - For each class, a number for a queued job, for a job at each position of the body, and for
-    ///   a done job.
-    /// - For each client kind, a number for a client at each position of the body.
+    /// - For each pool, one number for a worker.
+    /// - For each class, one number for a queued job, one for a job at each position of the body,
+    ///   and one for a done job.
+    /// - For each client kind, one number for a client at each position of the body.
     pub fn fits(&self, plan: &Plan) -> bool
         ensures { result ≡ spec.vector_fits plan.now self.now }
     {
@@ -45,10 +45,10 @@ impl Vector {
 
     /// Returns whether the vector has the shape of the plan, which means that it has these numbers:
     ///
-    /// - A number for a worker of each pool.
-    /// - For each class, a number for a queued job, for a job at each position of the body, and for
-    ///   a done job.
-    /// - For each client kind, a number for a client at each position of the body.
+    /// - For each pool, one number for a worker.
+    /// - For each class, one number for a queued job, one for a job at each position of the body,
+    ///   and one for a done job.
+    /// - For each client kind, one number for a client at each position of the body.
     fn has_shape(&self, plan: &Plan) -> bool
         ensures { result ≡ spec.has_shape plan.now self.now }
     {

@@ -9,9 +9,10 @@ use crate::Rule;
 /// The kind of the vector decides which variant applies.
 #[derive(Clone, Copy, PartialEq, Eq)]
 pub enum GetReturn {
-    /// The weight that the got job has when it is done. Standing and blocked vectors use this.
+    /// The weight of the done job that the actor gets. Standing and blocked vectors use this
+    /// variant.
     DoneWeight,
-    /// No weight. Lifetime vectors use this.
+    /// No weight. Lifetime vectors use this variant.
     NoWeight,
 }
 

@@ -1,5 +1,5 @@
-//! The parts of a certificate and the conditions on them. The parts are the ranks of pools and
-//! vectors of weights. The vectors bound the numbers of queued, submitted and blocked jobs.
+//! Vectors of weights, ranks of pools, and the conditions on them. A certificate consists of such
+//! vectors and ranks. The vectors bound the numbers of queued, submitted and blocked jobs.
 //!
 //! A [`Row`] is one condition at one place of the plan. A walk over the conditions passes each row
 //! to a [`RowVisitor`]. Functions such as [`Vector::standing_fault`] return the first condition

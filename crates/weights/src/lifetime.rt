@@ -31,7 +31,7 @@ pub(crate) fn lifetime_limit(pool: &Pool) -> u64
     }
 }
 
-/// Passes condition [`Rule::L1`] for each pool to the visitor.
+/// Passes condition [`Rule::L1`] to the visitor for each pool.
 fn visit_worker_rows<V: RowVisitor>(plan: &Plan, vector: &Vector, visitor: &mut V)
     requires { IsTrue (spec.vector_fits plan.now vector.now) }
     ensures { let all = map (λ entry. row L1 (place.Worker entry.0) (spec.workers_weight vector.now entry.0) 0) (enumerate_from 0 plan.now.pools) in

@@ -15,12 +15,12 @@ ghost use Rattle.weights.specs.Ranks as spec;
 use crate::{FirstFault, Place, Ranks, Row, RowVisitor, Rule, submitted_class};
 use job_bodies::{Action, Class, Plan};
 
-/// A [`Row`] of ranks. Its condition does not hold: `left` is greater than `right`.
+/// A failing [`Row`] of ranks: its `left` is greater than its `right`.
 pub type RankFault = Row;
 
-/// Returns condition K2 for a get. The get is at `position` in the body of the class at index
-/// `number`, and it waits for a job. K2 requires that the reach of the class at index `number` is
-/// at least the reach of the job's class.
+/// Returns condition K2 for the get at `position` in the body of the class at index `number`. This
+/// get waits for the job of the submit at position `submit`. K2 requires that the reach of the
+/// class at index `number` is at least the reach of that job's class.
 fn get_row(
     plan: &Plan,
     ranks: &Ranks,

@@ -46,7 +46,8 @@ impl Ranks {
         self.reach[class]
     }
 
-    /// Returns the level of the class, which is above the levels of all classes that it submits.
+    /// Returns the level of the class. A certificate requires that this level is above the levels
+    /// of all classes that the class submits.
     pub fn level_of(&self, class: usize) -> u64
         requires { class < length self.now.levels }
         ensures { result ≡ spec.level self.now class }

@@ -102,8 +102,8 @@ impl Row {
     }
 }
 
-/// A [`Row`] whose condition does not hold: `left` is greater than `right`.
+/// A failing [`Row`]: its `left` is greater than its `right`.
 pub type RowFault = Row;
-/// A [`Row`] of a pool's standing or lifetime vector. Its condition does not hold: `left` is
-/// greater than `right`.
+/// A failing [`Row`] of a pool's standing or lifetime vector: its `left` is greater than its
+/// `right`.
 pub type StandingFault = Row;

@@ -1,6 +1,7 @@
-//! The conditions of the standing vector of a pool. The conditions show that the number of queued
-//! jobs never exceeds the capacity of the queue. If the queue is unbounded, the only conditions are
-//! V2 to V7, which set no limit on the queued jobs. [`Rule`] explains the names of the rows.
+//! The conditions of the standing vector of a pool. If the queue is bounded, the conditions show
+//! that the number of queued jobs never exceeds the capacity of the queue. If the queue is
+//! unbounded, the only conditions are V2 to V7, which set no limit on the queued jobs. [`Rule`]
+//! explains the names of the rows.
 
 ghost use Rattle.std.specs.Prelude.{◌≡◌, ◌==◌, ◌<◌, ◌∷◌, [], if◌then◌else◌, IsTrue, Some, length, map, slice_get};
 ghost use Rattle.job_bodies.specs.WellFormed.{IsWellFormed};
@@ -16,7 +17,7 @@ ghost use Rattle.weights.specs.Visits.{Visits};
 use crate::{FirstFault, GetReturn, Place, Row, RowFault, RowVisitor, Rule, StandingFault, Vector};
 use job_bodies::{Class, Plan};
 
-/// Passes condition [`Rule::S1`] for the class at index `number` to the visitor. Does nothing if
+/// Passes condition [`Rule::S1`] to the visitor for the class at index `number`. Does nothing if
 /// the class does not belong to the pool.
 fn visit_queued_row<V: RowVisitor>(
     plan: &Plan,
@@ -42,7 +43,7 @@ fn visit_queued_row<V: RowVisitor>(
     }
 }
 
-/// Passes condition [`Rule::S1`] for each class of the pool to the visitor.
+/// Passes condition [`Rule::S1`] to the visitor for each class of the pool.
 fn visit_queued_rows<V: RowVisitor>(plan: &Plan, pool: usize, vector: &Vector, visitor: &mut V)
     requires { IsTrue (spec.vector_fits plan.now vector.now) }
     ensures { let all = map (λ entry. row S1 (place.Class entry.0) 1 (spec.queued_weight vector.now entry.0)) (classes_of plan.now pool) in

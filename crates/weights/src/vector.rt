@@ -6,9 +6,9 @@ ghost use Rattle.weights.specs.Vector as spec;
 
 use std::marker::Model;
 
-/// The weights of the workers, the jobs and the clients of a plan, in plan order. The total of the
-/// vector (see [`Vector::total`]) is an upper bound for a number of jobs. An example is the number
-/// of jobs in the queue of a pool.
+/// The weights of the workers, the jobs and the clients of a plan, in plan order. If the conditions
+/// of the vector hold, its total (see [`Vector::total`]) is an upper bound for a number of jobs,
+/// such as the number of jobs in the queue of a pool.
 ///
 /// A certificate has a blocked vector for each pool, and can also have a vector that bounds the
 /// pool's queue. A certificate requires that each weight is at most

@@ -3,11 +3,12 @@
 /// An event of the machine of a plan.
 #[derive(Clone, Copy, Debug, PartialEq, Eq)]
 pub enum Event {
-    /// The client with this number performs its next action. Clients are numbered from 0: first the
-    /// clients of the plan's first client kind, then those of its second client kind, and so on.
+    /// The client with this number performs its next action. At the end of its body, it begins
+    /// again if its kind repeats. Clients are numbered from 0: first the clients of the plan's
+    /// first client kind, then those of its second client kind, and so on.
     Client(usize),
-    /// The job with this number performs its next action. Jobs are numbered from 0 in the order of
-    /// their creation.
+    /// The job with this number performs its next action. At the end of its body, it finishes. Jobs
+    /// are numbered from 0 in the order of their creation.
     Job(usize),
     /// An idle worker of the pool with this index takes the head of the pool's queue.
     Take(usize),
@@ -25,11 +26,11 @@ pub enum Outcome {
     Started(usize),
     /// A submit created the job with this number, and the job was appended to its pool's queue.
     Queued(usize),
-    /// The pool with this index refused the job of a submit, so no job was created.
+    /// The pool with this index refused a submit, so no job was created.
     Refused(usize),
-    /// A pool was full and rejected the job of a submit, as the plan allows. The submit and its get
-    /// are skipped: the job was created, but is already done. The fields are the index of the pool
-    /// and the number of the job.
+    /// A pool had no room for the job of a submit and rejected it, as the plan allows. The submit
+    /// and its get are skipped: the job was created, but is already done. The fields are the index
+    /// of the pool and the number of the job.
     Rejected(usize, usize),
     /// The actor performed this number of units of work.
     Worked(u32),

@@ -218,8 +218,8 @@ fn push_times(text: &mut String, times: usize) -> Result<(), AllocError>
 
 /// Appends one dashed edge for gets of jobs of a class. The edge starts at the node whose name is
 /// `kind` followed by `number`, such as `client0`. It ends at the node of the class with the index
-/// `class`. If `counted` is true, one of the gets can block a thread that other jobs need, and the
-/// edge is bold. If `gets` is false, there are no gets, and the function appends nothing.
+/// `class`. If `counted` is true, at least one of the gets can block a thread that other jobs need,
+/// and the edge is bold. If `gets` is false, there are no gets, and the function appends nothing.
 fn push_get_edge(
     text: &mut String,
     kind: &str,
