@@ -1,7 +1,8 @@
-//! The weights of an actor over its body, given the weights of the jobs that it submits.
+//! The weights of an actor at the positions of its body, given the weights of the jobs that it
+//! submits.
 //!
 //! A job is *open* at a position of the body if the actor submits it before that position, and gets
-//! it at that position or later.
+//! it at that position or later. A job that is never got is not open at any position.
 
 ghost use Rattle.std.specs.Prelude.{◌≡◌, ◌≤◌, ◌<◌, ◌+◌, ◌*◌, IfOk, length, slice_index};
 ghost use Rattle.job_bodies.specs.ValidBody.{IsValidBody};
@@ -17,7 +18,7 @@ use weights::{Vector, submitted_class};
 
 /// Returns the weight at index `place` in the list of the class's weights, or 0 if there is no such
 /// class or index. The list has the weight of a queued job, the weight at each position of the
-/// body, and the weight of a done job.
+/// body, and the weight of a done job, in this order.
 fn number_of(vector: &Vector, class: usize, place: usize) -> u64
     ensures { result ≡ slice_index (vector_spec.class_weights vector.now class) place }
 {
@@ -46,9 +47,9 @@ fn done(plan: &Plan, vector: &Vector, class: usize) -> u64
     number_of(vector, class, actions + 2)
 }
 
-/// Returns the total weight of the open jobs after the action at this position. A job is *open*
-/// between its submit and its get. `current_weight` is the total weight of the open jobs before the
-/// action.
+/// Returns the total weight of the open jobs after the action at this position. A job that the body
+/// gets is *open* between its submit and its get, and counts with the weight of a queued job of its
+/// class. `current_weight` is the total weight of the open jobs before the action.
 fn open_weight_after(
     plan: &Plan,
     vector: &Vector,
@@ -75,8 +76,9 @@ fn open_weight_after(
     }
 }
 
-/// Returns the largest total weight of the open jobs at any position of the body. A job is *open*
-/// between its submit and its get.
+/// Returns the largest total weight of the open jobs at any position of the body. A job that the
+/// body gets is *open* between its submit and its get, and counts with the weight of a queued job
+/// of its class.
 fn most(plan: &Plan, vector: &Vector, body: &[Action]) -> u64
     requires valid { IsValidBody plan.now body.now }
     requires small { JobsAreSmall vector.now }
@@ -92,29 +94,29 @@ fn most(plan: &Plan, vector: &Vector, body: &[Action]) -> u64
     most
 }
 
-/// Returns the weight of the actor before the action. `behind` is its weight after the action:
+/// Returns the weight of the actor before the action, given `weight_after`, the weight after it:
 ///
-/// - Before `work`, the weight is the same.
-/// - Before a submit, it is larger by the weight of the queued job.
-/// - Before a get, it is smaller by the weight of the done job, but at least `least`.
+/// - Before `work`, the weight is `weight_after`.
+/// - Before a submit, it is `weight_after` plus the weight of the queued job.
+/// - Before a get, it is `weight_after` minus the weight of the done job, but at least `least`.
 fn before(
     plan: &Plan,
     vector: &Vector,
     least: u64,
     body: &[Action],
     action: Action,
-    behind: u64,
+    weight_after: u64,
 ) -> u64
     requires small { JobsAreSmall vector.now }
-    requires behind { behind ≤ 2 + (MAX_ACTIONS + MAX_ACTIONS) * MAX_WEIGHT }
-    ensures { result ≡ spec.weight_before plan.now vector.now least body.now action behind }
+    requires weight_after { weight_after ≤ 2 + (MAX_ACTIONS + MAX_ACTIONS) * MAX_WEIGHT }
+    ensures { result ≡ spec.weight_before plan.now vector.now least body.now action weight_after }
 {
     match action {
-        Action::Work(_) => behind,
-        Action::Submit(class) => behind + queued(vector, class),
+        Action::Work(_) => weight_after,
+        Action::Submit(class) => weight_after + queued(vector, class),
         Action::Get(submit) => {
             let returned_weight = done(plan, vector, submitted_class(body, submit));
-            least.max(behind.saturating_sub(returned_weight))
+            least.max(weight_after.saturating_sub(returned_weight))
         }
     }
 }

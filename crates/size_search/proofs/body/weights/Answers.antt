@@ -6,8 +6,8 @@ use Rattle.size_search.specs.Steady.{weight_before, weight_at, weights_from}
 use Rattle.size_search.proofs.Computations.{weight-bound, behind-short, longer_rest, reverse-cons}
 use Rattle.size_search.proofs.body.weights.Goals as goal
 
-pub before-weight-requires-clause-behind : goal.before-weight-requires-clause-behind
-before-weight-requires-clause-behind c =
+pub before-weight-requires-clause-weight_after : goal.before-weight-requires-clause-weight_after
+before-weight-requires-clause-weight_after c =
     let body = c.args.body.now in
     let rest = drop (length body - c.loop-behind.behind) body in
     omega (
