@@ -138,6 +138,15 @@ impl Entries {
         Ok(())
     }
 
+    /// Removes the last entry, if there is one.
+    pub(crate) fn remove_last(&mut self)
+        ensures { (lines : List RecordedLine) (beyond : Reason)
+            → AreEntriesOf lines beyond self.old
+            → AreEntriesOf lines beyond self.new }
+    {
+        self.entries.pop();
+    }
+
     /// Returns the body of the entry with this number, or an empty body if there is no such entry.
     pub(crate) fn body(&self, number: usize) -> &[Action] {
         match self.entries.get(number) {

@@ -64,12 +64,12 @@ impl Entries {
     ///
     /// Skips the classes that are marked in `reachable`. The path submits jobs of these classes,
     /// directly or through the bodies of other jobs (see [`reachable_classes`]). If the path
-    /// belonged to such a class, jobs of the class would cause further jobs of it without end.
+    /// belonged to such a class, the class would submit itself, directly or through other classes.
     ///
     /// Returns the assignment, or `None` in these cases:
     ///
     /// - No entry has this label and pool.
-    /// - No body is found for the path alone. The added entry then remains.
+    /// - No body is found for the path alone. No entry is then added.
     ///
     /// # Errors
     ///
@@ -100,13 +100,31 @@ impl Entries {
         }
         let number = self.entries.len();
         match self.add(label, pool) {
-            Ok(()) => Ok(self.cover(number, &observed_path.steps)?),
+            Ok(()) => Ok(self.cover_added(number, &observed_path.steps)?),
             Err(error) => Err(error),
         }
     }
 
-    // Changes the body of the entry with this number so that the path and the entry's paths match
-    // it. Returns `None` if no such body was found, or if there is no such entry.
+    // Changes the body of the last entry, which has this number, as `cover` does. Removes the entry
+    // if no body was found.
+    fn cover_added(
+        &mut self,
+        number: usize,
+        path: &[PathStep],
+    ) -> Result<Option<Assignment>, AllocError>
+        ensures { (lines : List RecordedLine) (beyond : Reason)
+            → AreEntriesOf lines beyond self.old
+            → AreEntriesOf lines beyond self.new }
+    {
+        let assignment = self.cover(number, path)?;
+        if assignment.is_none() {
+            self.remove_last();
+        }
+        Ok(assignment)
+    }
+
+    // Changes the body of the entry with this number so that the path and the entry's earlier paths
+    // match it. Returns `None` if no such body was found, or if there is no such entry.
     fn cover(&mut self, number: usize, path: &[PathStep]) -> Result<Option<Assignment>, AllocError>
         ensures { (lines : List RecordedLine) (beyond : Reason)
             → AreEntriesOf lines beyond self.old
@@ -139,8 +157,8 @@ impl Entries {
 }
 
 impl Entry {
-    // Changes the body so that the path and the paths before it match it. Returns false if no such
-    // body was found.
+    // Changes the body so that the path and the entry's earlier paths match it. Returns false if no
+    // such body was found, or if the entry already has `MAX_PATHS` paths.
     fn cover(
         &mut self,
         alloc: Global,

@@ -15,9 +15,9 @@ returns-in-Some-clause-ok c = λ lines beyond entries. c.cover.ensures lines bey
 pub returns-then-not-has-clause-ok : goal.returns-then-not-has-clause-ok
 returns-then-not-has-clause-ok c = λ lines beyond entries. c.loop-number.invariant lines beyond entries
 
-pub returns-in_ok-cover-in-Ok-clause-ok : goal.returns-in_ok-cover-in-Ok-clause-ok
-returns-in_ok-cover-in-Ok-clause-ok c = λ lines beyond entries. let now = c.loop-number.invariant lines beyond entries in
-    c.cover-in-Ok.ensures lines beyond (c.in-Ok.ensures.ok lines beyond (c.has.ensures lines beyond now (grind (arith, c.if-not-has.false))) now)
+pub returns-in_ok-cover_added-in-Ok-clause-ok : goal.returns-in_ok-cover_added-in-Ok-clause-ok
+returns-in_ok-cover_added-in-Ok-clause-ok c = λ lines beyond entries. let now = c.loop-number.invariant lines beyond entries in
+    c.cover_added.ensures lines beyond (c.in-Ok.ensures.ok lines beyond (c.has.ensures lines beyond now (grind (arith, c.if-not-has.false))) now)
 
 pub returns-in-Err-clause-err : goal.returns-in-Err-clause-err
 returns-in-Err-clause-err c = λ lines beyond entries. let now = c.loop-number.invariant lines beyond entries in
