@@ -8,9 +8,9 @@ at most five times as many instructions.
 
 `rescans` wants that 500 findings in 10,000 lines take at most three times the instructions of as many lines without a finding.
 
-Two more cases read 100,000 lines of rounds that each submit 20 alike jobs and get them. With the gets in random orders,
-`random_orders` allows `conform` three times the instructions that it takes with the gets in order. `learned_orders` wants that
-`learn` finds a body of 40 actions.
+Three more cases read 100,000 lines of rounds that each submit 20 alike jobs and get them. With the gets in random orders,
+`random_orders` allows `conform` three times the instructions that it takes with the gets in order. So does `missing_gets`, if
+each round gets all jobs but one: such rounds match no body. `learned_orders` wants that `learn` finds a body of 40 actions.
 
 Without arguments it runs all cases. The program is crates/sizing/out/sizing, or the one that the environment variable SIZING names.
 
@@ -349,7 +349,7 @@ GROWING = [
 
 
 # ---- 20 alike jobs
-def alike_jobs(is_random):
+def alike_jobs(is_random, got=ALIKE):
     chance = random.Random(SEED)
     plan = pool("p") + job_class("a") + client("c", in_order("a", ALIKE))
     recording = Recording()
@@ -359,7 +359,7 @@ def alike_jobs(is_random):
         jobs = [recording.submit(actor) for _ in range(ALIKE)]
         for job in jobs:
             recording.run(job)
-        for job in chance.sample(jobs, ALIKE) if is_random else jobs:
+        for job in chance.sample(jobs, got) if is_random else jobs:
             recording.got(actor, job)
         recording.end(actor)
 
@@ -371,6 +371,12 @@ def random_orders(program, folder):
     ordered = counted(program, "conform", folder, *alike_jobs(False))
     shuffled = counted(program, "conform", folder, *alike_jobs(True))
     return compared("conform", ordered, shuffled, MOST_OF_ORDERS)
+
+
+def missing_gets(program, folder):
+    ordered = counted(program, "conform", folder, *alike_jobs(False))
+    missing = counted(program, "conform", folder, *alike_jobs(True, ALIKE - 1))
+    return compared("conform", ordered, missing, MOST_OF_ORDERS)
 
 
 def learned_orders(program, folder):
@@ -438,7 +444,7 @@ def grows_linearly(program, folder, case):
 
 def cases():
     growing = {case.__name__: lambda program, folder, case=case: grows_linearly(program, folder, case) for case in GROWING}
-    return {**growing, "rescans": rescans, "random_orders": random_orders, "learned_orders": learned_orders}
+    return {**growing, "rescans": rescans, "random_orders": random_orders, "missing_gets": missing_gets, "learned_orders": learned_orders}
 
 
 def main(words):

@@ -14,7 +14,6 @@ use Rattle.conformance.specs.declared.actor_table.ActorTable.{ActorTable}
 use Rattle.conformance.specs.declared.job_classes.ClassTable.{ClassTable}
 use Rattle.conformance.specs.declared.classified_actor.ClassifiedActor.{ClassifiedActor}
 use Rattle.conformance.specs.PathState.{has_ended}
-use Rattle.conformance.specs.Label.{HasLabel}
 use Rattle.conformance.specs.Classes.{IsSettled, AreStepsOf}
 use Rattle.conformance.specs.ActorTables.{in_table}
 use Rattle.conformance.specs.ClassifiedActor.{CanBe, IsCorrectResult, IsOnceEach, AreResultsOfPrefix, AreAllResultsOf, AddsSettled, is_reported, is_recorded}
@@ -22,18 +21,14 @@ use Rattle.conformance.specs.Represents.{AreTablesOf}
 use Rattle.conformance.specs.ClassificationResults.{AddsResults}
 use Rattle.conformance.proofs.Words.{by_bool, apart, none_some, is_none_of, or_either}
 use Rattle.conformance.proofs.AppliedLine.{same_as_self}
-use Rattle.conformance.proofs.ActorLabels.{label_stays, kind_stays}
 use Rattle.conformance.proofs.EndedActors.{stays}
 use Rattle.conformance.proofs.SettledClassesStay.{through_of, below_of, settled_stays, classes_stay, kinds_stay, steps_stay}
+use Rattle.conformance.proofs.Ambiguous.{label_stays_its, ambiguous_stays}
 use Rattle.conformance.proofs.EmptyTables.{none_through, settled_gone}
 use Rattle.conformance.proofs.AddsResults.{any_append_left, any_append_right, once_left, once_right, none_most, none_of_kept}
 use Rattle.conformance.proofs.BegunActors.{named_come, come_live, through_come}
 
 -- ---- one actor
-label_stays_its : (before more : List RecordedLine) (actor : RecordedActor) (label pool : List ℕ) → KeepsRules (before ++ more) → HasLabel before actor label pool → HasLabel (before ++ more) actor label pool
-label_stays_its before more (Job job) label pool keeps h = label_stays before more job (label, pool) keeps h
-label_stays_its before more (Round round) label pool keeps h = (kind_stays before more round label keeps h.0, h.1)
-
 can_be_stays : (plan : Plan) (before more : List RecordedLine) (actor : RecordedActor) (members : List ℕ) → KeepsRules (before ++ more) → IsSettled before actor → CanBe plan before actor members → CanBe plan (before ++ more) actor members
 can_be_stays plan before more (Job job) members keeps is can = classes_stay plan before more keeps job members can is
 can_be_stays plan before more (Round round) members keeps is can = kinds_stay plan before more keeps round members can is
@@ -52,8 +47,9 @@ reported_stays plan before more keeps reported is t =
             steps = e.steps;
             path = subst (λ path. AreStepsOf plan (before ++ more) path e.steps) (sym s.path) (steps_stay plan before more keeps (path_of before reported.actor) e.steps e.path (below_of before reported.actor is));
             most = e.most;
+            named = e.named;
           };
-      decided = t.decided;
+      decided = λ clear. t.decided (λ ambiguous. clear (ambiguous_stays plan before more keeps reported.actor is ambiguous));
     }
 
 -- ---- no lines

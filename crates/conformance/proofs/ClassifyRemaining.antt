@@ -16,8 +16,7 @@ use Rattle.conformance.specs.declared.actor_table.EndedPath.{EndedPath}
 use Rattle.conformance.specs.declared.actor_path.ActorPath.{ActorPath}
 use Rattle.conformance.specs.declared.job_classes.ClassTable.{ClassTable}
 use Rattle.conformance.specs.declared.classified_actor.ClassifiedActor.{ClassifiedActor}
-use Rattle.conformance.specs.Family.{HasNoFamilies}
-use Rattle.conformance.specs.ActorTables.{in_table, classes_in, AreUnambiguousIn, AreAllIn}
+use Rattle.conformance.specs.ActorTables.{in_table, classes_in, AreAllIn}
 use Rattle.conformance.specs.RemainingActors.{IsAt, IsActorPathOf, IsStateAtEnd, AreNoneBelow}
 use Rattle.conformance.specs.ClassifiedActor.{IsCorrectResult}
 use Rattle.conformance.specs.Represents.{AreTablesOf}
@@ -38,12 +37,12 @@ at_end plan lines actors known k one kept there = by_option kept.ended_path
     (λ none.
     subst (λ (o : Option EndedPath). IsAt lines one o) (sym none) (come_live lines one (named_come lines one _ _ (k.named one kept there)) (k.going one kept there none)))
 
-pub left_of : (plan : Plan) (lines : List RecordedLine) (actors : ActorTable) (known : ClassTable) → AreTablesOf plan lines actors known None → (HasNoFamilies plan → AreUnambiguousIn known) → IsStateAtEnd plan lines actors known
-left_of plan lines actors known k decided = record {
+pub left_of : (plan : Plan) (lines : List RecordedLine) (actors : ActorTable) (known : ClassTable) → AreTablesOf plan lines actors known None → IsStateAtEnd plan lines actors known
+left_of plan lines actors known k = record {
   named = k.named;
   at = at_end plan lines actors known k;
   classes = k.classes.classes;
-  decided = decided;
+  decided = k.classes.decided;
   below = k.below;
   submitter = k.submitter;
 }
@@ -99,7 +98,7 @@ module _ (plan : Plan) (lines : List RecordedLine) (keeps : KeepsRules lines) (b
     named = λ one its h. remaining.named one its (still before later actor goes one its h).1;
     at = λ one its h. remaining.at one its (still before later actor goes one its h).1;
     classes = classes_then plan lines known then_known actor_path.path.items actor kept.submitter t.family.members.items t.family.is_decided t.table remaining.classes its_reported.members;
-    decided = λ enough. decided_then known then_known actor_path.path.items actor kept.submitter t.family.members.items t.family.is_decided t.table (remaining.decided enough) (its_reported.decided enough) (t.few enough);
+    decided = decided_then plan lines known then_known actor_path.path.items actor kept.submitter t.family.members.items t.family.is_decided t.table remaining.decided its_reported.decided;
     below = below_then out;
     submitter = λ one job its h. remaining.submitter one job its (still before later actor goes (Job job) its h).1;
   }

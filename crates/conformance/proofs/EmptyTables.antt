@@ -42,6 +42,7 @@ kept_none plan actors known empty unknown = record {
   classes = record {
     settled = λ job one h. two_of (classes_in known job) one h (unknown job);
     classes = λ job one h. two_of (classes_in known job) one h (unknown job);
+    decided = λ job one h. two_of (classes_in known job) one h (unknown job);
   };
   below = λ one job h. none_some (in_table actors one) (empty one) h;
   submitter = λ one job kept h. two_of (in_table actors (Job job)) kept h (empty (Job job));

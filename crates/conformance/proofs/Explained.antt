@@ -67,7 +67,7 @@ explained_more kind bodies path body before now old new more_now none_before = r
 }
 
 -- There is a body before the new one, if the bodies before explain more, or as much with open jobs as the reason.
-some_before : (kind : ActorKind) (bodies : List (List Action)) (path : List PathStep) (before now : ExplainedPrefix) → IsMostExplained kind bodies path before → now.length ≤ before.length → (now.length ≡ before.length → is_none before.excess ≡ false) → 0 < length bodies
+pub some_before : (kind : ActorKind) (bodies : List (List Action)) (path : List PathStep) (before now : ExplainedPrefix) → IsMostExplained kind bodies path before → now.length ≤ before.length → (now.length ≡ before.length → is_none before.excess ≡ false) → 0 < length bodies
 some_before kind bodies path before now old less_now excess_before = elim (cases_lt 0 (length bodies)) [
   | inl filled ↦ filled
   | inr empty ↦

@@ -12,6 +12,7 @@ pub mod OpenExcesses
 pub mod PlannedSizes
 pub mod StoppedWalks
 pub mod MissingJobs
+pub mod Ambiguous
 pub mod FewLists
 pub mod CopiedStates
 pub mod LastIndices

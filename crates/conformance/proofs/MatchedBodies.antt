@@ -1,5 +1,5 @@
 -- The result after each body of a family.
-use Rattle.std.proofs.Common.{◌≡◌, ℕ, ◌+◌, ◌<◌, ◌≤◌, Bool, false, None, List, [], ◌∷◌, ◌++◌, length, length-append, get_or, take, map, filter, refl, sym, subst, ◌∙◌, arith, IsTrue}
+use Rattle.std.proofs.Common.{◌≡◌, ℕ, ◌+◌, ◌<◌, ◌≤◌, ◌==◌, ◌&&◌, ◌||◌, nat_lt, is_none, is_some, if◌then◌else◌, ap, Bool, true, false, None, List, [], ◌∷◌, ◌++◌, length, length-append, get_or, take, map, filter, refl, sym, subst, ◌∙◌, arith, IsTrue}
 use Rattle.std.specs.List.{All, AllPairs, Contains, range_with_len}
 use Rattle.std.specs.List.Sorted.{IsStrictlyIncreasing}
 use Rattle.std.proofs.lemmas.List.{map-append, take_all, get_or_append_left, get_or_push}
@@ -7,6 +7,7 @@ use Rattle.std.proofs.lemmas.List.FromFn.{length-range_with_len, get_or-range_wi
 use Rattle.std.proofs.lemmas.List.Kept.{AllPairs-from_increasing, IsStrictlyIncreasing-filter}
 use Rattle.std.proofs.lemmas.List.Quantifiers.{Any-push, all_pairs_push}
 use Rattle.std.proofs.lemmas.List.Elements.{All-push, All-weaker, All-contains, Contains-append_left, Contains-push}
+use Rattle.std.proofs.lemmas.Bool.{eqb-false, ltb-false}
 use Rattle.job_bodies.specs.declared.action.Action.{Action}
 use Rattle.conformance.specs.declared.explained_prefix.ExplainedPrefix.{ExplainedPrefix}
 use Rattle.conformance.specs.declared.step.ActorKind.{ActorKind}
@@ -14,10 +15,10 @@ use Rattle.conformance.specs.declared.step.PathStep.{PathStep}
 use Rattle.conformance.specs.declared.step.PathState.{PathState}
 use Rattle.conformance.specs.Path.{IsPathOf}
 use Rattle.conformance.specs.PathMatch.{IsExplained, IsUnambiguous, HasManyOpenLists, longer}
-use Rattle.conformance.specs.FamilyMatch.{IsMostExplained}
+use Rattle.conformance.specs.FamilyMatch.{IsMostExplained, NamesMissing}
 use Rattle.conformance.specs.FamilyResult.{IsCorrectResult}
 use Rattle.conformance.proofs.OneClassEach.{one_class_each}
-use Rattle.conformance.proofs.Explained.{Any-append_left, explained_fits, explained_deviates}
+use Rattle.conformance.proofs.Explained.{Any-append_left, explained_fits, explained_deviates, some_before}
 
 -- ---- a prefix of a list
 All-front : {X : Type 0} → (P : X → Type 0) (xs ys : List X) → All P (xs ++ ys) → All P xs
@@ -69,6 +70,7 @@ reported_fits kind body_of path_state path matched members longest is_decided n 
       complete = λ all. All-push Q matched n (All-weaker P Q (λ m there one. Contains-append_left members (n ∷ []) m (there one)) matched (reported.complete all)) (λ _. Contains-push members n);
       sure = All-push S matched n (All-weaker R S (λ m there only one. Contains-append_left members (n ∷ []) m (there only one)) matched reported.sure) (λ _ _. Contains-push members n);
       explained = λ all. subst (λ (bodies : List (List Action)). IsMostExplained kind bodies path (record { length = length path; excess = None; missing = None })) (sym (bodies_more body_of matched n)) (explained_fits kind path_state (map body_of matched) path (body_of n) of);
+      named = λ all none filled whole. absurd (omega (arith, length-append members (n ∷ []), ap (λ (xs : List ℕ). length xs) none));
       decided = reported.decided;
       many = λ not_all. Any-append_left (λ m. HasManyOpenLists kind (body_of m) path) matched (n ∷ []) (reported.many not_all);
       few = omega (arith, reported.few, length-append members (n ∷ []), length-append matched (n ∷ []));
@@ -81,6 +83,16 @@ reported_not : (kind : ActorKind) (body_of : ℕ → List Action) (path_state : 
 reported_not kind body_of path_state path matched members n complete not_of =
     All-push (λ m. IsPathOf kind path_state (body_of m) path → Contains members m) matched n complete (λ of. absurd (not_of of))
 
+-- If the whole path is explained, a job is missing: the new body names one, or the bodies before it do.
+named_longer : (less same without : Bool) (kind : ActorKind) (body_of : ℕ → List Action) (path : List PathStep) (matched members : List ℕ) (n : ℕ) (before now : ExplainedPrefix) → nat_lt before.length now.length ≡ less → (before.length == now.length) ≡ same → is_none before.excess ≡ without → IsMostExplained kind (map body_of matched) path before
+    → IsExplained kind (body_of n) path now → NamesMissing members (map body_of matched) path before → members ≡ [] → (if less || (same && without) then now else before).length ≡ length path → is_some (if less || (same && without) then now else before).missing ≡ true
+named_longer true same without kind body_of path matched members n before now is_less is_same is_without old new names none whole = new.named whole
+named_longer false true true kind body_of path matched members n before now is_less is_same is_without old new names none whole = new.named whole
+named_longer false true false kind body_of path matched members n before now is_less is_same is_without old new names none whole =
+    names none (some_before kind (map body_of matched) path before now old (ltb-false before.length now.length is_less) (λ _. is_without)) whole
+named_longer false false without kind body_of path matched members n before now is_less is_same is_without old new names none whole =
+    names none (some_before kind (map body_of matched) path before now old (ltb-false before.length now.length is_less) (λ e. absurd (eqb-false before.length now.length is_same (sym e)))) whole
+
 -- The path does not match the next body.
 pub reported_deviates : (kind : ActorKind) (body_of : ℕ → List Action) (path_state : PathState) (path : List PathStep) (matched members : List ℕ) (longest : ExplainedPrefix) (is_decided : Bool) (n : ℕ) (explained : ExplainedPrefix) → IsCorrectResult kind body_of path_state path matched members longest is_decided → ¬ IsPathOf kind path_state (body_of n) path → IsExplained kind (body_of n) path explained
     → IsCorrectResult kind body_of path_state path (matched ++ n ∷ []) members (longer longest explained) is_decided
@@ -89,6 +101,7 @@ reported_deviates kind body_of path_state path matched members longest is_decide
   complete = λ all. reported_not kind body_of path_state path matched members n (reported.complete all) not_of;
   sure = All-push (IsSure kind body_of path_state path members) matched n reported.sure (λ only of. absurd (not_of of));
   explained = λ all. subst (λ (bodies : List (List Action)). IsMostExplained kind bodies path (longer longest explained)) (sym (bodies_more body_of matched n)) (explained_deviates kind (map body_of matched) path (body_of n) longest explained (reported.explained all) by);
+  named = λ all none filled whole. named_longer (nat_lt longest.length explained.length) (longest.length == explained.length) (is_none longest.excess) kind body_of path matched members n longest explained refl refl refl (reported.explained all) by (reported.named all) none whole;
   decided = reported.decided;
   many = λ not_all. Any-append_left (λ m. HasManyOpenLists kind (body_of m) path) matched (n ∷ []) (reported.many not_all);
   few = omega (arith, reported.few, length-append matched (n ∷ []));
@@ -103,6 +116,7 @@ reported_undecided kind body_of path_state path matched members longest is_decid
   complete = λ all. cc;
   sure = All-push (IsSure kind body_of path_state path members) matched n reported.sure (λ only of. absurd (several only));
   explained = λ all. cc;
+  named = λ all. cc;
   decided = λ each. absurd (several (one_class_each (body_of n) path each));
   many = λ not_all. Any-push (λ m. HasManyOpenLists kind (body_of m) path) matched n many_lists;
   few = omega (arith, reported.few, length-append matched (n ∷ []));

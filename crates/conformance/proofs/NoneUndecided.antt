@@ -1,4 +1,4 @@
--- If each label refers to at most one class in each pool, no finding is undecided.
+-- If no actor is ambiguous, no finding is undecided.
 use Rattle.std.proofs.Common.{◌≡◌, ℕ, Bool, true, false, not, ◌&&◌, ◌||◌, cond, List, [], ◌∷◌, ◌++◌, map, Option, refl, ap, sym, subst, ◌∙◌}
 use Rattle.std.specs.Prelude.{filter, All, Contains}
 use Rattle.std.specs.List.{list_any}
@@ -9,11 +9,10 @@ use Rattle.recordings.specs.RecordingLine.{RecordedLine}
 use Rattle.recordings.specs.declared.foreign_get.ForeignGet.{ForeignGet}
 use Rattle.recordings.specs.declared.invalidation.Invalidation.{Invalidation}
 use Rattle.job_bodies.specs.Plan.{Plan}
-use Rattle.conformance.specs.Family.{HasNoFamilies}
 use Rattle.conformance.specs.declared.classified_actor.ClassifiedActor.{ClassifiedActor}
 use Rattle.conformance.specs.declared.finding.Finding.{Finding}
 use Rattle.conformance.specs.declared.finding.Finding.TheVariants as finding
-use Rattle.conformance.specs.ClassifiedActor.{IsCorrectResult}
+use Rattle.conformance.specs.ClassifiedActor.{HasNoAmbiguousActor, IsCorrectResult}
 use Rattle.conformance.specs.CollectedFindings.{AreMismatchesOf, IsMismatchFinding, AreForeign, AreInvalidationsOf, IsInvalidationFinding, not_decided}
 use Rattle.conformance.specs.CollectedFindings as made
 use Rattle.conformance.specs.FirstActors.{AreFirstActorsOf}
@@ -32,10 +31,10 @@ left_out : (b : Bool) (one : ClassifiedActor) (rest : List ClassifiedActor) → 
 left_out true one rest h = absurd (let e : true ≡ false = h in cc)
 left_out false one rest h = refl
 
-no_actor : (plan : Plan) (lines : List RecordedLine) (reported : List ClassifiedActor) → HasNoFamilies plan → All (IsCorrectResult plan lines) reported → filter (is_undecided plan) reported ≡ []
+no_actor : (plan : Plan) (lines : List RecordedLine) (reported : List ClassifiedActor) → HasNoAmbiguousActor plan lines → All (IsCorrectResult plan lines) reported → filter (is_undecided plan) reported ≡ []
 no_actor plan lines [] none all = refl
 no_actor plan lines (one ∷ reported) none all =
-    left_out (is_undecided plan one) one (filter (is_undecided plan) reported) (decided_not one.family.is_decided _ ((All-head (IsCorrectResult plan lines) one reported all).decided none))
+    left_out (is_undecided plan one) one (filter (is_undecided plan) reported) (decided_not one.family.is_decided _ ((All-head (IsCorrectResult plan lines) one reported all).decided (none one.actor)))
     ∙ no_actor plan lines reported none (All-tail (IsCorrectResult plan lines) one reported all)
 
 no_first : (all first_actors : List ClassifiedActor) → AreFirstActorsOf all first_actors → all ≡ [] → first_actors ≡ []
@@ -77,7 +76,7 @@ foreign_none : (lines : List RecordedLine) (get : Option ForeignGet) (found : Li
 foreign_none lines _ _ made.none = refl
 foreign_none lines _ _ (made.one get label job is job_is) = refl
 
-pub none_undecided : (plan : Plan) (lines : List RecordedLine) (findings : List Finding) → AreFindingsOf plan lines findings → HasNoFamilies plan → list_any is_not_decided findings ≡ false
+pub none_undecided : (plan : Plan) (lines : List RecordedLine) (findings : List Finding) → AreFindingsOf plan lines findings → HasNoAmbiguousActor plan lines → list_any is_not_decided findings ≡ false
 none_undecided plan lines findings are none =
     let nobody : are.undecided ≡ [] = no_first (filter (is_undecided plan) are.reported) are.undecided are.undecided_so (no_actor plan lines are.reported none are.all_reported.reported) in
     let d = map finding.Pool are.deviations in

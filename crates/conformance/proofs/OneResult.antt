@@ -1,6 +1,8 @@
 -- The result for one actor is correct for the lines.
 use Rattle.std.proofs.Common.{◌≡◌, ℕ, true, List, Option, sym, subst}
 use Rattle.std.specs.Prelude.{string_bytes}
+use Rattle.std.specs.List.{list_any}
+use Rattle.recordings.specs.ActorPath.{submits}
 use Rattle.std.specs.declared.alloc.Global.{Global}
 use Rattle.std.specs.declared.string.String.{String}
 use Rattle.recordings.specs.declared.recording_line.RecordedActor.{RecordedActor}
@@ -16,13 +18,12 @@ use Rattle.conformance.specs.FamilyMatch.{IsClassOf, IsKindOf, AreExactly}
 use Rattle.conformance.specs.declared.actor_path.ActorPath.{ActorPath}
 use Rattle.conformance.specs.declared.job_classes.ClassTable.{ClassTable}
 use Rattle.conformance.specs.declared.classified_actor.ClassifiedActor.{ClassifiedActor}
-use Rattle.conformance.specs.Family.{HasNoFamilies}
 use Rattle.conformance.specs.PathState.{path_state_of}
 use Rattle.conformance.specs.Label.{HasLabel}
 use Rattle.conformance.specs.Classes.{by_path, AreStepsOf}
-use Rattle.conformance.specs.ActorTables.{AreClassesIn, AreUnambiguousIn, AreAllIn, AreOnce}
+use Rattle.conformance.specs.ActorTables.{AreClassesIn, AreDecidedIn, AreAllIn, AreOnce}
 use Rattle.conformance.specs.RemainingActors.{IsActorPathOf}
-use Rattle.conformance.specs.ClassifiedActor.{CanBe, IsCorrectResult}
+use Rattle.conformance.specs.ClassifiedActor.{CanBe, itself, below, IsCorrectResult}
 use Rattle.conformance.specs.ClassificationResults.{AreMembersOf, AddsResult, classified_as}
 use Rattle.conformance.proofs.SubmitsOnce.{path_once}
 
@@ -45,7 +46,7 @@ module _ (plan : Plan) (lines : List RecordedLine) (actor : RecordedActor) (subm
       let f = t.right lines classes decided in
       can_be_by plan lines actor (string_bytes label) (string_bytes pool) actor_path.path_state f.steps t.family.members.items named d.path_state (subst (λ (path : List RecordedStep). AreStepsOf plan lines path f.steps) d.path f.path) f.members
 
-  pub reported_one : (HasNoFamilies plan → AreUnambiguousIn before) → AreAllIn before actor_path.path.items → IsCorrectResult plan lines (classified_as actor label pool actor_path t.family)
+  pub reported_one : AreDecidedIn plan lines before → AreAllIn before actor_path.path.items → IsCorrectResult plan lines (classified_as actor label pool actor_path t.family)
   reported_one decided all = record {
     label = named;
     path = d.path;
@@ -53,6 +54,10 @@ module _ (plan : Plan) (lines : List RecordedLine) (actor : RecordedActor) (subm
     ascending = t.ascending;
     explained = λ is.
         let f = t.right lines classes is in
-        record { steps = f.steps; path = subst (λ (path : List RecordedStep). AreStepsOf plan lines path f.steps) d.path f.path; most = f.explained };
-    decided = λ enough. t.decided (decided enough) all (subst AreOnce (sym d.path) (path_once lines actor keeps));
+        record { steps = f.steps; path = subst (λ (path : List RecordedStep). AreStepsOf plan lines path f.steps) d.path f.path; most = f.explained; named = f.named };
+    decided = λ clear.
+        t.decided lines classes
+        (λ job known submitted there. decided job known there (λ ambiguous. clear (below actor job (subst (λ (path : List RecordedStep). list_any (submits job) path ≡ true) d.path submitted) ambiguous)))
+        all (subst AreOnce (sym d.path) (path_once lines actor keeps))
+        (λ steps are many. clear (itself actor (string_bytes label) (string_bytes pool) steps named (subst (λ (path : List RecordedStep). AreStepsOf plan lines path steps) d.path are) many));
   }

@@ -1,5 +1,5 @@
 -- The other actors, after one is removed with the jobs of its path.
-use Rattle.std.proofs.Common.{◌≡◌, ◌⊎◌, ℕ, not, Bool, true, false, if◌then◌else◌, ◌≤◌, List, length, is_some, Option, Some, None, sym, subst, ap, ◌∙◌, inl, inr, arith}
+use Rattle.std.proofs.Common.{◌≡◌, ◌⊎◌, ℕ, not, Bool, true, false, if◌then◌else◌, List, is_some, Option, Some, None, sym, subst, ap, ◌∙◌, inl, inr, arith}
 use Rattle.std.specs.List.{list_any}
 use Rattle.recordings.specs.declared.recording_line.RecordedActor.{RecordedActor}
 use Rattle.recordings.specs.declared.recording_line.RecordedActor.TheVariants.{Job}
@@ -18,8 +18,8 @@ use Rattle.conformance.specs.declared.actor_table.UnsettledActor.{UnsettledActor
 use Rattle.conformance.specs.declared.job_classes.ClassTable.{ClassTable}
 use Rattle.conformance.specs.declared.job_classes.JobClasses.{JobClasses}
 use Rattle.conformance.specs.Classes.{AreClassesOf}
-use Rattle.conformance.specs.ClassifiedActor.{CanBe}
-use Rattle.conformance.specs.ActorTables.{in_table, classes_in, AreClassesIn, AreUnambiguousIn, ReplacesClasses}
+use Rattle.conformance.specs.ClassifiedActor.{CanBe, IsAmbiguous}
+use Rattle.conformance.specs.ActorTables.{in_table, classes_in, AreClassesIn, AreDecidedIn, ReplacesClasses}
 use Rattle.conformance.proofs.Words.{by_bool, apart, some_of, two_of, some_at, if_true, if_false}
 use Rattle.conformance.proofs.LaterJobs.{path_submits}
 
@@ -62,14 +62,14 @@ pub classes_then : (plan : Plan) (lines : List RecordedLine) (known then_known :
     → AreClassesIn plan lines known → (is_decided ≡ true → CanBe plan lines actor members) → AreClassesIn plan lines then_known
 classes_then plan lines known then_known path actor submitter members is_decided puts classes its = λ job one h. known_or plan lines known actor members is_decided classes its job one (puts.known job one h)
 
-decided_or : (known : ClassTable) (actor : RecordedActor) (members : List ℕ) (is_decided : Bool) → AreUnambiguousIn known → is_decided ≡ true → ((job : ℕ) → actor ≡ Job job → length members ≤ 1) → (job : ℕ) (one : JobClasses)
-    → (classes_in known job ≡ Some one) ⊎ ((actor ≡ Job job) × (one.classes.items ≡ members) × (one.is_decided ≡ is_decided)) → (one.is_decided ≡ true) × (length one.classes.items ≤ 1)
-decided_or known actor members is_decided are is few job one (inl h) = are job one h
-decided_or known actor members is_decided are is few job one (inr own) = (own.2 ∙ is, subst (λ (items : List ℕ). length items ≤ 1) (sym own.1) (few job own.0))
+decided_or : (plan : Plan) (lines : List RecordedLine) (known : ClassTable) (actor : RecordedActor) (members : List ℕ) (is_decided : Bool) → AreDecidedIn plan lines known → ((IsAmbiguous plan lines actor → ⊥) → is_decided ≡ true) → (job : ℕ) (one : JobClasses)
+    → (classes_in known job ≡ Some one) ⊎ ((actor ≡ Job job) × (one.classes.items ≡ members) × (one.is_decided ≡ is_decided)) → (IsAmbiguous plan lines (Job job) → ⊥) → one.is_decided ≡ true
+decided_or plan lines known actor members is_decided are its job one (inl h) clear = are job one h clear
+decided_or plan lines known actor members is_decided are its job one (inr own) clear = own.2 ∙ its (λ ambiguous. clear (subst (λ (a : RecordedActor). IsAmbiguous plan lines a) own.0 ambiguous))
 
-pub decided_then : (known then_known : ClassTable) (path : List RecordedStep) (actor : RecordedActor) (submitter : Option RecordedActor) (members : List ℕ) (is_decided : Bool) → ReplacesClasses known path actor submitter members is_decided then_known
-    → AreUnambiguousIn known → is_decided ≡ true → ((job : ℕ) → actor ≡ Job job → length members ≤ 1) → AreUnambiguousIn then_known
-decided_then known then_known path actor submitter members is_decided puts are is few = λ job one h. decided_or known actor members is_decided are is few job one (puts.known job one h)
+pub decided_then : (plan : Plan) (lines : List RecordedLine) (known then_known : ClassTable) (path : List RecordedStep) (actor : RecordedActor) (submitter : Option RecordedActor) (members : List ℕ) (is_decided : Bool) → ReplacesClasses known path actor submitter members is_decided then_known
+    → AreDecidedIn plan lines known → ((IsAmbiguous plan lines actor → ⊥) → is_decided ≡ true) → AreDecidedIn plan lines then_known
+decided_then plan lines known then_known path actor submitter members is_decided puts are its = λ job one h. decided_or plan lines known actor members is_decided are its job one (puts.known job one h)
 
 -- ---- the jobs of the other actors
 module _ {lines : List RecordedLine} {old new : ActorTable} {known then_known : ClassTable} {actor : RecordedActor} {kept : UnsettledActor} {path : List RecordedStep} {members : List ℕ} {is_decided : Bool} (o : Out lines old new known then_known actor kept path members is_decided) where

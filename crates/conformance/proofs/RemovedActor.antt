@@ -17,14 +17,14 @@ use Rattle.conformance.specs.declared.job_classes.ClassTable.{ClassTable}
 use Rattle.conformance.specs.declared.job_classes.JobClasses.{JobClasses}
 use Rattle.conformance.specs.PathState.{has_ended}
 use Rattle.conformance.specs.Classes.{IsSettled, settled}
-use Rattle.conformance.specs.ClassifiedActor.{CanBe}
+use Rattle.conformance.specs.ClassifiedActor.{CanBe, IsAmbiguous}
 use Rattle.conformance.specs.ActorTables.{in_table, classes_in, ReplacesClasses}
 use Rattle.conformance.specs.Represents.{IsEndedPathOf, IsBlocked, AreTablesOf}
 use Rattle.conformance.specs.ClassificationResults.{submitter_of, IsReady}
 use Rattle.conformance.proofs.Words.{by_bool, apart, some_at, or_either, or_left, or_right, if_false}
 use Rattle.conformance.proofs.AppliedLine.{same_as_self}
 use Rattle.conformance.proofs.EmptyTables.{blocked_below}
-use Rattle.conformance.proofs.OtherActors.{Out, path_submitted, still, stays_there, known_still, its_submitter, below_then, classes_then}
+use Rattle.conformance.proofs.OtherActors.{Out, path_submitted, still, stays_there, known_still, its_submitter, below_then, classes_then, decided_then}
 
 -- The facts about the step.
 pub record RemovedJobs (plan : Plan) (lines : List RecordedLine) (old new : ActorTable) (known then_known : ClassTable) (actor : RecordedActor) (members : List ℕ) (is_decided : Bool) : Type 0 where
@@ -34,6 +34,7 @@ pub record RemovedJobs (plan : Plan) (lines : List RecordedLine) (old new : Acto
   pub goes : (one : RecordedActor) → in_table new one ≡ (if is_same_actor actor one then None else in_table old one)
   pub puts : ReplacesClasses known ready.ended_path.path.items actor ready.kept.submitter members is_decided then_known
   pub can_be : is_decided ≡ true → CanBe plan lines actor members
+  pub decided : (IsAmbiguous plan lines actor → ⊥) → is_decided ≡ true
 
 nothing_front : {X : Type 0} (p : X → Bool) (n : ℕ) → list_any p (take n []) ≡ false
 nothing_front p zero = refl
@@ -116,6 +117,7 @@ module _ (plan : Plan) (lines : List RecordedLine) (old new : ActorTable) (known
     classes = record {
       settled = λ job one h. settled_then job one (s.puts.known job one h);
       classes = classes_then plan lines known then_known s.ready.ended_path.path.items actor s.ready.kept.submitter members is_decided s.puts s.kept.classes.classes s.can_be;
+      decided = decided_then plan lines known then_known s.ready.ended_path.path.items actor s.ready.kept.submitter members is_decided s.puts s.kept.classes.decided s.decided;
     };
     below = below_then out;
     submitter = λ one job kept h. s.kept.submitter one job kept (still old new actor s.goes (Job job) kept h).1;

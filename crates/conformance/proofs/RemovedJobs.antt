@@ -11,7 +11,7 @@ use Rattle.recordings.proofs.Tests.{any_more}
 use Rattle.job_bodies.specs.Plan.{Plan}
 use Rattle.conformance.specs.declared.job_classes.ClassTable.{ClassTable}
 use Rattle.conformance.specs.declared.job_classes.JobClasses.{JobClasses}
-use Rattle.conformance.specs.ActorTables.{classes_in, is_settled_step, AreRemoved, AreClassesIn, AreUnambiguousIn, AreAllIn, AreOnce, Keeps, ReplacesClasses}
+use Rattle.conformance.specs.ActorTables.{classes_in, is_settled_step, AreRemoved, AreClassesIn, AreAllIn, AreOnce, Keeps, ReplacesClasses}
 use Rattle.conformance.proofs.SettledPaths.{settled_at}
 use Rattle.conformance.proofs.Words.{if_false}
 
@@ -25,9 +25,6 @@ was_there old new path taken job known h = none_or (list_any (submits job) path)
 
 pub classes_still : (plan : Plan) (lines : List RecordedLine) (old new : ClassTable) (path : List RecordedStep) → AreRemoved old path new → AreClassesIn plan lines old → AreClassesIn plan lines new
 classes_still plan lines old new path taken are = λ job known h. are job known (was_there old new path taken job known h)
-
-pub decided_still : (old new : ClassTable) (path : List RecordedStep) → AreRemoved old path new → AreUnambiguousIn old → AreUnambiguousIn new
-decided_still old new path taken are = λ job known h. are job known (was_there old new path taken job known h)
 
 -- A job that the path does not submit remains in the table.
 pub still_there : (old new : ClassTable) (path : List RecordedStep) → AreRemoved old path new → (job : ℕ) → is_some (classes_in old job) ≡ true → list_any (submits job) path ≡ false → is_some (classes_in new job) ≡ true

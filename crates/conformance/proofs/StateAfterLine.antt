@@ -31,7 +31,6 @@ pub represents : (plan : Plan) (classes : ActorClassifier) (lines : List Recorde
 represents plan classes lines before old new paths step = record {
   paths = paths;
   kept = step.kept;
-  decided = step.decided;
 }
 
 pub reports_line : (plan : Plan) (before : List RecordedLine) (line : RecordedLine) (waits : EndedPath) (old mid new : ActorTable) (known last : ClassTable) (x y : List ClassifiedActor) → KeepsRules (before ++ line ∷ []) → AreTablesOf plan before old known None → ChangesTable old line waits mid

@@ -25,6 +25,7 @@ use Rattle.conformance.specs.ActorTables.{in_table, classes_in, AreKnown, AreSet
 use Rattle.recordings.specs.LastLine.{ended_by}
 use Rattle.conformance.specs.Changes.{begun_by}
 use Rattle.conformance.specs.Represents.{IsNamed, IsEndedPathOf, IsBlocked, AreTablesOf}
+use Rattle.conformance.proofs.Ambiguous.{ambiguous_stays}
 use Rattle.conformance.proofs.Words.{by_bool, by_option, apart, some_of, none_some, two_of, one_of, is_none_of, or_right, or_either}
 use Rattle.conformance.proofs.ActorLabels.{label_more, label_new, label_fresh, kind_more, kind_new, kind_fresh}
 use Rattle.conformance.proofs.EndedActors.{stays}
@@ -112,6 +113,7 @@ known_after : (plan : Plan) (before : List RecordedLine) (line : RecordedLine) (
 known_after plan before line known keeps k = record {
   settled = λ job one h. settled_stays before (line ∷ []) keeps (Job job) (k.settled job one h);
   classes = λ job one h decided. classes_stay plan before (line ∷ []) keeps job one.classes.items (k.classes job one h decided) (k.settled job one h);
+  decided = λ job one h clear. k.decided job one h (λ ambiguous. clear (ambiguous_stays plan before (line ∷ []) keeps (Job job) (k.settled job one h) ambiguous));
 }
 
 -- ---- the jobs of the actors in the table

@@ -1,5 +1,5 @@
 -- Auxiliary lemmas.
-use Rattle.std.proofs.Common.{◌≡◌, ℕ, ◌&&◌, ◌||◌, Bool, true, false, if◌then◌else◌, List, is_some, Option, Some, None, refl, ap, sym, ◌∙◌, slice_get}
+use Rattle.std.proofs.Common.{◌≡◌, ℕ, ◌&&◌, ◌||◌, Bool, true, false, if◌then◌else◌, List, [], ◌∷◌, is_some, Option, Some, None, refl, ap, sym, ◌∙◌, slice_get}
 use Rattle.std.specs.List.{list_any}
 use Rattle.std.specs.Result.{OnOk}
 use Rattle.std.specs.declared.result.Result.{Result}
@@ -47,6 +47,9 @@ or_right false b h = h
 pub or_either : (a b : Bool) {P : Type 0} → (a || b) ≡ true → (a ≡ true → P) → (b ≡ true → P) → P
 or_either true b h remaining right = remaining refl
 or_either false b h remaining right = right h
+
+pub of_one : {X : Type 0} (p : X → Bool) (x : X) → list_any p (x ∷ []) ≡ true → p x ≡ true
+of_one p x h = or_either (p x) false h (λ holds. holds) (λ none. absurd (let e : false ≡ true = none in cc))
 
 pub if_true : {X : Type 0} (b : Bool) (x y : X) → b ≡ true → (if b then x else y) ≡ x
 if_true b x y h = ap (λ (c : Bool). if c then x else y) h

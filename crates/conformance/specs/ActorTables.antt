@@ -1,5 +1,5 @@
 -- The tables of the unsettled actors, and of the settled jobs whose submitters are not settled.
-use Rattle.std.specs.Prelude.{◌≡◌, ◌≤◌, ◌<◌, ◌⊎◌, ℕ, not, Bool, true, false, List, length, take, slice_get, slice_index_or, string_bytes, if◌then◌else◌, is_some, IsTrue, Option, Some, None}
+use Rattle.std.specs.Prelude.{◌≡◌, ◌<◌, ◌⊎◌, ℕ, not, Bool, true, false, List, length, take, slice_get, slice_index_or, string_bytes, if◌then◌else◌, is_some, IsTrue, Option, Some, None}
 use Rattle.std.specs.List.{list_any}
 use Rattle.std.specs.Option.{option_map}
 use Rattle.support.specs.Numbered.{value_at}
@@ -17,6 +17,7 @@ use Rattle.conformance.specs.declared.actor_table.EndedPath.{EndedPath}
 use Rattle.conformance.specs.declared.job_classes.ClassTable.{ClassTable}
 use Rattle.conformance.specs.declared.job_classes.JobClasses.{JobClasses}
 use Rattle.conformance.specs.Classes.{AreClassesOf, IsSettled}
+use Rattle.conformance.specs.ClassifiedActor.{IsAmbiguous}
 
 abbrev pub in_table : ActorTable → RecordedActor → Option UnsettledActor
 in_table table (Job job) = value_at table.jobs job
@@ -55,14 +56,20 @@ is_job (Round round) = 0
 abbrev pub AreClassesIn : Plan → List RecordedLine → ClassTable → Type 0
 AreClassesIn plan lines table = (job : ℕ) (known : JobClasses) → classes_in table job ≡ Some known → IsTrue known.is_decided → AreClassesOf plan lines job known.classes.items
 
--- Each job of the table is settled. If its stored classes are decided, they are the classes that the job can belong to.
+-- The stored classes of each job that is not ambiguous are decided.
+abbrev pub AreDecidedIn : Plan → List RecordedLine → ClassTable → Type 0
+AreDecidedIn plan lines table = (job : ℕ) (known : JobClasses) → classes_in table job ≡ Some known → ¬ IsAmbiguous plan lines (Job job) → IsTrue known.is_decided
+
+-- Each job of the table is settled. If its stored classes are decided, they are the classes that the job can belong to. They are
+-- decided unless the job is ambiguous.
 pub record AreKnown (plan : Plan) (lines : List RecordedLine) (table : ClassTable) : Type 0 where
   pub settled : (job : ℕ) (known : JobClasses) → classes_in table job ≡ Some known → IsSettled lines (Job job)
   pub classes : AreClassesIn plan lines table
+  pub decided : AreDecidedIn plan lines table
 
--- Each job of the table can belong to at most one class, and this is decided.
-abbrev pub AreUnambiguousIn : ClassTable → Type 0
-AreUnambiguousIn table = (job : ℕ) (known : JobClasses) → classes_in table job ≡ Some known → IsTrue known.is_decided × (length known.classes.items ≤ 1)
+-- The stored classes of each job that the path submits are decided.
+abbrev pub AreDecidedOn : ClassTable → List RecordedStep → Type 0
+AreDecidedOn table path = (job : ℕ) (known : JobClasses) → list_any (submits job) path ≡ true → classes_in table job ≡ Some known → IsTrue known.is_decided
 
 -- Each job that the path submits is in the table.
 abbrev pub AreAllIn : ClassTable → List RecordedStep → Type 0

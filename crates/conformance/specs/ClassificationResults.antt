@@ -13,18 +13,17 @@ use Rattle.job_bodies.specs.Plan.{Plan}
 use Rattle.conformance.specs.declared.step.PathStep.{PathStep}
 use Rattle.conformance.specs.declared.step.PathState.{PathState}
 use Rattle.conformance.specs.declared.family_match.FamilyMatch.{FamilyMatch}
-use Rattle.conformance.specs.FamilyMatch.{IsClassOf, IsKindOf, AreExactly, IsMostExplained, AreOneClassEach}
+use Rattle.conformance.specs.FamilyMatch.{IsClassOf, IsKindOf, AreExactly, IsMostExplained, NamesMissing}
 use Rattle.conformance.specs.declared.actor_table.ActorTable.{ActorTable}
 use Rattle.conformance.specs.declared.actor_table.UnsettledActor.{UnsettledActor}
 use Rattle.conformance.specs.declared.actor_table.EndedPath.{EndedPath}
 use Rattle.conformance.specs.declared.job_classes.ClassTable.{ClassTable}
 use Rattle.conformance.specs.declared.classified_actor.ClassifiedActor.{ClassifiedActor}
 use Rattle.conformance.specs.declared.actor_path.ActorPath.{ActorPath}
-use Rattle.conformance.specs.Family.{HasNoFamilies, class_family}
 use Rattle.conformance.specs.Classes.{AreStepsOf, IsSettled}
 use Rattle.conformance.specs.Represents.{AreTablesOf}
-use Rattle.conformance.specs.ClassifiedActor.{IsCorrectResult, IsOnceEach, actor_kind_of, bodies_of, is_reported}
-use Rattle.conformance.specs.ActorTables.{in_table, classes_in, AreClassesIn, AreUnambiguousIn, AreAllIn, AreOnce, ReplacesClasses, AreSettledBefore, IsUnsettledAt}
+use Rattle.conformance.specs.ClassifiedActor.{IsCorrectResult, IsOnceEach, actor_kind_of, bodies_of, HasManyLists, is_reported}
+use Rattle.conformance.specs.ActorTables.{in_table, classes_in, AreClassesIn, AreDecidedOn, AreAllIn, AreOnce, ReplacesClasses, AreSettledBefore, IsUnsettledAt}
 
 -- `members` has exactly the members of the label's family with a body that the steps match. These are classes for a job, and
 -- client kinds for a round.
@@ -36,8 +35,8 @@ AreMembersOf plan (Round round) label pool path_state steps members = AreExactly
 pub record IsFamilyOf (plan : Plan) (actor : RecordedActor) (label pool : List ℕ) (path_state : PathState) (steps : List PathStep) (family : FamilyMatch) : Type 0 where
   pub members : IsTrue family.is_decided → AreMembersOf plan actor label pool path_state steps family.members.items
   pub explained : IsTrue family.is_decided → IsMostExplained (actor_kind_of actor) (bodies_of plan actor label pool) steps family.explained
-  pub decided : AreOneClassEach steps → IsTrue family.is_decided
-  pub few : (job : ℕ) → actor ≡ Job job → length family.members.items ≤ length (class_family plan label pool)
+  pub named : IsTrue family.is_decided → NamesMissing family.members.items (bodies_of plan actor label pool) steps family.explained
+  pub many : family.is_decided ≡ false → HasManyLists plan actor label pool steps
   pub ascending : IsStrictlyIncreasing family.members.items
 
 -- The submitter of a job, which may become settled when the job does. There is none for a round.
@@ -75,6 +74,7 @@ pub record IsFamilyBy (plan : Plan) (lines : List RecordedLine) (actor : Recorde
   pub path : AreStepsOf plan lines actor_path.path.items steps
   pub members : AreMembersOf plan actor label pool actor_path.path_state steps family.members.items
   pub explained : IsMostExplained (actor_kind_of actor) (bodies_of plan actor label pool) steps family.explained
+  pub named : NamesMissing family.members.items (bodies_of plan actor label pool) steps family.explained
 
 abbrev pub classified_as : RecordedActor → String Global → String Global → ActorPath → FamilyMatch → ClassifiedActor
 classified_as actor label pool actor_path family = record { actor = actor; label = label; pool = pool; path = actor_path.path; family = family }
@@ -86,8 +86,8 @@ pub record AddsResult (plan : Plan) (actor : RecordedActor) (submitter : Option 
   pub after : new ≡ old ++ classified_as actor label pool actor_path family ∷ []
   pub table : ReplacesClasses before actor_path.path.items actor submitter family.members.items family.is_decided later
   pub right : (lines : List RecordedLine) → AreClassesIn plan lines before → IsTrue family.is_decided → IsFamilyBy plan lines actor (string_bytes label) (string_bytes pool) actor_path family
-  pub decided : AreUnambiguousIn before → AreAllIn before actor_path.path.items → AreOnce actor_path.path.items → IsTrue family.is_decided
-  pub few : HasNoFamilies plan → (job : ℕ) → actor ≡ Job job → length family.members.items ≤ 1
+  pub decided : (lines : List RecordedLine) → AreClassesIn plan lines before → AreDecidedOn before actor_path.path.items → AreAllIn before actor_path.path.items → AreOnce actor_path.path.items
+      → ((steps : List PathStep) → AreStepsOf plan lines actor_path.path.items steps → ¬ HasManyLists plan actor (string_bytes label) (string_bytes pool) steps) → IsTrue family.is_decided
   pub ascending : IsStrictlyIncreasing family.members.items
 
 -- ---- the results for several actors
@@ -112,5 +112,4 @@ pub record IsSettledResult (plan : Plan) (lines : List RecordedLine) (one : Clas
 -- tables `later` and `known` have the other actors. `next` may still be in the table although it waits for no job.
 pub record IsStep (plan : Plan) (lines : List RecordedLine) (before later : ActorTable) (known : ClassTable) (next : Option RecordedActor) (old new : List ClassifiedActor) : Type 0 where
   pub kept : AreTablesOf plan lines later known next
-  pub decided : HasNoFamilies plan → AreUnambiguousIn known
   pub tells : AddsResults (IsSettledResult plan lines) before later old new

@@ -1,5 +1,5 @@
 -- The results of classifying the actors of a recording.
-use Rattle.std.specs.Prelude.{◌≡◌, ◌≤◌, ◌↔◌, ◌⊎◌, ℕ, Bool, true, List, ◌++◌, count_by, string_bytes, IsTrue, All}
+use Rattle.std.specs.Prelude.{◌≡◌, ◌≤◌, ◌↔◌, ◌⊎◌, ℕ, Bool, true, List, ◌++◌, length, count_by, string_bytes, IsTrue, All, Any, Some}
 use Rattle.std.specs.List.{list_any}
 use Rattle.std.specs.List.Sorted.{IsStrictlyIncreasing}
 use Rattle.recordings.specs.declared.recording_line.RecordedActor.{RecordedActor}
@@ -8,16 +8,18 @@ use Rattle.recordings.specs.RecordingLine.{RecordedLine}
 use Rattle.recordings.specs.Before.{is_begun}
 use Rattle.recordings.specs.LineParts.{is_same_actor}
 use Rattle.recordings.specs.LineSteps.{is_submitted}
+use Rattle.recordings.specs.ActorPath.{submits}
 use Rattle.recordings.specs.Path.{path_of}
 use Rattle.job_bodies.specs.declared.action.Action.{Action}
 use Rattle.job_bodies.specs.Plan.{Plan}
 use Rattle.conformance.specs.declared.step.ActorKind.{ActorKind}
 use Rattle.conformance.specs.declared.step.ActorKind.TheVariants as actor_kind
 use Rattle.conformance.specs.declared.step.PathStep.{PathStep}
-use Rattle.conformance.specs.FamilyMatch.{IsMostExplained, class_bodies, client_bodies}
+use Rattle.conformance.specs.FamilyMatch.{IsMostExplained, NamesMissing, class_bodies, client_bodies}
+use Rattle.conformance.specs.PathMatch.{HasManyOpenLists}
 use Rattle.conformance.specs.declared.classified_actor.ClassifiedActor.{ClassifiedActor}
-use Rattle.conformance.specs.Family.{HasNoFamilies}
-use Rattle.conformance.specs.Label.{HasLabel}
+use Rattle.conformance.specs.Label.{HasLabel, label_of}
+use Rattle.conformance.specs.Family.{class_family}
 use Rattle.conformance.specs.Classes.{AreClassesOf, AreStepsOf, AreKindsOf, IsSettled}
 
 -- ---- one actor
@@ -35,12 +37,39 @@ abbrev pub bodies_of : Plan → RecordedActor → List ℕ → List ℕ → List
 bodies_of plan (Job job) label pool = class_bodies plan label pool
 bodies_of plan (Round round) label pool = client_bodies plan label
 
+-- With a body of the label's family, more than `MAX_OPEN_LISTS` lists of jobs can be open after one of the steps.
+abbrev pub HasManyLists : Plan → RecordedActor → List ℕ → List ℕ → List PathStep → Type 0
+HasManyLists plan actor label pool steps = Any (λ body. HasManyOpenLists (actor_kind_of actor) body steps) (bodies_of plan actor label pool)
+
+-- An actor is ambiguous if it has many lists of open jobs itself, or if a job of its path is ambiguous. Each job of the path may
+-- have any of the classes that it can belong to itself.
+pub data IsAmbiguous (plan : Plan) (lines : List RecordedLine) : RecordedActor → Type 0 where
+  itself : (actor : RecordedActor) (label pool : List ℕ) (steps : List PathStep)
+      → HasLabel lines actor label pool
+      → AreStepsOf plan lines (path_of lines actor) steps
+      → HasManyLists plan actor label pool steps
+      → IsAmbiguous plan lines actor
+  below : (actor : RecordedActor) (job : ℕ)
+      → list_any (submits job) (path_of lines actor) ≡ true
+      → IsAmbiguous plan lines (Job job)
+      → IsAmbiguous plan lines actor
+
+-- No actor is ambiguous.
+abbrev pub HasNoAmbiguousActor : Plan → List RecordedLine → Type 0
+HasNoAmbiguousActor plan lines = (actor : RecordedActor) → ¬ IsAmbiguous plan lines actor
+
+-- Each label of a recorded job refers to at most one class in its pool.
+abbrev pub HasOneClassEach : Plan → List RecordedLine → Type 0
+HasOneClassEach plan lines = (job : ℕ) (label pool : List ℕ) → label_of lines job ≡ Some (label, pool) → length (class_family plan label pool) ≤ 1
+
 -- The result has the longest prefix of the path that a body of the family explains, and the reason why the prefix is not
--- longer. Each job of the path may have any of the classes that it can belong to itself.
+-- longer. Each job of the path may have any of the classes that it can belong to itself. If the path matches no body, but the
+-- prefix is the whole path, the result also has a job that the actor should have got before its end.
 pub record IsExplained (plan : Plan) (lines : List RecordedLine) (reported : ClassifiedActor) : Type 0 where
   pub steps : List PathStep
   pub path : AreStepsOf plan lines (path_of lines reported.actor) steps
   pub most : IsMostExplained (actor_kind_of reported.actor) (bodies_of plan reported.actor (string_bytes reported.label) (string_bytes reported.pool)) steps reported.family.explained
+  pub named : NamesMissing reported.family.members.items (bodies_of plan reported.actor (string_bytes reported.label) (string_bytes reported.pool)) steps reported.family.explained
 
 -- The result is correct for these lines, whether the actor is settled or not.
 pub record IsCorrectResult (plan : Plan) (lines : List RecordedLine) (reported : ClassifiedActor) : Type 0 where
@@ -49,7 +78,7 @@ pub record IsCorrectResult (plan : Plan) (lines : List RecordedLine) (reported :
   pub members : IsTrue reported.family.is_decided → CanBe plan lines reported.actor reported.family.members.items
   pub ascending : IsStrictlyIncreasing reported.family.members.items
   pub explained : IsTrue reported.family.is_decided → IsExplained plan lines reported
-  pub decided : HasNoFamilies plan → IsTrue reported.family.is_decided
+  pub decided : ¬ IsAmbiguous plan lines reported.actor → IsTrue reported.family.is_decided
 
 -- ---- all actors
 -- The result is the result for this actor.

@@ -35,10 +35,6 @@ is_client_in_family plan label client = is_of_family label (client_at plan clien
 unfoldable pub class_family : Plan → List ℕ → List ℕ → List ℕ
 class_family plan label pool = filter (is_class_in_family plan label pool) (range_with_len 0 (length plan.classes))
 
--- Each label refers to at most one class in each pool.
-abbrev pub HasNoFamilies : Plan → Type 0
-HasNoFamilies plan = (label pool : List ℕ) → length (class_family plan label pool) ≤ 1
-
 -- The numbers of the client kinds that rounds of this label may belong to, in ascending order.
 unfoldable pub client_family : Plan → List ℕ → List ℕ
 client_family plan label = filter (is_client_in_family plan label) (range_with_len 0 (length plan.clients))

@@ -1,5 +1,5 @@
 -- The members of a family whose bodies a path matches, and how much of the path the bodies explain.
-use Rattle.std.specs.Prelude.{◌≡◌, ◌≤◌, ◌<◌, ◌↔◌, ℕ, List, None, length, take, map, All, Any, Contains, ⊤}
+use Rattle.std.specs.Prelude.{◌≡◌, ◌≤◌, ◌<◌, ◌↔◌, ℕ, true, is_some, List, [], None, length, take, map, All, Any, Contains, ⊤}
 use Rattle.job_bodies.specs.declared.action.Action.{Action}
 use Rattle.job_bodies.specs.Plan.{Plan, class_at, client_at}
 use Rattle.conformance.specs.declared.explained_prefix.ExplainedPrefix.{ExplainedPrefix}
@@ -62,6 +62,11 @@ pub record IsMostExplained (kind : ActorKind) (bodies : List (List Action)) (pat
   -- The excess is `None` only if no body that explains the prefix has a submit left for the next step.
   pub without : explained.excess ≡ None → All (HasNoSubmitLeft kind path explained.length) bodies
   pub none : length bodies ≡ 0 → explained ≡ record { length = 0; excess = None; missing = None }
+
+-- If the whole path is explained and it matches none of the family's bodies, there is a job that the actor should have got before
+-- its end. `members` are those whose bodies the path matches.
+abbrev pub NamesMissing : List ℕ → List (List Action) → List PathStep → ExplainedPrefix → Type 0
+NamesMissing members bodies path explained = members ≡ [] → 0 < length bodies → explained.length ≡ length path → is_some explained.missing ≡ true
 
 -- If the step is a submit, its job can belong to at most one class.
 abbrev pub HasAtMostOneClass : PathStep → Type 0

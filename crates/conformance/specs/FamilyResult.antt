@@ -8,7 +8,7 @@ use Rattle.conformance.specs.declared.step.PathState.{PathState}
 use Rattle.conformance.specs.Path.{IsPathOf}
 use Rattle.conformance.specs.PathMatch.{IsUnambiguous, HasManyOpenLists}
 use Rattle.conformance.specs.declared.family_match.FamilyMatch.{FamilyMatch}
-use Rattle.conformance.specs.FamilyMatch.{IsMostExplained, AreOneClassEach}
+use Rattle.conformance.specs.FamilyMatch.{IsMostExplained, NamesMissing, AreOneClassEach}
 
 -- The result of matching the path against the bodies of the classes or client kinds in `matched` is correct. It has the
 -- members of the family, the longest explained prefix, and the flag `is_decided`.
@@ -17,6 +17,7 @@ pub record IsCorrectResult (kind : ActorKind) (body_of : ℕ → List Action) (p
   pub complete : IsTrue is_decided → All (λ n. IsPathOf kind path_state (body_of n) path → Contains members n) matched
   pub sure : All (λ n. IsUnambiguous (body_of n) path → IsPathOf kind path_state (body_of n) path → Contains members n) matched
   pub explained : IsTrue is_decided → IsMostExplained kind (map body_of matched) path longest
+  pub named : IsTrue is_decided → NamesMissing members (map body_of matched) path longest
   pub decided : AreOneClassEach path → IsTrue is_decided
   pub many : is_decided ≡ false → Any (λ n. HasManyOpenLists kind (body_of n) path) matched
   pub few : length members ≤ length matched

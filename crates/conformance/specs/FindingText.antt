@@ -84,7 +84,7 @@ abbrev pub found_text : Plan → Finding → List ℕ
 found_text plan (finding.Pool deviation) = deviation_text plan deviation
 found_text plan (finding.UnplannedLabel name) = not_planned_text name
 found_text plan (finding.PathMismatch line mismatch) = mismatch_text plan mismatch
-found_text plan (finding.NotDecided actor name) = label_text actor name ++ codes ": not decided: a job that it submitted may belong to several classes of its body"
+found_text plan (finding.NotDecided actor name) = label_text actor name ++ codes ": not decided: some jobs that it submitted, directly or through other jobs, may belong to several classes"
 found_text plan (finding.TooMany excess) = kind_excess_text plan excess
 found_text plan (finding.ForeignGet get name job) = foreign_get_text get name job
 found_text plan (finding.Invalidation invalidation name) = invalidation_text invalidation name

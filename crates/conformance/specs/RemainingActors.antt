@@ -13,9 +13,8 @@ use Rattle.conformance.specs.declared.actor_table.UnsettledActor.{UnsettledActor
 use Rattle.conformance.specs.declared.actor_table.EndedPath.{EndedPath}
 use Rattle.conformance.specs.declared.actor_path.ActorPath.{ActorPath}
 use Rattle.conformance.specs.declared.job_classes.ClassTable.{ClassTable}
-use Rattle.conformance.specs.Family.{HasNoFamilies}
 use Rattle.conformance.specs.PathState.{has_ended, path_state_of}
-use Rattle.conformance.specs.ActorTables.{in_table, classes_in, AreClassesIn, AreUnambiguousIn}
+use Rattle.conformance.specs.ActorTables.{in_table, classes_in, AreClassesIn, AreDecidedIn}
 use Rattle.conformance.specs.Represents.{IsNamed}
 
 -- The actor has ended with this path. If there is no path, the actor is open.
@@ -34,7 +33,7 @@ pub record IsStateAtEnd (plan : Plan) (lines : List RecordedLine) (actors : Acto
   pub named : (actor : RecordedActor) (kept : UnsettledActor) → in_table actors actor ≡ Some kept → IsNamed lines actor kept
   pub at : (actor : RecordedActor) (kept : UnsettledActor) → in_table actors actor ≡ Some kept → IsAt lines actor kept.ended_path
   pub classes : AreClassesIn plan lines known
-  pub decided : HasNoFamilies plan → AreUnambiguousIn known
+  pub decided : AreDecidedIn plan lines known
   pub below : (actor : RecordedActor) (job : ℕ) → is_some (in_table actors actor) ≡ true → has_submitted lines actor job ≡ true → is_refused lines job ≡ false
       → (is_some (in_table actors (Job job)) ≡ true) ⊎ (is_some (classes_in known job) ≡ true)
   pub submitter : (actor : RecordedActor) (job : ℕ) (kept : UnsettledActor) → in_table actors (Job job) ≡ Some kept → has_submitted lines actor job ≡ true → is_refused lines job ≡ false → kept.submitter ≡ Some actor

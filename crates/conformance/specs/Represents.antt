@@ -14,11 +14,10 @@ use Rattle.conformance.specs.declared.actor_table.UnsettledActor.{UnsettledActor
 use Rattle.conformance.specs.declared.actor_table.EndedPath.{EndedPath}
 use Rattle.conformance.specs.declared.job_classes.ClassTable.{ClassTable}
 use Rattle.conformance.specs.declared.actor_classifier.ActorClassifier.{ActorClassifier}
-use Rattle.conformance.specs.Family.{HasNoFamilies}
 use Rattle.conformance.specs.PathState.{has_ended}
 use Rattle.conformance.specs.Label.{HasLabel}
 use Rattle.conformance.specs.Classes.{IsSettled}
-use Rattle.conformance.specs.ActorTables.{in_table, classes_in, AreKnown, AreUnambiguousIn, AreSettledBefore}
+use Rattle.conformance.specs.ActorTables.{in_table, classes_in, AreKnown, AreSettledBefore}
 
 -- The entry has the label and the pool that the lines give the actor.
 abbrev pub IsNamed : List RecordedLine → RecordedActor → UnsettledActor → Type 0
@@ -55,4 +54,3 @@ pub record AreTablesOf (plan : Plan) (lines : List RecordedLine) (actors : Actor
 pub record IsClassifierOf (plan : Plan) (classes : ActorClassifier) (lines : List RecordedLine) : Type 0 where
   pub paths : IsPathsOf classes.paths lines
   pub kept : AreTablesOf plan lines classes.actors classes.known None
-  pub decided : HasNoFamilies plan → AreUnambiguousIn classes.known

@@ -7,9 +7,7 @@ ghost use Rattle.recordings.specs.RecordingLine.{RecordedLine, line_view};
 ghost use Rattle.recordings.specs.PathsOfLines.{KeepsRules};
 ghost use Rattle.job_bodies.specs.Plan as plans;
 ghost use Rattle.conformance.specs.declared.classified_actor.ClassifiedActor.{ClassifiedActor};
-ghost use Rattle.conformance.specs.Family.{HasNoFamilies};
 ghost use Rattle.conformance.specs.Changes.{ChangesTable};
-ghost use Rattle.conformance.specs.ActorTables.{AreUnambiguousIn};
 ghost use Rattle.conformance.specs.ClassifiedActor.{AreResultsOfPrefix, AddsSettled};
 ghost use Rattle.conformance.specs.Represents.{IsClassifierOf, AreTablesOf};
 ghost use Rattle.conformance.specs.ClassificationResults.{IsProgressOf, IsReady, IsStep, ended_path_of, submitter_of as spec_submitter_of};
@@ -33,13 +31,12 @@ use std::alloc::{AllocError, Global};
 /// recording ends. At the end of the recording, [`finish`](ActorClassifier::finish) classifies all
 /// actors that are not settled.
 ///
-/// The classifier stores the paths of the unsettled actors. It also stores the classes of each
-/// settled job that an unsettled actor submitted.
+/// The classifier stores the paths of the unsettled actors. For each settled job that an unsettled
+/// actor submitted, it also stores the classes that the job can belong to.
 ///
-/// The path of an ended actor is scanned only once in total. Each scan stops at the first unsettled
-/// job, and the next scan continues there. No contract states the running time for a line. If
-/// several actors become settled with the same line, no contract states in which order they are
-/// reported.
+/// Each search for an unsettled job in the path of an ended actor stops at the first such job, and
+/// the next search continues there. No contract states how long a line takes. If several
+/// actors become settled with the same line, no contract states in which order they are reported.
 #[derive(Drop)]
 pub struct ActorClassifier {
     pub(crate) paths: Paths,
@@ -168,7 +165,7 @@ impl ActorClassifier {
         }
     }
 
-    // Returns how much of the path of an ended actor is settled.
+    // Returns how much of the path of an ended actor is settled, and `None` for any other actor.
     fn progress(&self, actor: RecordedActor) -> Option<Progress>
         ensures { MatchOption result (ended_path_of self.now.actors actor ≡ None) (λ progress.
             IsProgressOf self.now.actors self.now.known actor progress.known progress.is_ready) }
@@ -183,7 +180,8 @@ impl ActorClassifier {
         })
     }
 
-    // Classifies and removes the actor, if it has ended and all jobs of its path are settled.
+    // Removes the actor from the table, and classifies it if it has ended. All jobs of its path
+    // must be settled. Returns the submitter of a classified job, and `None` for any other actor.
     fn classify_ready(
         &mut self,
         plan: &Plan,
@@ -192,7 +190,6 @@ impl ActorClassifier {
     ) -> Result<Option<RecordedActor>, AllocError>
         ensures reported { (lines : List RecordedLine)
             → AreTablesOf plan.now lines self.old.actors self.old.known (Some actor)
-            → (HasNoFamilies plan.now → AreUnambiguousIn self.old.known)
             → IsReady self.old.actors self.old.known actor
             → KeepsRules lines
             → IfOk result (λ next.
@@ -232,7 +229,6 @@ impl ActorClassifier {
     ) -> Result<Option<RecordedActor>, AllocError>
         ensures reported { (lines : List RecordedLine)
             → AreTablesOf plan.now lines self.old.actors self.old.known (Some actor)
-            → (HasNoFamilies plan.now → AreUnambiguousIn self.old.known)
             → KeepsRules lines
             → IfOk result (λ next.
             IsStep plan.now lines self.old.actors self.new.actors self.new.known
@@ -254,8 +250,8 @@ impl ActorClassifier {
         }
     }
 
-    // Classifies the actor, its submitter, the submitter of that and so on, up to the first one
-    // that waits for another job.
+    // Classifies the actor, its submitter, the submitter of that and so on. Stops at the first one
+    // that has not ended or has an unsettled job in its path.
     fn settle_chain(
         &mut self,
         plan: &Plan,
@@ -264,7 +260,6 @@ impl ActorClassifier {
     ) -> Result<(), AllocError>
         ensures reported { (lines : List RecordedLine)
             → AreTablesOf plan.now lines self.old.actors self.old.known (Some actor)
-            → (HasNoFamilies plan.now → AreUnambiguousIn self.old.known)
             → KeepsRules lines
             → OnOk result
             (IsStep plan.now lines self.old.actors self.new.actors self.new.known
@@ -282,8 +277,8 @@ impl ActorClassifier {
 }
 
 /// The progress towards classifying an ended actor. All jobs that the first `known` steps of its
-/// path submit are settled, which means that they are classified. `is_ready` is true if these are
-/// all steps of the path: the actor can then be classified.
+/// path submit are settled, which means that they are classified. `is_ready` is true if the path
+/// has no step after these: the actor can then be classified.
 #[derive(Clone, Copy)]
 struct Progress {
     known: usize,

@@ -1,15 +1,19 @@
 //! Comparison of a recording with a plan.
 
-ghost use Rattle.std.specs.Prelude.{◌≡◌, [], ℕ, false, List, Option, IfOk};
+ghost use Rattle.std.specs.Prelude.{◌≡◌, [], ℕ, false, List, Option, IfOk, IsTrue};
 ghost use Rattle.std.specs.List.{list_any};
 ghost use Rattle.recordings.specs.RecordingLine.{RecordedLine, lines_read};
 ghost use Rattle.recordings.specs.Faults.{IsFirstFault};
 ghost use Rattle.recordings.specs.PathsOfLines.{KeepsRules};
+ghost use Rattle.job_bodies.specs.WellFormed.{IsWellFormed};
+ghost use Rattle.cert_text.specs.Cert.{Cert};
+ghost use Rattle.soundness.specs.Accepted.{accepted};
+ghost use Rattle.conformance.specs.FollowedActors.{AreActorsFollowed};
 ghost use Rattle.conformance.specs.RoundExcesses.{excesses_by_lines};
 ghost use Rattle.conformance.specs.Lines.{lines_of};
 ghost use Rattle.conformance.specs.Conforms.{Conforms, DoAsPlanned, HasNoInvalidation};
 ghost use Rattle.conformance.specs.Findings.{AreFindingsOf, is_of_actors, is_not_decided};
-ghost use Rattle.conformance.specs.Family.{HasNoFamilies};
+ghost use Rattle.conformance.specs.ClassifiedActor.{HasNoAmbiguousActor, HasOneClassEach};
 ghost use Rattle.conformance.specs.FirstKinds.{AreFirstKinds};
 ghost use Rattle.conformance.specs.Rejections.{AreRejectionsOf, rejections_of};
 ghost use Rattle.conformance.specs.Survey.{IsSurveyOf};
@@ -20,7 +24,9 @@ use crate::excess_tracker::excesses;
 use crate::finding::Finding;
 use crate::rejections::{PoolRejections, Rejections, find_rejections};
 use crate::survey::{Survey, survey_recording};
-use crate::{RoundExcess, pools_are_as_planned, rounds_are_within_plan};
+use crate::{
+    RoundExcess, planned_actors_are_followed, pools_are_as_planned, rounds_are_within_plan,
+};
 use job_bodies::Plan;
 use recordings::RecordingFault;
 use std::alloc::{AllocError, Global};
@@ -58,19 +64,22 @@ pub enum Conformance {
 /// - for each label of the plan, the first actor, by number, with a path that matches no body. The
 ///   finding has the first step that no body allows, and the line of this step;
 /// - for each label of the plan, the first actor, by number, with an undecided match: it is unknown
-///   which bodies the path matches. There is no such actor if each label of a job refers to at most
-///   one class of the plan;
+///   which bodies the path matches. The path of this actor, or of a job that it submitted directly
+///   or through other jobs, has a moment with more than [`MAX_OPEN_LISTS`](crate::MAX_OPEN_LISTS)
+///   choices of classes for its open jobs. So there is no such actor if each label of a job refers
+///   to at most one class of the plan;
 /// - for each client kind, the first line at which the kind has more rounds than the plan allows.
-///   Each round is counted for the first kind that it can belong to. A round with an undecided kind
-///   is not counted;
+///   Each round is counted for the first kind that it can belong to. If it can belong to none, it
+///   is counted for the first kind that its label may refer to. A round with an undecided kind is
+///   not counted;
 /// - the first foreign get: a line in which an actor gets a job that another actor submitted, and
 ///   the submitter has not got the job in an earlier line;
 /// - for each type of event that invalidates a SAFE answer independently of the paths, the first
 ///   line with such an event. A rejection that the plan allows is not such an event.
 ///
-/// The plan allows no rejection by a pool that may not reject jobs or has an unbounded queue. For
-/// any other pool, the plan allows the rejection in a `refused` line if one of these conditions
-/// holds:
+/// The plan allows no rejection by a pool that may not reject jobs, and none by a pool with an
+/// unbounded queue. For any other pool, the plan allows the rejection in a `refused` line if one of
+/// these conditions holds:
 ///
 /// - The handler is `abort` in each `pool` line of the pool.
 /// - The handler is `caller_runs` in each of these lines. The job does not submit, get or cancel a
@@ -80,7 +89,9 @@ pub enum Conformance {
 ///   pool.
 ///
 /// If no finding is about a label, a path or a number of rounds, all jobs and rounds behave as
-/// planned. This holds even if there are other findings.
+/// planned. This holds even if there are other findings. If a certificate accepts the plan, the
+/// machine of the plan can then follow each job and each round (see
+/// [`planned_actors_are_followed`]).
 ///
 /// A get that timed out or was interrupted is not a finding, and it is no step of the actor's path.
 /// If the path matches a body, the get does not invalidate a SAFE answer. Otherwise the path is
@@ -100,15 +111,31 @@ pub fn conform(alloc: Global, plan: &Plan, recording: &[u8]) -> Result<Conforman
     ensures actors { IfOk result (λ reported.
         spec.IfCompared reported (λ findings.
         list_any is_of_actors findings ≡ false → DoAsPlanned plan.now (lines_of recording.now))) }
+
+    // If a certificate accepts the plan, the machine of the plan can follow each job and round.
+    ensures followed { (cert : Cert)
+        → IsWellFormed plan.now
+        → IsTrue (accepted plan.now cert)
+        → IfOk result (λ reported.
+        spec.IfCompared reported (λ findings.
+        list_any is_of_actors findings ≡ false → AreActorsFollowed plan.now (lines_of recording.now))) }
     ensures found { IfOk result
         (λ reported. spec.IfCompared reported (AreFindingsOf plan.now (lines_of recording.now))) }
+
+    // A match is undecided only if the actor is ambiguous (see `found`).
     ensures decided { IfOk result (λ reported.
         spec.IfCompared reported (λ findings.
-        HasNoFamilies plan.now → list_any is_not_decided findings ≡ false)) }
+        HasNoAmbiguousActor plan.now (lines_of recording.now)
+        → list_any is_not_decided findings ≡ false)) }
+    ensures one_class_each { IfOk result (λ reported.
+        spec.IfCompared reported (λ findings.
+        HasOneClassEach plan.now (lines_of recording.now)
+        → list_any is_not_decided findings ≡ false)) }
     ensures ascending { IfOk result (λ reported. spec.IfCompared reported spec.AreInOrder) }
     ensures rejections { IfOk result (λ reported.
         spec.IfCounted reported (λ counts. counts ≡ rejections_of plan.now (lines_of recording.now))) }
 {
+    planned_actors_are_followed();
     match survey_recording(alloc, plan, recording)? {
         Ok(survey) => {
             let refusals = find_rejections(alloc, plan, recording)?;
@@ -152,7 +179,8 @@ fn findings_of_survey(
         → IsSurveyOf plan.now (lines_of recording.now) survey
         → AreRejectionsOf plan.now (lines_of recording.now) refusals.now
         → IfOk result (λ findings.
-        HasNoFamilies plan.now → list_any is_not_decided findings.items ≡ false) }
+        HasNoAmbiguousActor plan.now (lines_of recording.now)
+        → list_any is_not_decided findings.items ≡ false) }
     ensures ascending { IfOk result (λ findings. spec.AreInOrder findings.items) }
 {
     pools_are_as_planned();
@@ -164,8 +192,8 @@ fn findings_of_survey(
 }
 
 // Returns, for each kind, the first line at which it has more rounds than the plan allows. The
-// survey counted each round as the first kind of its label. The rounds are counted again only if
-// one of them belongs to another kind.
+// survey counted each round for the first kind that its label may refer to. The rounds are counted
+// again only if one of them belongs to another kind or has an undecided kind.
 fn round_excesses(
     alloc: Global,
     plan: &Plan,

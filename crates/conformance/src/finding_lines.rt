@@ -45,7 +45,8 @@ pub fn push_finding(text: &mut String, plan: &Plan, finding: &Finding) -> Result
         Finding::NotDecided { actor, label } => {
             push_actor(text, *actor, label)?;
             text.push_str(
-                ": not decided: a job that it submitted may belong to several classes of its body",
+                ": not decided: some jobs that it submitted, directly or through other jobs, \
+                 may belong to several classes",
             )
         }
         Finding::TooMany(excess) => push_excess(text, plan, *excess),

@@ -5,9 +5,9 @@ ghost use Rattle.recordings.specs.RecordingLine.{RecordedLine};
 ghost use Rattle.recordings.specs.declared.step.RecordedStep.{RecordedStep};
 ghost use Rattle.recordings.specs.ActorPath.{submits};
 ghost use Rattle.job_bodies.specs.Plan.{Plan};
+ghost use Rattle.conformance.specs.declared.job_classes.JobClasses.{JobClasses};
 ghost use Rattle.conformance.specs.Classes.{AreClassesOf, AreStepsOf};
-ghost use Rattle.conformance.specs.FamilyMatch.{AreOneClassEach};
-ghost use Rattle.conformance.specs.ActorTables.{Keeps, AreRemoved, classes_in, is_settled_step, AreClassesIn, AreUnambiguousIn, AreAllIn, AreOnce, AreSettledBefore, IsUnsettledAt};
+ghost use Rattle.conformance.specs.ActorTables.{Keeps, AreRemoved, classes_in, is_settled_step, AreClassesIn, AreDecidedOn, AreAllIn, AreOnce, AreSettledBefore, IsUnsettledAt};
 
 use crate::{FamilyMatch, PathStep};
 use recordings::{RecordedActor, RecordedStep};
@@ -56,7 +56,7 @@ impl ClassTable {
     }
 
     /// Stores the classes of the actor, if the actor is a job with a submitter. Stores nothing for
-    /// a refused job or a round, because no path has such an actor.
+    /// a refused job or a round, because neither is in the path of another actor.
     ///
     /// # Errors
     ///
@@ -109,8 +109,7 @@ impl ClassTable {
 
     /// Replaces the contents of `steps` with the steps of the path. In `steps`, each submit has the
     /// classes that its job can belong to. Removes the jobs of the path from the table. Returns
-    /// true if the table had each of these jobs, and it was decided which classes the job can
-    /// belong to.
+    /// true if the table had all of these jobs, and the classes of each of them were decided.
     ///
     /// # Errors
     ///
@@ -124,11 +123,10 @@ impl ClassTable {
             → AreClassesIn plan lines self.old
             → IfOk result
             (λ is_decided. IsTrue is_decided → AreStepsOf plan lines path.now steps.new.items) }
-        ensures decided { AreUnambiguousIn self.old
+        ensures decided { AreDecidedOn self.old path.now
             → AreAllIn self.old path.now
             → AreOnce path.now
             → IfOk result (λ is_decided. IsTrue is_decided) }
-        ensures plain { AreUnambiguousIn self.old → OnOk result (AreOneClassEach steps.new.items) }
         ensures gone { OnOk result (AreRemoved self.old path.now self.new) }
     {
         steps.clear();
@@ -140,8 +138,8 @@ impl ClassTable {
         Ok(is_decided)
     }
 
-    // Appends the step to the list and removes its job. Returns true if the classes of the job are
-    // decided.
+    // Appends the step to the list. If the step is a submit, removes its job from the table, and
+    // returns true if the classes of the job are decided. Returns true for a get.
     fn take_step(
         &mut self,
         step: RecordedStep,
@@ -152,12 +150,9 @@ impl ClassTable {
             → AreStepsOf plan lines path steps.old.items
             → IfOk result (λ is_step_decided.
             IsTrue is_step_decided → AreStepsOf plan lines (path ++ step ∷ []) steps.new.items) }
-        ensures decided { AreUnambiguousIn self.old
+        ensures decided { AreDecidedOn self.old (step ∷ [])
             → IsTrue (is_settled_step self.old step)
             → IfOk result (λ is_step_decided. IsTrue is_step_decided) }
-        ensures plain { AreUnambiguousIn self.old
-            → AreOneClassEach steps.old.items
-            → OnOk result (AreOneClassEach steps.new.items) }
         ensures gone { OnOk result
             ((one : ℕ)
             → classes_in self.new one
@@ -176,17 +171,16 @@ impl ClassTable {
         }
     }
 
-    // Removes and returns the classes of a job. A job that is not settled has no classes, and they
-    // are undecided.
+    // Removes and returns the classes of a job. For a job that is not settled, returns undecided
+    // classes with an empty list.
     fn take_classes(&mut self, job: usize) -> JobClasses
         ensures classes { (plan : Plan) (lines : List RecordedLine)
             → AreClassesIn plan lines self.old
             → IsTrue result.is_decided
             → AreClassesOf plan lines job result.classes.items }
-        ensures decided { AreUnambiguousIn self.old
+        ensures decided { ((known : JobClasses) → classes_in self.old job ≡ Some known → IsTrue known.is_decided)
             → IsTrue (is_some (classes_in self.old job))
             → IsTrue result.is_decided }
-        ensures plain { AreUnambiguousIn self.old → length result.classes.items ≤ 1 }
         ensures gone { (one : ℕ)
             → classes_in self.new one ≡ (if job == one then None else classes_in self.old one) }
     {

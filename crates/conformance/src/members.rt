@@ -4,7 +4,7 @@ ghost use Rattle.std.specs.Prelude.{◌≡◌, ◌≤◌, ℕ, false, All, Any, 
 ghost use Rattle.std.specs.List.Sorted.{IsStrictlyIncreasing};
 ghost use Rattle.conformance.specs.declared.step.ActorKind.TheVariants as actor_kind;
 ghost use Rattle.conformance.specs.Family.{class_family, client_family};
-ghost use Rattle.conformance.specs.FamilyMatch.{IsClassOf, IsKindOf, AreExactly, IsMostExplained, AreOneClassEach, class_body, client_body, class_bodies, client_bodies};
+ghost use Rattle.conformance.specs.FamilyMatch.{IsClassOf, IsKindOf, AreExactly, IsMostExplained, NamesMissing, AreOneClassEach, class_body, client_body, class_bodies, client_bodies};
 ghost use Rattle.conformance.specs.PathMatch.{IsUnambiguous, HasManyOpenLists};
 
 use crate::bodies::{class_body, client_body};
@@ -41,6 +41,9 @@ pub fn classes_of_path(
     ensures explained { IfOk result (λ reported.
         IsTrue reported.is_decided
         → IsMostExplained actor_kind.Job (class_bodies plan.now label.now pool.now) path.now reported.explained) }
+    ensures named { IfOk result (λ reported.
+        IsTrue reported.is_decided
+        → NamesMissing reported.members.items (class_bodies plan.now label.now pool.now) path.now reported.explained) }
     ensures decided { IfOk result (λ reported.
         AreOneClassEach path.now → IsTrue reported.is_decided) }
     ensures many { IfOk result (λ reported.
@@ -85,6 +88,9 @@ pub fn kinds_of_path(
     ensures explained { IfOk result (λ reported.
         IsTrue reported.is_decided
         → IsMostExplained actor_kind.Round (client_bodies plan.now label.now) path.now reported.explained) }
+    ensures named { IfOk result (λ reported.
+        IsTrue reported.is_decided
+        → NamesMissing reported.members.items (client_bodies plan.now label.now) path.now reported.explained) }
     ensures decided { IfOk result (λ reported.
         AreOneClassEach path.now → IsTrue reported.is_decided) }
     ensures many { IfOk result (λ reported.

@@ -33,15 +33,17 @@ use std::alloc::{AllocError, Global};
 ///   may get only jobs of classes that its body still gets.
 /// - If `path_state` is [`PathState::Whole`], the walk can reach the end of the body.
 ///
-/// A job of the path may belong to several classes that the body submits. Then there is a state of
-/// the walk for each list of jobs that can be open, with one class for each job. If there are more
-/// than [`MAX_OPEN_LISTS`] of them, three ways are tried to choose one class for each job: the first
-/// class, the last class, and the class of the next submit that fits. The result is
-/// [`PathMatch::Undecided`] if the path matches in none of the three ways. No contract says that
-/// these ways are tried.
+/// A job of the path may belong to several classes that the body submits. The match then follows
+/// every possible list of open jobs. In a list, each job has one of its classes. If more than
+/// [`MAX_OPEN_LISTS`] lists are possible after a step of the path, three ways are tried to choose
+/// one class for each job: the first class, the last class, and the class of the next submit of the
+/// body that fits. The result is [`PathMatch::Undecided`] if the path matches in none of the three
+/// ways. No contract says that these ways are tried.
 ///
-/// If each job of the path has at most one of the body's classes, the number of computation steps
-/// is at most proportional to the length of the body times the length of the path.
+/// If each job of the path has at most one of the body's classes, at most one list is possible
+/// after each step. If each job has at most one class in all, the number of computation steps is at
+/// most proportional to the length of the body times the sum of both lengths. No contract states
+/// this.
 ///
 /// # Errors
 ///
@@ -67,7 +69,8 @@ pub fn match_path(
     ensures decided { IfOk result
         (λ path_match. IsUnambiguous body.now path.now → IsDecided path_match) }
 
-    // The result is undecided only if many lists of jobs can be open at one time.
+    // The result is undecided only if more than `MAX_OPEN_LISTS` lists of open jobs are possible
+    // after some step.
     ensures many { IfOk result
         (λ path_match. OnUndecided path_match (HasManyOpenLists kind body.now path.now)) }
 {
@@ -87,8 +90,9 @@ pub fn match_path(
 }
 
 /// Matches the path against the body in joint walks, which go through both together, step by step.
-/// There is a state for each list of jobs that can be open. The path deviates at the first step that
-/// no walk can make. The result is undecided if there are more than [`MAX_OPEN_LISTS`] states.
+/// Walks share a state if they have the same open jobs with the same classes. The path deviates at
+/// the first step that no walk can make. The result is undecided if there are more than
+/// [`MAX_OPEN_LISTS`] states after a step.
 ///
 /// # Errors
 ///
@@ -105,9 +109,9 @@ fn match_exactly(
     let gets = body_gets(alloc, body)?;
     let mut states = start_states(alloc, body)?;
     for place in 0..path.len() {
-        let excess = excess_at(&states, body, &gets, &path[place]);
         states = states_after(alloc, states, kind, body, &gets, place, &path[place])?;
         if states.is_empty() {
+            let excess = excess_at(alloc, kind, body, &gets, path, place)?;
             return Ok(PathMatch::Deviates(ExplainedPrefix {
                 length: place,
                 excess,
@@ -122,8 +126,8 @@ fn match_exactly(
 }
 
 /// Returns the result after all steps of the path. If the path is only a prefix, it matches. A
-/// whole path matches only if the body can be at its end. `states` has the states after the last
-/// step, and `gets` has the gets of the body.
+/// whole path matches only if a walk reaches the end of the body. `states` has the states after the
+/// last step, and `gets` has the gets of the body.
 fn match_at_end(
     states: &[WalkState],
     body: &[Action],
@@ -154,8 +158,8 @@ fn match_at_end(
     }
 }
 
-/// Returns true if the path matches the body with at least one rule of [`Pick`]. The rule picks the
-/// class of each job in the path.
+/// Returns true if the path matches the body with at least one of the rules of [`Pick`], each of
+/// which picks a class for each job in the path.
 ///
 /// # Errors
 ///

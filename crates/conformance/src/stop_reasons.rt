@@ -1,6 +1,6 @@
 //! The reasons why no joint walk over a body and a path continues.
 
-ghost use Rattle.std.specs.Prelude.{◌≡◌, ◌+◌, ℕ, List, Some, length, slice_get};
+ghost use Rattle.std.specs.Prelude.{◌≡◌, ◌<◌, ◌+◌, ℕ, List, Some, IfOk, length, slice_get};
 ghost use Rattle.job_bodies.specs.declared.action.Action.{Action};
 ghost use Rattle.conformance.specs.declared.open_job.OpenJob.{OpenJob};
 ghost use Rattle.conformance.specs.declared.step.ActorKind.{ActorKind};
@@ -19,36 +19,47 @@ use crate::furthest::{Reached, furthest};
 use crate::open_excess::OpenExcess;
 use crate::open_job::{count_in, first_in};
 use crate::row::has_submit_at;
-use crate::step::PathStep;
+use crate::step::{ActorKind, PathStep};
 use crate::walk_state::WalkState;
+use crate::walk_states::states_at;
 use job_bodies::Action;
+use std::alloc::{AllocError, Global};
 
-/// The body's next submit of a class, and the last index at or before it that a joint walk reaches.
+/// The body's next submit of one of several classes, and the last index that a joint walk reaches
+/// at or before this submit.
 #[derive(Clone, Copy)]
 pub(crate) struct SubmitAhead {
     pub(crate) submit: usize,
     pub(crate) reached: Reached,
 }
 
-/// Returns the reason why no joint walk makes this step of the path, if none makes it. It is the
-/// excess of [`excess_in`] if the step is a submit, and `None` if it is a get.
+/// Returns the reason why no joint walk makes the step at index `place` of the path. The result has
+/// a meaning only if no walk makes the step. Returns the result of [`excess_in`] if the step is a
+/// submit, and `None` if the step is a get.
+///
+/// # Errors
+///
+/// Returns [`AllocError`] if memory runs out.
 pub(crate) fn excess_at(
-    states: &[WalkState],
+    alloc: Global,
+    kind: ActorKind,
     body: &[Action],
     gets: &[Option<BodyGet>],
-    step: &PathStep,
-) -> Option<OpenExcess>
+    path: &[PathStep],
+    place: usize,
+) -> Result<Option<OpenExcess>, AllocError>
     requires gets { AreGets body.now gets.now }
-    requires tables { spec.HaveTables body.now states.now }
-    ensures { (kind : ActorKind) (path : List PathStep) (place : ℕ)
-        → slice_get path place ≡ Some step.now
-        → spec.AreStatesAt kind body.now path place states.now
-        → ((index : ℕ) (jobs : List OpenJob) → ¬ Walks kind body.now path index (place + 1) jobs)
-        → IsReason kind body.now path place result }
+    requires within { place < length path.now }
+    ensures { ((index : ℕ) (jobs : List OpenJob)
+        → ¬ Walks kind body.now path.now index (place + 1) jobs)
+        → IfOk result (IsReason kind body.now path.now place) }
 {
-    match step {
-        PathStep::Submits(classes) => excess_in(states, body, gets, classes),
-        PathStep::Gets(_) => None,
+    match &path[place] {
+        PathStep::Submits(classes) => {
+            let states = states_at(alloc, kind, body, gets, path, place)?;
+            Ok(excess_in(&states, body, gets, classes))
+        }
+        PathStep::Gets(_) => Ok(None),
     }
 }
 
@@ -78,9 +89,10 @@ fn excess_in(
     })
 }
 
-/// Returns a job that the actor should have got before its end. Consider a walk that goes furthest,
-/// and the first get that the body cannot pass there. The result is the first open job of the path
-/// that has the class of this get. No walk may be at the end of the body.
+/// Returns a job that the actor should have got before its end, as the index of the job's submit in
+/// the path. No walk may have reached the end of the body. Take a walk in which the body is
+/// furthest, and the next get that the body cannot pass. The result is the first open job of the
+/// path that has the class of this get.
 pub(crate) fn missing_in(
     states: &[WalkState],
     body: &[Action],
@@ -101,8 +113,8 @@ pub(crate) fn missing_in(
     first_in(get.class, &state.jobs)
 }
 
-/// Returns the first submit of one of the classes at or after an index where the body can be, with
-/// the last such index at or before it.
+/// Returns the body's first submit of one of the classes that is at or after an index where the
+/// body can be. Also returns the last index, at or before this submit, where the body can be.
 fn submit_ahead(states: &[WalkState], body: &[Action], classes: &[usize]) -> Option<SubmitAhead>
     ensures { spec.AreAhead states.now body.now classes.now result }
 {

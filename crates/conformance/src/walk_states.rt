@@ -1,7 +1,8 @@
-//! The joint walks over a body and a path. The jobs of the path may belong to several classes. There
-//! is a [`WalkState`] for each list of jobs that can be open, with one class for each job.
+//! The joint walks over a body and a path. A job of the path may belong to several classes, and
+//! each walk chooses one of them. Walks share a [`WalkState`] if they have the same open jobs with
+//! the same classes.
 
-ghost use Rattle.std.specs.Prelude.{◌≡◌, ℕ, ◌+◌, ◌++◌, ◌∷◌, [], false, List, Some, IfOk, OnOk, IsTrue, map, slice_get};
+ghost use Rattle.std.specs.Prelude.{◌≡◌, ◌≤◌, ℕ, ◌+◌, ◌++◌, ◌∷◌, [], false, List, Some, IfOk, OnOk, IsTrue, length, map, slice_get};
 ghost use Rattle.std.specs.List.{list_any};
 ghost use Rattle.support.specs.In.{In};
 ghost use Rattle.conformance.specs.declared.step.ActorKind.{ActorKind};
@@ -31,6 +32,30 @@ pub(crate) fn start_states(alloc: Global, body: &[Action]) -> Result<Vec<WalkSta
     let state = WalkState::new(alloc, body)?;
     let mut states = Vec::with_capacity(alloc, 1)?;
     states.push(state)?;
+    Ok(states)
+}
+
+/// Returns the states before the step at index `place` of the path.
+///
+/// # Errors
+///
+/// Returns [`AllocError`] if memory runs out.
+pub(crate) fn states_at(
+    alloc: Global,
+    kind: ActorKind,
+    body: &[Action],
+    gets: &[Option<BodyGet>],
+    path: &[PathStep],
+    place: usize,
+) -> Result<Vec<WalkState>, AllocError>
+    requires gets { AreGets body.now gets.now }
+    requires within { place ≤ length path.now }
+    ensures { IfOk result (λ states. spec.AreStatesAt kind body.now path.now place states.items) }
+{
+    let mut states = start_states(alloc, body)?;
+    for index in 0..place {
+        states = states_after(alloc, states, kind, body, gets, index, &path[index])?;
+    }
     Ok(states)
 }
 
@@ -70,8 +95,8 @@ pub(crate) fn states_after(
     }
 }
 
-/// Returns the states after a submit of a job that may belong to each of these classes. `job` is
-/// the index of the submit in the path.
+/// Returns the states after a submit of a job that may belong to any of these classes. `job` is the
+/// index of the submit in the path.
 fn states_after_submit(
     alloc: Global,
     states: Vec<WalkState>,
@@ -93,7 +118,7 @@ fn states_after_submit(
 }
 
 /// Appends the states that follow `state` after the submit, one for each class with which the body
-/// can make the submit. Only all but the last class need a copy of the state.
+/// can make the submit. The last class needs no copy of `state`.
 fn push_after_submit(
     alloc: Global,
     next: &mut Vec<WalkState>,
@@ -120,7 +145,8 @@ fn push_after_submit(
     push_submitted(next, state, body, gets, job, classes[last])
 }
 
-/// Appends a copy of the state after a submit of a job of the class, if the body can make it.
+/// Appends a copy of `state`, updated for a submit of a job of the class. Appends nothing if the
+/// body cannot make the submit.
 fn push_copy_after_submit(
     alloc: Global,
     next: &mut Vec<WalkState>,
@@ -144,7 +170,8 @@ fn push_copy_after_submit(
     Ok(())
 }
 
-/// Appends the state after a submit of a job of the class, if the body can make it.
+/// Appends `state`, updated for a submit of a job of the class. Appends nothing if the body cannot
+/// make the submit.
 fn push_submitted(
     next: &mut Vec<WalkState>,
     mut state: WalkState,
@@ -188,7 +215,7 @@ fn states_after_get(
     Ok(next)
 }
 
-/// Appends the state after a get of the job, if it still has a walk.
+/// Appends `state`, updated for a get of the job, if a walk is left in it.
 fn push_after_get(
     next: &mut Vec<WalkState>,
     mut state: WalkState,
@@ -210,8 +237,8 @@ fn push_after_get(
     Ok(())
 }
 
-/// Returns the states, with one state in place of all that have the same open jobs. States that
-/// differ only in the class of a job have the same open jobs once the path has got this job.
+/// Merges states with the same open jobs into one state, and returns the resulting list. States
+/// that differ only in the class of a job have the same open jobs once the path has got this job.
 fn merged(alloc: Global, states: Vec<WalkState>) -> Result<Vec<WalkState>, AllocError>
     ensures { IfOk result (λ merged. spec.AreMerged states.items merged.items) }
 {
@@ -240,8 +267,8 @@ fn has_state_with(states: &[WalkState], jobs: &[OpenJob]) -> bool
     false
 }
 
-/// Returns the state with the open jobs of `one` that represents the walks of all states with the
-/// same open jobs.
+/// Merges all states that have the same open jobs as `one`, and returns the resulting state. It has
+/// these open jobs, and the walks of all these states.
 fn merged_state(
     alloc: Global,
     states: &[WalkState],

@@ -38,6 +38,9 @@ returns-clause-sure c = class_sure c.args.plan.now c.args.label.now c.args.pool.
 pub returns-clause-explained : goal.returns-clause-explained
 returns-clause-explained c = (class_whole c.args.plan.now c.args.label.now c.args.pool.now c.args.path_state c.args.path.now c.loop-class.reported c.loop-class.class (omega (arith, c.loop-class-test.false, c.loop-class.auto.class-end, ap length c.classes-class-end.ensures.value)) c.loop-class.invariant).explained
 
+pub returns-clause-named : goal.returns-clause-named
+returns-clause-named c = (class_whole c.args.plan.now c.args.label.now c.args.pool.now c.args.path_state c.args.path.now c.loop-class.reported c.loop-class.class (omega (arith, c.loop-class-test.false, c.loop-class.auto.class-end, ap length c.classes-class-end.ensures.value)) c.loop-class.invariant).named
+
 pub returns-clause-decided : goal.returns-clause-decided
 returns-clause-decided c = (class_whole c.args.plan.now c.args.label.now c.args.pool.now c.args.path_state c.args.path.now c.loop-class.reported c.loop-class.class (omega (arith, c.loop-class-test.false, c.loop-class.auto.class-end, ap length c.classes-class-end.ensures.value)) c.loop-class.invariant).decided
 

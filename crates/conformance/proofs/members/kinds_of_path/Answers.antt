@@ -38,6 +38,9 @@ returns-clause-sure c = kind_sure c.args.plan.now c.args.label.now c.args.path_s
 pub returns-clause-explained : goal.returns-clause-explained
 returns-clause-explained c = (kind_whole c.args.plan.now c.args.label.now c.args.path_state c.args.path.now c.loop-kind.reported c.loop-kind.kind (omega (arith, c.loop-kind-test.false, c.loop-kind.auto.kind-end, ap length c.clients-kind-end.ensures.value)) c.loop-kind.invariant).explained
 
+pub returns-clause-named : goal.returns-clause-named
+returns-clause-named c = (kind_whole c.args.plan.now c.args.label.now c.args.path_state c.args.path.now c.loop-kind.reported c.loop-kind.kind (omega (arith, c.loop-kind-test.false, c.loop-kind.auto.kind-end, ap length c.clients-kind-end.ensures.value)) c.loop-kind.invariant).named
+
 pub returns-clause-decided : goal.returns-clause-decided
 returns-clause-decided c = (kind_whole c.args.plan.now c.args.label.now c.args.path_state c.args.path.now c.loop-kind.reported c.loop-kind.kind (omega (arith, c.loop-kind-test.false, c.loop-kind.auto.kind-end, ap length c.clients-kind-end.ensures.value)) c.loop-kind.invariant).decided
 

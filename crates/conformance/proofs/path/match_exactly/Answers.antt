@@ -22,13 +22,11 @@ returns-then-is_empty c =
     let l = c.loop-place in
     let next = c.in_ok-states-2.states in
     let lt = c.loop-place-test.true in
-    let at = slice_get_read a.path.now (length a.path.now) l.place c.index-path-place-in-loop-place.result refl lt c.index-path-place-in-loop-place.is in
+    let at = slice_get_read a.path.now (length a.path.now) l.place c.index-path-place.result refl lt c.index-path-place.is in
     let none : next.items ≡ [] = empty_list next.items (sym next.ok.0 ∙ eqb-true next.len 0 (sym c.is_empty.ensures ∙ c.if-is_empty.true)) in
     let nothing = subst (λ (states : List WalkState). AreStatesAt a.kind a.body.now a.path.now (l.place + 1) states) none (c.in_ok-states-2.ensures.states a.path.now at l.invariant.are) in
-    let here_at = slice_get_read a.path.now (length a.path.now) l.place c.index-path-place.result refl lt c.index-path-place.is in
-    let seen = subst (λ (states : List WalkState). AreStatesAt a.kind a.body.now a.path.now l.place states) (sym c.deref.ensures.value) l.invariant.are in
-    result_if_stopped a.kind a.body.now a.path.now l.place l.states.items l.invariant.are a.path_state lt l.invariant.some nothing c.excess_at-excess.result
-    (c.excess_at-excess.ensures a.kind a.path.now l.place here_at seen (λ index jobs w. not_In_nil (nothing.complete index jobs w).is_in))
+    result_if_stopped a.kind a.body.now a.path.now l.place l.states.items l.invariant.are a.path_state lt l.invariant.some nothing c.in_ok-excess.excess
+    (c.in_ok-excess.ensures (λ index jobs w. not_In_nil (nothing.complete index jobs w).is_in))
 
 pub returns-then-len-gt-MAX_OPEN_LISTS : goal.returns-then-len-gt-MAX_OPEN_LISTS
 returns-then-len-gt-MAX_OPEN_LISTS c =
@@ -36,7 +34,7 @@ returns-then-len-gt-MAX_OPEN_LISTS c =
     let l = c.loop-place in
     let next = c.in_ok-states-2.states in
     let lt = c.loop-place-test.true in
-    let at = slice_get_read a.path.now (length a.path.now) l.place c.index-path-place-in-loop-place.result refl lt c.index-path-place-in-loop-place.is in
+    let at = slice_get_read a.path.now (length a.path.now) l.place c.index-path-place.result refl lt c.index-path-place.is in
     let seen : c.len.result ≡ length next.items = c.len.ensures ∙ next.ok.0 in
     let many = c.if-len-gt-MAX_OPEN_LISTS.true in
     many_lists a.kind a.body.now a.path.now (l.place + 1) next.items (c.in_ok-states-2.ensures.states a.path.now at l.invariant.are) c.in_ok-states-2.ensures.distinct (omega (arith, lt)) (omega (arith, seen, many))
@@ -46,7 +44,7 @@ loop-place-preserved c =
     let a = c.args in
     let l = c.loop-place in
     let next = c.in_ok-states-2.states in
-    let at = slice_get_read a.path.now (length a.path.now) l.place c.index-path-place-in-loop-place.result refl c.loop-place-test.true c.index-path-place-in-loop-place.is in
+    let at = slice_get_read a.path.now (length a.path.now) l.place c.index-path-place.result refl c.loop-place-test.true c.index-path-place.is in
     record {
       are = c.in_ok-states-2.ensures.states a.path.now at l.invariant.are;
       some = first_state next.items (λ none. eqb-false next.len 0 (sym c.is_empty.ensures ∙ c.if-is_empty.false) (next.ok.0 ∙ none));

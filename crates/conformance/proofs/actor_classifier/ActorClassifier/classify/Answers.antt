@@ -1,14 +1,14 @@
-use Rattle.std.proofs.Common.{◌≡◌, ◌&&◌, true, List, sym, subst, ◌∙◌, arith}
+use Rattle.std.proofs.Common.{◌≡◌, ◌&&◌, true, List, sym, subst, ◌∙◌}
 use Rattle.std.specs.Prelude.{string_bytes}
 use Rattle.recordings.specs.declared.step.RecordedStep.{RecordedStep}
 use Rattle.recordings.proofs.Tests.{and_first, and_second}
 use Rattle.conformance.specs.declared.family_match.FamilyMatch.{FamilyMatch}
 use Rattle.conformance.specs.Classes.{AreStepsOf}
-use Rattle.conformance.specs.ActorTables.{AreAllIn, AreOnce, AreRemoved}
+use Rattle.conformance.specs.ActorTables.{AreDecidedOn, AreAllIn, AreOnce, AreRemoved}
 use Rattle.conformance.specs.ClassificationResults.{IsFamilyOf}
 use Rattle.conformance.specs.declared.step.PathStep.{PathStep}
 use Rattle.conformance.proofs.RemovedJobs.{replaces}
-use Rattle.conformance.proofs.Words.{both_true}
+use Rattle.conformance.proofs.Words.{both_true, by_bool}
 use Rattle.conformance.proofs.actor_classifier.ActorClassifier.classify.Goals as goal
 
 pub returns-clause-reported : goal.returns-clause-reported
@@ -33,10 +33,11 @@ returns-clause-reported c =
             path = subst (λ (path : List RecordedStep). AreStepsOf a.plan.now lines path steps) c.deref.ensures.value (c.in_ok-is_decided.ensures.represents a.plan.now lines classes (and_second _ _ both));
             members = its.members (and_first _ _ both);
             explained = its.explained (and_first _ _ both);
+            named = its.named (and_first _ _ both);
           };
-      decided = λ are all once.
-          c.both_hold.ensures ∙ both_true _ _ (its.decided (c.in_ok-is_decided.ensures.plain are))
-          (c.in_ok-is_decided.ensures.decided are (subst (λ (path : List RecordedStep). AreAllIn a.self.now.known path) (sym c.deref.ensures.value) all) (subst AreOnce (sym c.deref.ensures.value) once));
-      few = λ none job is. omega (arith, its.few job is, none (string_bytes a.label) (string_bytes a.pool));
+      decided = λ lines classes are all once few.
+          let path_is : is_step_decided ≡ true = c.in_ok-is_decided.ensures.decided (subst (λ (path : List RecordedStep). AreDecidedOn a.self.now.known path) (sym c.deref.ensures.value) are) (subst (λ (path : List RecordedStep). AreAllIn a.self.now.known path) (sym c.deref.ensures.value) all) (subst AreOnce (sym c.deref.ensures.value) once) in
+          let stand = subst (λ (path : List RecordedStep). AreStepsOf a.plan.now lines path steps) c.deref.ensures.value (c.in_ok-is_decided.ensures.represents a.plan.now lines classes path_is) in
+          c.both_hold.ensures ∙ both_true _ _ (by_bool c.in_ok-family.family.is_decided (λ is. is) (λ undecided. absurd (few steps stand (its.many undecided)))) path_is;
       ascending = its.ascending;
     }

@@ -10,12 +10,12 @@ use Rattle.conformance.proofs.ActorSteps.{step_taken}
 use Rattle.conformance.proofs.actor_classifier.ActorClassifier.classify_ready.Goals as goal
 
 pub returns-clause-reported : goal.returns-clause-reported
-returns-clause-reported c = λ lines kept decided ready keeps.
+returns-clause-reported c = λ lines kept ready keeps.
     let a = c.args in
     subst (λ (next : Option RecordedActor). IsStep a.plan.now lines a.self.now.actors c.classify.new.self.actors c.classify.new.self.known next a.reported.now.items c.classify.new.reported.items) (sym c.submitter_of.ensures)
     (subst (λ (actors : ActorTable). IsStep a.plan.now lines a.self.now.actors actors c.classify.new.self.known (submitter_of a.actor c.in-Some.kept.submitter) a.reported.now.items c.classify.new.reported.items) (sym c.classify.ensures.actors)
     (step_taken a.plan.now lines a.self.now.actors c.remove.new.self a.self.now.known c.classify.new.self.known a.actor c.in-Some.kept c.in-Some-ended_path.ended_path a.reported.now.items c.classify.new.reported.items
-    keeps kept decided ready (sym c.in-Some.ensures.value) c.in-Some-ended_path.is c.remove.ensures.later c.in_ok-classify.ensures.reported))
+    keeps kept ready (sym c.in-Some.ensures.value) c.in-Some-ended_path.is c.remove.ensures.later c.in_ok-classify.ensures.reported))
 
 pub returns-clause-fewer : goal.returns-clause-fewer
 returns-clause-fewer c = λ some.

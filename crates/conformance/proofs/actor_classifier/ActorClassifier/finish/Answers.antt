@@ -10,5 +10,5 @@ returns c = λ lines earlier keeps stand are.
     on_ok_weaker c.classify_remaining_actors.result
     (λ both. all_reported a.plan.now lines keeps a.self.actors c.classify_remaining_actors.new.self.actors a.self.known stand.kept both.1 earlier a.reported.now.items c.classify_remaining_actors.new.reported.items are both.0)
     (on_ok_both _ _ c.classify_remaining_actors.result
-    (c.classify_remaining_actors.ensures.remaining lines keeps stand.paths (left_of a.plan.now lines a.self.actors a.self.known stand.kept stand.decided))
+    (c.classify_remaining_actors.ensures.remaining lines keeps stand.paths (left_of a.plan.now lines a.self.actors a.self.known stand.kept))
     c.classify_remaining_actors.ensures.none)

@@ -1,5 +1,3 @@
-use Rattle.conformance.specs.ActorTables.{classes_in}
-use Rattle.conformance.proofs.Words.{two_of}
 use Rattle.conformance.proofs.EmptyTables.{kept_none}
 use Rattle.conformance.proofs.AllResults.{reported_none}
 use Rattle.conformance.proofs.actor_classifier.ActorClassifier.new.Goals as goal
@@ -8,7 +6,6 @@ pub returns-clause-represents : goal.returns-clause-represents
 returns-clause-represents c = λ plan. record {
   paths = c.new.ensures;
   kept = kept_none plan c.new-2.result c.new-3.result c.new-2.ensures c.new-3.ensures;
-  decided = λ enough job one h. two_of (classes_in c.new-3.result job) one h (c.new-3.ensures job);
 }
 
 pub returns-clause-reported : goal.returns-clause-reported

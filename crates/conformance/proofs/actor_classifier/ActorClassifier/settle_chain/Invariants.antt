@@ -2,8 +2,6 @@ use Rattle.std.proofs.Common.{◌≡◌, List, Some}
 use Rattle.support.specs.Numbered.{count_of}
 use Rattle.recordings.specs.RecordingLine.{RecordedLine}
 use Rattle.recordings.specs.PathsOfLines.{KeepsRules}
-use Rattle.conformance.specs.Family.{HasNoFamilies}
-use Rattle.conformance.specs.ActorTables.{AreUnambiguousIn}
 use Rattle.conformance.specs.Represents.{AreTablesOf}
 use Rattle.conformance.specs.ClassificationResults.{IsStep}
 use Rattle.conformance.proofs.actor_classifier.ActorClassifier.settle_chain.Given as goal
@@ -11,7 +9,7 @@ use Rattle.conformance.proofs.actor_classifier.ActorClassifier.settle_chain.Give
 -- The removed actors are classified, and this one is next.
 abbrev pub invariant-loop-next : goal.invariant-loop-next
 invariant-loop-next l = record {
-  reported : (lines : List RecordedLine) → AreTablesOf l.plan lines l.initial.self.actors l.initial.self.known (Some l.fn.actor) → (HasNoFamilies l.plan → AreUnambiguousIn l.initial.self.known) → KeepsRules lines → IsStep l.plan lines l.initial.self.actors l.self.actors l.self.known (Some l.one) l.initial.reported.items l.reported.items;
+  reported : (lines : List RecordedLine) → AreTablesOf l.plan lines l.initial.self.actors l.initial.self.known (Some l.fn.actor) → KeepsRules lines → IsStep l.plan lines l.initial.self.actors l.self.actors l.self.known (Some l.one) l.initial.reported.items l.reported.items;
   paths : l.self.paths ≡ l.initial.self.paths;
 }
 

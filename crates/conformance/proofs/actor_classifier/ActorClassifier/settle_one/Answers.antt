@@ -6,25 +6,23 @@ use Rattle.conformance.proofs.AddsResults.{reports_none}
 use Rattle.conformance.proofs.actor_classifier.ActorClassifier.settle_one.Goals as goal
 
 pub returns-in-None-clause-reported : goal.returns-in-None-clause-reported
-returns-in-None-clause-reported c = λ lines kept decided keeps. record {
+returns-in-None-clause-reported c = λ lines kept keeps. record {
   kept = kept_unready c.args.plan.now lines c.args.self.now.actors c.args.self.now.known c.args.actor kept c.in-None.ensures;
-  decided = decided;
   tells = reports_none (IsSettledResult c.args.plan.now lines) c.args.self.now.actors c.args.reported.now.items;
 }
 
 pub returns-then-progress-clause-reported : goal.returns-then-progress-clause-reported
-returns-then-progress-clause-reported c = λ lines kept decided keeps.
-    c.classify_ready.ensures.reported lines kept decided
+returns-then-progress-clause-reported c = λ lines kept keeps.
+    c.classify_ready.ensures.reported lines kept
     (ready_of c.args.plan.now lines c.args.self.now.actors c.args.self.now.known c.args.actor c.in-Some.progress.known kept
     (subst (λ (b : Bool). IsProgressOf c.args.self.now.actors c.args.self.now.known c.args.actor c.in-Some.progress.known b) c.if-progress.true c.in-Some.ensures))
     keeps
 
 pub returns-else-progress-clause-reported : goal.returns-else-progress-clause-reported
-returns-else-progress-clause-reported c = λ lines kept decided keeps. record {
+returns-else-progress-clause-reported c = λ lines kept keeps. record {
   kept = kept_advanced c.args.plan.now lines c.args.self.now.actors c.advance.new.self c.args.self.now.known c.args.actor c.in-Some.progress.known c.in-Some.progress.is_ready
       (kept_blocked c.args.plan.now lines c.args.self.now.actors c.args.self.now.known c.args.actor c.in-Some.progress.known kept
       (subst (λ (b : Bool). IsProgressOf c.args.self.now.actors c.args.self.now.known c.args.actor c.in-Some.progress.known b) c.if-progress.false c.in-Some.ensures))
       c.in-Some.ensures c.advance.ensures.later;
-  decided = decided;
   tells = reports_advanced (IsSettledResult c.args.plan.now lines) c.args.self.now.actors c.advance.new.self c.args.actor c.in-Some.progress.known c.advance.ensures.later c.args.reported.now.items;
 }

@@ -8,8 +8,6 @@ use Rattle.recordings.specs.declared.step.RecordedStep.{RecordedStep}
 use Rattle.recordings.specs.declared.paths.Paths.{Paths}
 use Rattle.recordings.specs.PathsOfLines.{KeepsRules, IsPathsOf}
 use Rattle.conformance.specs.declared.actor_table.EndedPath.{EndedPath}
-use Rattle.conformance.specs.declared.job_classes.ClassTable.{ClassTable}
-use Rattle.conformance.specs.ActorTables.{AreUnambiguousIn}
 use Rattle.conformance.specs.Represents.{AreTablesOf, IsClassifierOf}
 use Rattle.conformance.specs.ClassificationResults.{IsSettledResult, IsStep}
 use Rattle.conformance.proofs.AddsResults.{reports_none}
@@ -34,8 +32,7 @@ returns-in-Some-clause-taken c = λ before keeps stand.
     (represents a.plan.now c.settle_chain.new.self lines c.note.new.self.actors a.reported.now.items c.settle_chain.new.reported.items
     (subst (λ (paths : Paths). IsPathsOf paths lines) (sym (c.settle_chain.ensures.paths ∙ c.note.ensures.paths)) (c.in_ok-given.ensures.taken before keeps stand.paths)))
     (c.settle_chain.ensures.reported lines
-    (subst (λ (ended : Option RecordedActor). AreTablesOf a.plan.now lines c.note.new.self.actors c.note.new.self.known ended) c.in-Some.is (kept_some c before keeps stand))
-    (λ enough. subst (λ (table : ClassTable). AreUnambiguousIn table) (sym c.note.ensures.known) (stand.decided enough)) keeps)
+    (subst (λ (ended : Option RecordedActor). AreTablesOf a.plan.now lines c.note.new.self.actors c.note.new.self.known ended) c.in-Some.is (kept_some c before keeps stand)) keeps)
 
 pub returns-in-Some-clause-reported : goal.returns-in-Some-clause-reported
 returns-in-Some-clause-reported c = λ before keeps stand.
@@ -44,8 +41,7 @@ returns-in-Some-clause-reported c = λ before keeps stand.
     on_ok_weaker c.settle_chain.result
     (reports_line a.plan.now before (line_view a.line.now) (waits_for c.unwrap_or-path.result) a.self.now.actors c.note.new.self.actors c.settle_chain.new.self.actors a.self.now.known c.settle_chain.new.self.known a.reported.now.items c.settle_chain.new.reported.items keeps stand.kept c.in_ok-note.ensures.noted)
     (c.settle_chain.ensures.reported lines
-    (subst (λ (ended : Option RecordedActor). AreTablesOf a.plan.now lines c.note.new.self.actors c.note.new.self.known ended) c.in-Some.is (kept_some c before keeps stand))
-    (λ enough. subst (λ (table : ClassTable). AreUnambiguousIn table) (sym c.note.ensures.known) (stand.decided enough)) keeps)
+    (subst (λ (ended : Option RecordedActor). AreTablesOf a.plan.now lines c.note.new.self.actors c.note.new.self.known ended) c.in-Some.is (kept_some c before keeps stand)) keeps)
 
 pub returns-in-None-clause-taken : goal.returns-in-None-clause-taken
 returns-in-None-clause-taken c = λ before keeps stand.
@@ -56,7 +52,6 @@ returns-in-None-clause-taken c = λ before keeps stand.
       kept = subst (λ (ended : Option RecordedActor). AreTablesOf a.plan.now lines c.note.new.self.actors c.note.new.self.known ended) c.in-None.is
           (kept_line a.plan.now before (line_view a.line.now) (waits_for c.unwrap_or-path.result) a.self.now.actors c.note.new.self.actors a.self.now.known c.note.new.self.known c.ended_by.result keeps stand.kept
           c.in_ok-note.ensures.noted c.note.ensures.known c.ended_by.ensures (λ actor is live. ap (λ (p : Vec RecordedStep Global). p.items) c.unwrap_or-path.ensures ∙ given_path c.in_ok-given.given c.new.result before (line_view c.args.line.now) actor (c.in_ok-given.ensures.path before stand.paths) (sym c.ended_by.ensures ∙ is) live) refl);
-      decided = λ enough. subst (λ (table : ClassTable). AreUnambiguousIn table) (sym c.note.ensures.known) (stand.decided enough);
     }
 
 pub returns-in-None-clause-reported : goal.returns-in-None-clause-reported
@@ -68,7 +63,6 @@ returns-in-None-clause-reported c = λ before keeps stand.
     c.in_ok-note.ensures.noted c.note.ensures.known c.ended_by.ensures (λ actor is live. ap (λ (p : Vec RecordedStep Global). p.items) c.unwrap_or-path.ensures ∙ given_path c.in_ok-given.given c.new.result before (line_view c.args.line.now) actor (c.in_ok-given.ensures.path before stand.paths) (sym c.ended_by.ensures ∙ is) live) refl) in
     let step : IsStep a.plan.now lines c.note.new.self.actors c.note.new.self.actors c.note.new.self.known None a.reported.now.items a.reported.now.items = record {
       kept = kept;
-      decided = λ enough. subst (λ (table : ClassTable). AreUnambiguousIn table) (sym c.note.ensures.known) (stand.decided enough);
       tells = reports_none (IsSettledResult a.plan.now lines) c.note.new.self.actors a.reported.now.items;
     } in
     reports_line a.plan.now before (line_view a.line.now) (waits_for c.unwrap_or-path.result) a.self.now.actors c.note.new.self.actors c.note.new.self.actors a.self.now.known c.note.new.self.known a.reported.now.items a.reported.now.items keeps stand.kept c.in_ok-note.ensures.noted step

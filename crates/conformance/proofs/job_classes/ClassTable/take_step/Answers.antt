@@ -1,11 +1,8 @@
 use Rattle.std.proofs.Common.{List, [], ◌∷◌, ◌++◌, sym, subst}
-use Rattle.std.proofs.lemmas.List.Elements.{All-push}
 use Rattle.recordings.specs.declared.step.RecordedStep.{RecordedStep}
 use Rattle.recordings.specs.declared.step.RecordedStep.TheVariants as recorded
 use Rattle.conformance.specs.declared.step.PathStep.{PathStep}
-use Rattle.conformance.specs.declared.step.PathStep.TheVariants as step
 use Rattle.conformance.specs.Classes.{AreStepsOf}
-use Rattle.conformance.specs.FamilyMatch.{HasAtMostOneClass, AreOneClassEach}
 use Rattle.conformance.proofs.SettledPaths.{stand_get, stand_submit}
 use Rattle.conformance.proofs.job_classes.ClassTable.take_step.Goals as goal
 
@@ -21,11 +18,3 @@ returns-in_ok-push-in-Submits-clause-represents c = λ plan lines path known bef
     (subst (λ (steps : List PathStep). AreStepsOf plan lines (path ++ recorded.Submits c.in-Submits.job ∷ []) steps) (sym c.in_ok-push-in-Submits.ensures.items)
     (stand_submit plan lines path c.args.steps.now.items c.in-Submits.job c.take_classes-known.result.classes before
     (c.take_classes-known.ensures.classes plan lines known is)))
-
-pub returns-in_ok-push-in-Gets-clause-plain : goal.returns-in_ok-push-in-Gets-clause-plain
-returns-in_ok-push-in-Gets-clause-plain c = λ are each.
-    subst AreOneClassEach (sym c.in_ok-push-in-Gets.ensures.items) (All-push HasAtMostOneClass c.args.steps.now.items (step.Gets c.in-Gets.place) each tt)
-
-pub returns-in_ok-push-in-Submits-clause-plain : goal.returns-in_ok-push-in-Submits-clause-plain
-returns-in_ok-push-in-Submits-clause-plain c = λ are each.
-    subst AreOneClassEach (sym c.in_ok-push-in-Submits.ensures.items) (All-push HasAtMostOneClass c.args.steps.now.items (step.Submits c.take_classes-known.result.classes) each (c.take_classes-known.ensures.plain are))
