@@ -67,7 +67,7 @@ def without_words(name, words, bench):
 
 def built(name):
     """Returns the path of a crate's built program, or the path in the environment variable with the crate's name in capitals."""
-    folder = BENCH if (BENCH / name).is_dir() else CRATES
+    folder = HERE if (HERE / name).is_dir() else CRATES
     program = Path(os.environ.get(name.upper()) or folder / name / "out" / name).resolve()
     if not os.access(program, os.X_OK) or not program.is_file():
         raise Unable(f"there is no program at {program}: `make bench` builds it")
