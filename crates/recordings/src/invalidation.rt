@@ -58,6 +58,22 @@ impl InvalidatingEvent {
             InvalidatingEvent::Unseen { .. } => "unseen",
         }
     }
+
+    // Returns the end of the displayed text, which says what happened.
+    fn outcome(self) -> &'static str
+        ensures { result.now ≡ spec.outcome self }
+    {
+        match self {
+            InvalidatingEvent::Refused { .. } => "was refused",
+            InvalidatingEvent::TimedOut { .. } => "timed out",
+            InvalidatingEvent::Interrupted { .. } => "was interrupted",
+            InvalidatingEvent::Cancelled { .. } => "was cancelled",
+            InvalidatingEvent::AnyInvoked { .. } => "invokeAny was called",
+            InvalidatingEvent::Removed { .. } => "was removed from its queue",
+            InvalidatingEvent::Threw { .. } => "threw an exception",
+            InvalidatingEvent::Unseen { .. } => "jobs were run that no line mentions",
+        }
+    }
 }
 
 impl fmt::Display for InvalidatingEvent {
@@ -65,20 +81,14 @@ impl fmt::Display for InvalidatingEvent {
 
     fn fmt<W: fmt::Write>(&self, f: &mut fmt::Formatter<W>) -> fmt::Result {
         match *self {
-            InvalidatingEvent::Refused { job, .. } => write!(f, "job {job} was refused"),
-            InvalidatingEvent::TimedOut { job, .. } => write!(f, "a get of job {job} timed out"),
-            InvalidatingEvent::Interrupted { job, .. } => write!(
-                f,
-                "a get of job {job} was interrupted"
-            ),
-            InvalidatingEvent::Cancelled { job, .. } => write!(f, "job {job} was cancelled"),
-            InvalidatingEvent::AnyInvoked { .. } => write!(f, "invokeAny was called"),
-            InvalidatingEvent::Removed { job } => write!(f, "job {job} was removed from its queue"),
-            InvalidatingEvent::Threw { job } => write!(f, "job {job} threw an exception"),
-            InvalidatingEvent::Unseen { jobs } => write!(
-                f,
-                "{jobs} jobs were run that no line mentions"
-            ),
+            InvalidatingEvent::TimedOut { job, .. } | InvalidatingEvent::Interrupted { job, .. } =>
+                { write!(f, "a get of job {job} {}", self.outcome()) }
+            InvalidatingEvent::Refused { job, .. }
+            | InvalidatingEvent::Cancelled { job, .. }
+            | InvalidatingEvent::Removed { job }
+            | InvalidatingEvent::Threw { job } => write!(f, "job {job} {}", self.outcome()),
+            InvalidatingEvent::AnyInvoked { .. } => f.write_str(self.outcome()),
+            InvalidatingEvent::Unseen { jobs } => write!(f, "{jobs} {}", self.outcome()),
         }
     }
 }

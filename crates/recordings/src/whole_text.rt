@@ -3,6 +3,7 @@
 ghost use Rattle.std.specs.Prelude.{IfOk};
 ghost use Rattle.recordings.specs.RecordingLine.{lines_read};
 ghost use Rattle.recordings.specs.Faults.{IsFirstFault};
+ghost use Rattle.recordings.specs.CheckedLines.{IsCheckerState};
 
 use crate::checked_lines::CheckedLines;
 use crate::fault::RecordingFault;
@@ -18,7 +19,18 @@ use std::alloc::{AllocError, Global};
 pub fn first_fault(alloc: Global, text: &[u8]) -> Result<Option<RecordingFault>, AllocError>
     ensures { IfOk result (IsFirstFault (lines_read text.now)) }
 {
-    let mut lines = CheckedLines::new(alloc, text);
+    next_fault(&mut CheckedLines::new(alloc, text), text)
+}
+
+/// Returns the fault of the first bad line of `text` if `lines` has not returned it yet, or `None`
+/// if there is no bad line.
+fn next_fault(
+    lines: &mut CheckedLines<'_>,
+    text: &[u8],
+) -> Result<Option<RecordingFault>, AllocError>
+    requires { IsCheckerState (lines_read text.now) lines.old }
+    ensures { IfOk result (IsFirstFault (lines_read text.now)) }
+{
     while let Some(line) = lines.next()? {
         if let Err(fault) = line {
             return Ok(Some(fault));
