@@ -17,8 +17,7 @@ use crate::job_set::JobSet;
 use crate::line_query::LineQuery;
 use crate::rejections::Rejections;
 use crate::survey::{ActorSurvey, LineSurvey, Survey};
-use crate::unplanned::{UnplannedLabel, UnplannedLabels};
-use crate::verdicts::Verdicts;
+use crate::unplanned::UnplannedLabel;
 use crate::{ClassifiedActor, PoolDeviation, RoundExcess};
 use job_bodies::Plan;
 use recordings::{InvalidatingEvent, Invalidation, RecordedActor, RecordedNotes};
@@ -32,7 +31,7 @@ pub(crate) fn collect_findings(
     alloc: Global,
     plan: &Plan,
     recording: &[u8],
-    survey: Survey,
+    mut survey: Survey,
     excesses: Vec<RoundExcess>,
     refusals: &Option<Rejections>,
 ) -> Result<Vec<Finding>, AllocError>
@@ -40,68 +39,65 @@ pub(crate) fn collect_findings(
         → IfOk result
         (λ found. spec.AreCollected plan.now (lines_of recording.now) survey excesses.items refusals.now found.items) }
 {
-    let Survey {
-        line_survey,
-        actor_survey,
-        ..
-    } = survey;
-    let LineSurvey {
-        deviations,
-        notes,
-        unplanned,
-        ..
-    } = line_survey;
     let mut findings = Vec::new(alloc);
-    push_plan_differences(&mut findings, deviations, unplanned)?;
-    push_actor_survey(&mut findings, alloc, plan, recording, actor_survey)?;
+    push_plan_differences(&mut findings, &mut survey.line_survey)?;
+    push_actor_survey(
+        &mut findings,
+        alloc,
+        plan,
+        recording,
+        &mut survey.actor_survey,
+    )?;
     push_excesses(&mut findings, &excesses)?;
-    push_notes(&mut findings, alloc, recording, &notes, refusals)?;
+    push_notes(
+        &mut findings,
+        alloc,
+        recording,
+        &survey.line_survey.notes,
+        refusals,
+    )?;
     Ok(findings)
 }
 
-// Appends the pools that differ from the plan, and the labels that are not in it.
+// Moves the pools that differ from the plan, and the labels that are not in it, to the findings.
 fn push_plan_differences(
     findings: &mut Vec<Finding>,
-    deviations: Vec<PoolDeviation>,
-    unplanned: UnplannedLabels,
+    line_survey: &mut LineSurvey,
 ) -> Result<(), AllocError>
-    ensures { OnOk result
+    ensures pushed { OnOk result
         (findings.new.items
-        ≡ findings.old.items ++ map kinds.Pool deviations.items ++ map kinds.UnplannedLabel unplanned.found.items) }
+        ≡ findings.old.items
+        ++ map kinds.Pool line_survey.old.deviations.items
+        ++ map kinds.UnplannedLabel line_survey.old.unplanned.found.items) }
+    ensures notes { line_survey.new.notes ≡ line_survey.old.notes }
 {
-    let UnplannedLabels { found, .. } = unplanned;
-    push_pools(findings, deviations)?;
-    push_labels(findings, found)
+    push_pools(findings, &mut line_survey.deviations)?;
+    push_labels(findings, &mut line_survey.unplanned.found)
 }
 
-// Appends the actors whose path matches no body, and those for which this is undecided.
+// Appends the actors whose path matches no body, and moves those for which this is undecided to the
+// findings.
 fn push_actor_survey(
     findings: &mut Vec<Finding>,
     alloc: Global,
     plan: &Plan,
     recording: &[u8],
-    actor_survey: ActorSurvey,
+    actor_survey: &mut ActorSurvey,
 ) -> Result<(), AllocError>
     ensures { OnOk result
-        (spec.AddsActorSurvey plan.now (lines_of recording.now) actor_survey.verdicts findings.old.items
+        (spec.AddsActorSurvey plan.now (lines_of recording.now) actor_survey.old.verdicts findings.old.items
         findings.new.items) }
 {
-    let ActorSurvey { verdicts, .. } = actor_survey;
-    let Verdicts {
-        mismatches,
-        undecided,
-        classless,
-        ..
-    } = verdicts;
+    let verdicts = &mut actor_survey.verdicts;
     push_mismatches(
         findings,
         alloc,
         plan,
         recording,
-        &classless,
-        &mismatches.actors,
+        &verdicts.classless,
+        &verdicts.mismatches.actors,
     )?;
-    push_undecided(findings, undecided.actors)
+    push_undecided(findings, &mut verdicts.undecided.actors)
 }
 
 // Appends the first get of another actor's job, and the events that invalidate a SAFE answer.
@@ -121,21 +117,27 @@ fn push_notes(
     push_invalidations(findings, alloc, recording, notes, refusals)
 }
 
-fn push_pools(findings: &mut Vec<Finding>, deviations: Vec<PoolDeviation>) -> Result<(), AllocError>
+fn push_pools(
+    findings: &mut Vec<Finding>,
+    deviations: &mut Vec<PoolDeviation>,
+) -> Result<(), AllocError>
     ensures { OnOk result
-        (findings.new.items ≡ findings.old.items ++ map kinds.Pool deviations.items) }
+        (findings.new.items ≡ findings.old.items ++ map kinds.Pool deviations.old.items) }
 {
-    for deviation in deviations {
+    for deviation in deviations.drain(..) {
         findings.push(Finding::Pool(deviation))?;
     }
     Ok(())
 }
 
-fn push_labels(findings: &mut Vec<Finding>, labels: Vec<UnplannedLabel>) -> Result<(), AllocError>
+fn push_labels(
+    findings: &mut Vec<Finding>,
+    labels: &mut Vec<UnplannedLabel>,
+) -> Result<(), AllocError>
     ensures { OnOk result
-        (findings.new.items ≡ findings.old.items ++ map kinds.UnplannedLabel labels.items) }
+        (findings.new.items ≡ findings.old.items ++ map kinds.UnplannedLabel labels.old.items) }
 {
-    for label in labels {
+    for label in labels.drain(..) {
         findings.push(Finding::UnplannedLabel(label))?;
     }
     Ok(())
@@ -193,22 +195,28 @@ fn push_described(
 
 fn push_undecided(
     findings: &mut Vec<Finding>,
-    undecided: Vec<ClassifiedActor>,
+    undecided: &mut Vec<ClassifiedActor>,
 ) -> Result<(), AllocError>
     ensures { OnOk result
-        (findings.new.items ≡ findings.old.items ++ map spec.not_decided undecided.items) }
+        (findings.new.items ≡ findings.old.items ++ map spec.not_decided undecided.old.items) }
 {
-    for reported in undecided {
-        let ClassifiedActor {
-            actor,
-            label,
-            pool,
-            ..
-        } = reported;
-        let label = ActorLabel { name: label, pool };
-        findings.push(Finding::NotDecided { actor, label })?;
+    for reported in undecided.drain(..) {
+        findings.push(not_decided(reported))?;
     }
     Ok(())
+}
+
+fn not_decided(reported: ClassifiedActor) -> Finding
+    ensures { result ≡ spec.not_decided reported }
+{
+    let ClassifiedActor {
+        actor,
+        label,
+        pool,
+        ..
+    } = reported;
+    let label = ActorLabel { name: label, pool };
+    Finding::NotDecided { actor, label }
 }
 
 fn push_excesses(findings: &mut Vec<Finding>, excesses: &[RoundExcess]) -> Result<(), AllocError>
