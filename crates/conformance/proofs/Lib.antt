@@ -98,6 +98,7 @@ pub mod OtherKindResults
 pub mod OpenAfter
 pub mod LineSurveyAfter
 pub mod RefusalsAfter
+pub mod NoRefusals
 pub mod RejectionRules
 pub mod RejectionCounts
 pub mod RejectingPools

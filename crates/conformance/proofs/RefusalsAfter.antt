@@ -101,19 +101,19 @@ pub shut_more : (before : List RecordedLine) (line : RecordedLine) (name : List 
 unfolding is_shut
 shut_more before line name = any_more (shuts name) before line
 
-pools_more : (plan : Plan) (lines before : List RecordedLine) (line : RecordedLine) → pools_in plan lines (before ++ line ∷ []) ≡ pools_in plan lines before ++ option_to_list (pool_of_rejection plan lines before line)
+pub pools_more : (plan : Plan) (lines before : List RecordedLine) (line : RecordedLine) → pools_in plan lines (before ++ line ∷ []) ≡ pools_in plan lines before ++ option_to_list (pool_of_rejection plan lines before line)
 unfolding pools_in
 pools_more plan lines before line =
     let pool : List RecordedLine × RecordedLine → Option ℕ = λ p. pool_of_rejection plan lines p.0 p.1 in
     ap (filter_map pool) (lines_before_more before line) ∙ filter_map_more pool (with_lines_before before) (before, line)
 
-refusing_more : (plan : Plan) (lines before : List RecordedLine) (line : RecordedLine) → refusing_pools_in plan lines (before ++ line ∷ []) ≡ refusing_pools_in plan lines before ++ option_to_list (pool_of_refusal plan lines before line)
+pub refusing_more : (plan : Plan) (lines before : List RecordedLine) (line : RecordedLine) → refusing_pools_in plan lines (before ++ line ∷ []) ≡ refusing_pools_in plan lines before ++ option_to_list (pool_of_refusal plan lines before line)
 unfolding refusing_pools_in
 refusing_more plan lines before line =
     let pool : List RecordedLine × RecordedLine → Option ℕ = λ p. pool_of_refusal plan lines p.0 p.1 in
     ap (filter_map pool) (lines_before_more before line) ∙ filter_map_more pool (with_lines_before before) (before, line)
 
-refusals_more : (plan : Plan) (lines before : List RecordedLine) (line : RecordedLine) → refusals_in plan lines (before ++ line ∷ []) ≡ refusals_in plan lines before ++ option_to_list (refusal_by plan lines before line)
+pub refusals_more : (plan : Plan) (lines before : List RecordedLine) (line : RecordedLine) → refusals_in plan lines (before ++ line ∷ []) ≡ refusals_in plan lines before ++ option_to_list (refusal_by plan lines before line)
 unfolding refusals_in
 refusals_more plan lines before line =
     let refusal : List RecordedLine × RecordedLine → Option Invalidation = λ p. refusal_by plan lines p.0 p.1 in
@@ -155,15 +155,15 @@ abbrev pub refuses_none : RecordedLine → Bool
 refuses_none (Refused actor job) = false
 refuses_none line = true
 
-no_pool_by : (plan : Plan) (lines before : List RecordedLine) (line : RecordedLine) → refuses_none line ≡ true → pool_of_rejection plan lines before line ≡ None
+pub no_pool_by : (plan : Plan) (lines before : List RecordedLine) (line : RecordedLine) → refuses_none line ≡ true → pool_of_rejection plan lines before line ≡ None
 no_pool_by plan lines before (Refused actor job) other = absurd (let e : false ≡ true = other in cc)
 no_pool_by plan lines before line other = refl
 
-no_refusing_by : (plan : Plan) (lines before : List RecordedLine) (line : RecordedLine) → refuses_none line ≡ true → pool_of_refusal plan lines before line ≡ None
+pub no_refusing_by : (plan : Plan) (lines before : List RecordedLine) (line : RecordedLine) → refuses_none line ≡ true → pool_of_refusal plan lines before line ≡ None
 no_refusing_by plan lines before (Refused actor job) other = absurd (let e : false ≡ true = other in cc)
 no_refusing_by plan lines before line other = refl
 
-no_refusal_by : (plan : Plan) (lines before : List RecordedLine) (line : RecordedLine) → refuses_none line ≡ true → refusal_by plan lines before line ≡ None
+pub no_refusal_by : (plan : Plan) (lines before : List RecordedLine) (line : RecordedLine) → refuses_none line ≡ true → refusal_by plan lines before line ≡ None
 no_refusal_by plan lines before (Refused actor job) other = absurd (let e : false ≡ true = other in cc)
 no_refusal_by plan lines before line other = refl
 

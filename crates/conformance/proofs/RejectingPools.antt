@@ -12,7 +12,7 @@ use Rattle.job_bodies.proofs.Bodies.{within_bounds}
 use Rattle.recordings.specs.RecordingLine.{RecordedLine}
 use Rattle.conformance.specs.declared.rejections.Rejections.{Rejections}
 use Rattle.conformance.specs.RejectingPools.{with_key, with_keys, with_all_keys, only_rejects_by, only_rejects}
-use Rattle.conformance.specs.Rejections.{AreRejectionsOfPrefix, only_rejected_by}
+use Rattle.conformance.specs.Rejections.{AreAllRejections, only_rejected_by}
 
 -- ---- the key of one pool
 both : (a b : Bool) → a ≡ true → b ≡ true → (a && b) ≡ true
@@ -100,5 +100,5 @@ keys_more rejects pools pool n is =
     ap (λ (m : ℕ). with_keys rejects pools ++ with_key (rejects m) pool ∷ []) here ∙ sym (more_from rejects 0 pools pool)
 
 -- ---- the pools that only reject jobs
-pub keys_are : (plan : Plan) (lines : List RecordedLine) (rejections : Rejections) → AreRejectionsOfPrefix (with_all_keys plan) lines lines rejections → with_keys (only_rejected_by rejections) plan.pools ≡ with_keys (only_rejects plan lines) plan.pools
+pub keys_are : (plan : Plan) (lines : List RecordedLine) (rejections : Rejections) → AreAllRejections (with_all_keys plan) lines rejections → with_keys (only_rejected_by rejections) plan.pools ≡ with_keys (only_rejects plan lines) plan.pools
 keys_are plan lines rejections so = ap₂ (λ (rejecting refusing : List ℕ). with_keys (only_rejects_by rejecting refusing) plan.pools) so.pools so.refusing

@@ -13,7 +13,7 @@ use Rattle.conformance.specs.declared.rejections.Rejections.{Rejections}
 use Rattle.conformance.specs.PoolComparison.{has_name}
 use Rattle.conformance.specs.RefusedJobs.{or_else}
 use Rattle.conformance.specs.RejectingPools.{only_rejects_by}
-use Rattle.conformance.specs.RejectionRule.{is_shut, has_rejecting_pool, unless_rejected, pools_in, refusing_pools_in, refusals_in}
+use Rattle.conformance.specs.RejectionRule.{is_shut, has_rejecting_pool, unless_rejected, pools_in, refusing_pools_in, refusals_in, first_refusal}
 
 -- The state has the refusals in `read`, the first lines of the recording.
 pub record AreRejectionsOfPrefix (plan : Plan) (lines read : List RecordedLine) (rejections : Rejections) : Type 0 where
@@ -22,10 +22,16 @@ pub record AreRejectionsOfPrefix (plan : Plan) (lines read : List RecordedLine) 
   pub first : rejections.first_refusal ≡ slice_get (refusals_in plan lines read) 0
   pub shut : (pool : List ℕ) → has_name rejections.shut pool ≡ is_shut read pool
 
+-- The state has the refusals of the whole recording.
+pub record AreAllRejections (plan : Plan) (lines : List RecordedLine) (rejections : Rejections) : Type 0 where
+  pub pools : rejections.pools.items ≡ pools_in plan lines lines
+  pub refusing : rejections.refusing.items ≡ refusing_pools_in plan lines lines
+  pub first : rejections.first_refusal ≡ first_refusal plan lines
+
 -- The state has the refusals of the recording. It is `None` if no pool of the plan may reject jobs.
 abbrev pub AreRejectionsOf : Plan → List RecordedLine → Option Rejections → Type 0
 AreRejectionsOf plan lines None = has_rejecting_pool plan ≡ false
-AreRejectionsOf plan lines (Some rejections) = (has_rejecting_pool plan ≡ true) × AreRejectionsOfPrefix plan lines lines rejections
+AreRejectionsOf plan lines (Some rejections) = (has_rejecting_pool plan ≡ true) × AreAllRejections plan lines rejections
 
 -- ---- one refusal
 -- The list of pools after a refusal: `pool` is appended, if there is one.

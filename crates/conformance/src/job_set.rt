@@ -1,6 +1,6 @@
 //! A set of jobs.
 
-ghost use Rattle.std.specs.Prelude.{◌≡◌, ◌||◌, ◌==◌, ℕ, OnOk, false};
+ghost use Rattle.std.specs.Prelude.{◌≡◌, ◌||◌, ◌==◌, ℕ, OnOk, IsTrue, false};
 ghost use Rattle.conformance.specs.JobSet.{has_job};
 
 use std::alloc::{AllocError, Global};
@@ -20,6 +20,12 @@ impl JobSet {
         JobSet {
             jobs: HashSet::new(alloc),
         }
+    }
+
+    pub(crate) fn is_empty(&self) -> bool
+        ensures { IsTrue result → (job : ℕ) → has_job self.now job ≡ false }
+    {
+        self.jobs.is_empty()
     }
 
     pub(crate) fn contains(&self, job: usize) -> bool

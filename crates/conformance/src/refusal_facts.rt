@@ -4,13 +4,15 @@ ghost use Rattle.std.specs.Prelude.{◌≡◌, ◌++◌, ◌∷◌, [], ℕ, tru
 ghost use Rattle.job_bodies.specs.Plan as plans;
 ghost use Rattle.recordings.specs.LineSteps.{is_refused};
 ghost use Rattle.recordings.specs.RecordingLine.{RecordedLine, line_view};
+ghost use Rattle.conformance.specs.JobSet.{has_job};
 ghost use Rattle.conformance.specs.Lines.{lines_of};
 ghost use Rattle.conformance.specs.RefusalFacts as spec;
 ghost use Rattle.conformance.specs.RejectionRule.{is_allowed_by, has_acted, rule_of};
 ghost use Rattle.recordings.specs.Before.{has_started};
 
 use crate::handlers::Handlers;
-use crate::refused_jobs::{RefusedJobs, refused_jobs};
+use crate::job_set::JobSet;
+use crate::refused_jobs::RefusedJobs;
 use crate::rejection_rule::RejectionRule;
 use crate::well_formed_lines::WellFormedLines;
 use job_bodies::Plan;
@@ -51,7 +53,7 @@ fn rule_at(rules: &[RejectionRule], pool: usize) -> RejectionRule
     }
 }
 
-/// Returns the facts about the refusals of the recording.
+/// Returns the facts about the refusals of the recording. `refused` has the jobs that were refused.
 ///
 /// # Errors
 ///
@@ -60,10 +62,11 @@ pub(crate) fn refusal_facts(
     alloc: Global,
     plan: &Plan,
     recording: &[u8],
+    refused: JobSet,
 ) -> Result<RefusalFacts, AllocError>
+    requires { (job : ℕ) → has_job refused job ≡ is_refused (lines_of recording.now) job }
     ensures { IfOk result (spec.AreFactsFor plan.now (lines_of recording.now)) }
 {
-    let refused = refused_jobs(alloc, recording)?;
     let mut jobs = RefusedJobs::new(alloc, refused);
     let mut handlers = Handlers::new(alloc);
     let mut lines = WellFormedLines::new(recording);

@@ -22,7 +22,8 @@ use std::alloc::{AllocError, Global};
 ///   pool. [`conform`](crate::conform) lists when a plan allows a rejection. No plan allows a
 ///   rejection by a pool with an unbounded queue.
 ///
-/// Reads the recording three times. The memory grows with the number of refused jobs.
+/// Reads the recording once, and twice more if a job was refused. The memory grows with the number
+/// of refused jobs.
 ///
 /// # Errors
 ///

@@ -15,6 +15,7 @@ ghost use Rattle.conformance.specs.Rejections as spec;
 
 use crate::pool_names::PoolNames;
 use crate::refusal_facts::{RefusalFacts, refusal_facts};
+use crate::refused_jobs::refused_jobs;
 use crate::rejection_rule::has_rejecting_pool;
 use crate::well_formed_lines::WellFormedLines;
 use job_bodies::{Plan, Pool};
@@ -236,7 +237,8 @@ fn count_of(pools: &[usize], pool: usize) -> usize
 
 /// Returns the refusals of a recording, or `None` if no pool of the plan may reject jobs.
 ///
-/// Reads the recording three times. The memory grows with the number of refused jobs.
+/// Reads the recording once, and twice more if a job was refused. The memory grows with the number
+/// of refused jobs.
 ///
 /// # Errors
 ///
@@ -265,10 +267,13 @@ pub(crate) fn rejections_in(
     plan: &Plan,
     recording: &[u8],
 ) -> Result<Rejections, AllocError>
-    ensures { IfOk result
-        (spec.AreRejectionsOfPrefix plan.now (lines_of recording.now) (lines_of recording.now)) }
+    ensures { IfOk result (spec.AreAllRejections plan.now (lines_of recording.now)) }
 {
-    let facts = refusal_facts(alloc, plan, recording)?;
+    let refused = refused_jobs(alloc, recording)?;
+    if refused.is_empty() {
+        return Ok(Rejections::new(alloc));
+    }
+    let facts = refusal_facts(alloc, plan, recording, refused)?;
     rejections_by(alloc, plan, recording, &facts)
 }
 
@@ -279,8 +284,7 @@ fn rejections_by(
     facts: &RefusalFacts,
 ) -> Result<Rejections, AllocError>
     ensures { AreFactsFor plan.now (lines_of recording.now) facts.now
-        → IfOk result
-        (spec.AreRejectionsOfPrefix plan.now (lines_of recording.now) (lines_of recording.now)) }
+        → IfOk result (spec.AreAllRejections plan.now (lines_of recording.now)) }
 {
     let mut rejections = Rejections::new(alloc);
     let mut lines = WellFormedLines::new(recording);

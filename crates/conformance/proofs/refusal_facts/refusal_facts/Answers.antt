@@ -13,7 +13,7 @@ loop-line-init c = (
   c.new-lines.ensures.lines,
   c.new-jobs.ensures.none c.args.plan.now,
   c.new-handlers.ensures,
-  λ job. ap (λ jobs. has_job jobs job) c.new-jobs.ensures.jobs ∙ c.in_ok-refused.ensures job,
+  λ job. ap (λ jobs. has_job jobs job) c.new-jobs.ensures.jobs ∙ c.requires job,
 )
 
 pub loop-line-preserved : goal.loop-line-preserved

@@ -33,4 +33,5 @@ returns c = λ facts.
     let lines = lines_of c.args.recording.now in
     let n = c.loop-line.number in
     let rest : drop n lines ≡ [] = sym c.loop-line.invariant.rest ∙ c.in_default.ensures.0 in
-    subst (λ (read : List RecordedLine). AreRejectionsOfPrefix c.args.plan.now lines read c.loop-line.rejections) (all_taken lines n rest) (c.loop-line.invariant.rejections facts)
+    let so = subst (λ (read : List RecordedLine). AreRejectionsOfPrefix c.args.plan.now lines read c.loop-line.rejections) (all_taken lines n rest) (c.loop-line.invariant.rejections facts) in
+    record { pools = so.pools; refusing = so.refusing; first = so.first }
