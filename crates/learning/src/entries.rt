@@ -82,7 +82,7 @@ impl Entries {
         if self.has(label, pool) {
             return Ok(());
         }
-        self.add(label, pool)
+        self.add(label, pool, Vec::new(self.alloc), Vec::new(self.alloc))
     }
 
     /// Returns true if an entry has this label and pool.
@@ -95,15 +95,21 @@ impl Entries {
         self.entries.iter().any(|entry| entry.is_of(label, pool))
     }
 
-    /// Adds an entry with an empty body. The entry gets the first free name among LABEL, LABEL_2,
-    /// LABEL_3 and so on. A name is free if no other entry has it.
+    /// Adds an entry with this body, which all of these paths match. The entry gets the first free
+    /// name among LABEL, LABEL_2, LABEL_3 and so on. A name is free if no other entry has it.
     ///
     /// # Errors
     ///
     /// - [`LearnError::InferenceLimit`] if a plan cannot have one more entry, or if the name would
     ///   be too long.
     /// - [`LearnError::Memory`] if memory runs out.
-    pub(crate) fn add(&mut self, label: &str, pool: usize) -> Result<(), LearnError>
+    pub(crate) fn add(
+        &mut self,
+        label: &str,
+        pool: usize,
+        body: Vec<Action>,
+        paths: Vec<Vec<PathStep>>,
+    ) -> Result<(), LearnError>
         ensures ok { (lines : List RecordedLine) (beyond : Reason)
             → IsGiven lines beyond label.now pool
             → AreEntriesOf lines beyond self.old
@@ -122,8 +128,8 @@ impl Entries {
             label,
             pool,
             name,
-            body: Vec::new(self.alloc),
-            paths: Vec::new(self.alloc),
+            body,
+            paths,
         })?;
         Ok(())
     }
@@ -136,15 +142,6 @@ impl Entries {
     {
         self.entries.push(entry)?;
         Ok(())
-    }
-
-    /// Removes the last entry, if there is one.
-    pub(crate) fn remove_last(&mut self)
-        ensures { (lines : List RecordedLine) (beyond : Reason)
-            → AreEntriesOf lines beyond self.old
-            → AreEntriesOf lines beyond self.new }
-    {
-        self.entries.pop();
     }
 
     /// Returns the body of the entry with this number, or an empty body if there is no such entry.

@@ -1,13 +1,13 @@
 //! Changes of bodies so that observed paths match them.
 
-ghost use Rattle.std.specs.Prelude.{◌≡◌, List, OnOk, IfErr, string_bytes};
+ghost use Rattle.std.specs.Prelude.{◌≡◌, List, None, length, OnOk, IfOk, IfErr, string_bytes};
 ghost use Rattle.recordings.specs.RecordingLine.{RecordedLine};
 ghost use Rattle.learning.specs.declared.inference_limit.InferenceLimit.{InferenceLimit as Reason};
-ghost use Rattle.learning.specs.LearningState.{AreEntriesOf, IsLearnError};
+ghost use Rattle.learning.specs.LearningState.{AreEntriesOf, IsGiven, IsLearnError};
 
-use crate::covering_body;
 use crate::entries::{Entries, Entry};
 use crate::learn_error::LearnError;
+use crate::{body_of_path, covering_body};
 use conformance::{ActorKind, PathMatch, PathState, PathStep, match_path};
 use job_bodies::Action;
 use std::alloc::{AllocError, Global};
@@ -87,6 +87,8 @@ impl Entries {
         ensures err { (lines : List RecordedLine) (beyond : Reason)
             → AreEntriesOf lines beyond self.old
             → IfErr result (IsLearnError lines) }
+        ensures none { IfOk result (λ found. found ≡ None
+            → length self.new.entries.items ≡ length self.old.entries.items) }
     {
         for number in 0..self.entries.len() {
             if self.is_free(number, label, pool, reachable) {
@@ -98,37 +100,46 @@ impl Entries {
         if !self.has(label, pool) {
             return Ok(None);
         }
-        let number = self.entries.len();
-        match self.add(label, pool) {
-            Ok(()) => Ok(self.cover_added(number, &observed_path.steps)?),
-            Err(error) => Err(error),
-        }
+        self.add_for(label, pool, &observed_path.steps)
     }
 
-    // Changes the body of the last entry, which has this number, as `cover` does. Removes the entry
-    // if no body was found.
-    fn cover_added(
+    // Adds an entry for this path alone. Adds nothing and returns `None` if no body was found.
+    fn add_for(
         &mut self,
-        number: usize,
+        label: &str,
+        pool: usize,
         path: &[PathStep],
-    ) -> Result<Option<Assignment>, AllocError>
-        ensures { (lines : List RecordedLine) (beyond : Reason)
+    ) -> Result<Option<Assignment>, LearnError>
+        ensures ok { (lines : List RecordedLine) (beyond : Reason)
+            → IsGiven lines beyond label.now pool
             → AreEntriesOf lines beyond self.old
-            → AreEntriesOf lines beyond self.new }
+            → OnOk result (AreEntriesOf lines beyond self.new) }
+        ensures err { (lines : List RecordedLine) (beyond : Reason)
+            → IsGiven lines beyond label.now pool
+            → AreEntriesOf lines beyond self.old
+            → IfErr result (IsLearnError lines) }
+        ensures none { IfOk result (λ found. found ≡ None
+            → length self.new.entries.items ≡ length self.old.entries.items) }
     {
-        let assignment = self.cover(number, path)?;
-        if assignment.is_none() {
-            self.remove_last();
-        }
-        Ok(assignment)
+        let Some(body) = body_of_path(self.alloc, path)? else {
+            return Ok(None);
+        };
+        let number = self.entries.len();
+        let paths = only_path(self.alloc, path)?;
+        self.add(label, pool, body, paths)?;
+        Ok(Some(Assignment {
+            number,
+            is_changed: true,
+        }))
     }
 
     // Changes the body of the entry with this number so that the path and the entry's earlier paths
     // match it. Returns `None` if no such body was found, or if there is no such entry.
     fn cover(&mut self, number: usize, path: &[PathStep]) -> Result<Option<Assignment>, AllocError>
-        ensures { (lines : List RecordedLine) (beyond : Reason)
+        ensures entries { (lines : List RecordedLine) (beyond : Reason)
             → AreEntriesOf lines beyond self.old
             → AreEntriesOf lines beyond self.new }
+        ensures length { length self.new.entries.items ≡ length self.old.entries.items }
     {
         let alloc = self.alloc;
         let kind = self.kind;
@@ -184,6 +195,13 @@ impl Entry {
             }
         }
     }
+}
+
+// Returns a list that has only a copy of this path.
+fn only_path(alloc: Global, path: &[PathStep]) -> Result<Vec<Vec<PathStep>>, AllocError> {
+    let mut paths = Vec::new(alloc);
+    paths.push(copied_steps(alloc, path)?)?;
+    Ok(paths)
 }
 
 fn copied_steps(alloc: Global, path: &[PathStep]) -> Result<Vec<PathStep>, AllocError> {
