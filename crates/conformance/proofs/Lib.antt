@@ -1,5 +1,7 @@
 pub mod OpenCounts
 pub mod Walks
+pub mod ValidGetsByIndex
+pub mod SameSteps
 pub mod OpenJobs
 pub mod ReadStates
 pub mod Rows

@@ -1,5 +1,7 @@
 pub mod PathStep
+pub mod ValidGets
 pub mod Path
+pub mod SameSteps
 pub mod LaggingRun
 pub mod BodyGets
 pub mod WalkState

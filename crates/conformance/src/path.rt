@@ -13,6 +13,7 @@ use crate::explained_prefix::ExplainedPrefix;
 use crate::furthest::reaches;
 use crate::narrowing::{Pick, narrowed};
 use crate::path_match::{MAX_OPEN_LISTS, PathMatch};
+use crate::same_steps::has_same_steps;
 use crate::step::{ActorKind, PathState, PathStep};
 use crate::stop_reasons::{excess_at, missing_in};
 use crate::walk_state::WalkState;
@@ -89,7 +90,8 @@ pub fn match_path(
     }
 }
 
-/// Matches the path against the body in joint walks, which go through both together, step by step.
+/// Matches the path against the body. A path with the steps of the body, in the same order, needs no
+/// search. Any other path is matched in joint walks, which go through both together, step by step.
 /// Walks share a state if they have the same open jobs with the same classes. The path deviates at
 /// the first step that no walk can make. The result is undecided if there are more than
 /// [`MAX_OPEN_LISTS`] states after a step.
@@ -106,6 +108,9 @@ fn match_exactly(
 ) -> Result<PathMatch, AllocError>
     ensures { IfOk result (IsMatch kind path_state body.now path.now) }
 {
+    if has_same_steps(body, path) {
+        return Ok(PathMatch::Fits);
+    }
     let gets = body_gets(alloc, body)?;
     let mut states = start_states(alloc, body)?;
     for place in 0..path.len() {

@@ -15,7 +15,7 @@ use Rattle.conformance.specs.declared.step.PathState.TheVariants.{Whole}
 use Rattle.conformance.specs.declared.step.PathStep.{PathStep}
 use Rattle.conformance.specs.Path.{IsPathOf}
 use Rattle.learning.specs.Covers.{IsCovering, is_work, work_of}
-use Rattle.learning.specs.ValidGets.{HasValidGets}
+use Rattle.conformance.specs.ValidGets.{HasValidGets}
 
 pub no_work : (body : List Action) → list_any is_work body ≡ false → work_of body ≡ []
 no_work [] none = refl

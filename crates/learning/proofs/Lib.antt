@@ -1,4 +1,3 @@
-mod ValidGetsByIndex
 mod OwnBody
 mod CoveredPaths
 pub mod LoopState

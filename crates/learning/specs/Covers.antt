@@ -11,7 +11,7 @@ use Rattle.conformance.specs.declared.step.PathStep.{PathStep}
 use Rattle.conformance.specs.declared.step.PathState.TheVariants.{Whole}
 use Rattle.conformance.specs.Path.{IsPathOf}
 use Rattle.conformance.specs.PathMatch.{IsUnambiguous}
-use Rattle.learning.specs.ValidGets.{HasValidGets}
+use Rattle.conformance.specs.ValidGets.{HasValidGets}
 
 -- Each of the paths matches the body.
 abbrev pub Covers : ActorKind → List Action → List (Vec PathStep Global) → Type 0

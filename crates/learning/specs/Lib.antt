@@ -1,4 +1,3 @@
-pub mod ValidGets
 pub mod Covers
 pub mod PathBody
 pub mod Pools

@@ -5,7 +5,7 @@ use Rattle.job_bodies.specs.declared.action.Action.TheVariants.{Submit, Get}
 use Rattle.job_bodies.specs.declared.limits.TheConstants.{MAX_ACTIONS}
 use Rattle.conformance.specs.declared.step.PathStep.{PathStep}
 use Rattle.conformance.specs.declared.step.PathStep.TheVariants as step
-use Rattle.learning.specs.ValidGets.{HasValidGets}
+use Rattle.conformance.specs.ValidGets.{HasValidGets}
 
 -- The action of a step: a submit of the first class that the job can belong to, or a get of the submit at the same index.
 abbrev pub action_of : PathStep → Action

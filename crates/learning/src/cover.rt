@@ -11,13 +11,12 @@ ghost use Rattle.conformance.specs.Path.{IsPathOf};
 ghost use Rattle.conformance.specs.PathMatch.{IsUnambiguous};
 ghost use Rattle.learning.specs.Covers as spec;
 ghost use Rattle.learning.specs.PathBody.{HasBody};
-ghost use Rattle.learning.specs.ValidGets.{HasValidGets};
+ghost use Rattle.conformance.specs.ValidGets.{HasValidGets};
 
 use crate::body_cost::is_preferred;
 use crate::candidates::{CANDIDATES, Choices, candidate};
 use crate::path_body::body_of_path;
-use crate::valid_gets::has_valid_gets;
-use conformance::{ActorKind, PathMatch, PathState, PathStep, match_path};
+use conformance::{ActorKind, PathMatch, PathState, PathStep, has_valid_gets, match_path};
 use job_bodies::{Action, MAX_ACTIONS};
 use std::alloc::{AllocError, Global};
 

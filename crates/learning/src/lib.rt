@@ -31,7 +31,6 @@ mod path_jobs;
 mod pools;
 mod recorded_names;
 mod supersequence;
-mod valid_gets;
 
 pub use cover::covering_body;
 pub use extent::{Extent, START_BYTES};

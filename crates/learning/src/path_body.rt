@@ -6,11 +6,10 @@ ghost use Rattle.conformance.specs.declared.step.ActorKind.{ActorKind};
 ghost use Rattle.conformance.specs.declared.step.PathState.TheVariants.{Whole};
 ghost use Rattle.conformance.specs.Path.{IsPathOf};
 ghost use Rattle.learning.specs.Covers.{work_of};
-ghost use Rattle.learning.specs.ValidGets.{HasValidGets};
+ghost use Rattle.conformance.specs.ValidGets.{HasValidGets};
 ghost use Rattle.learning.specs.PathBody as spec;
 
-use crate::valid_gets::has_valid_gets;
-use conformance::PathStep;
+use conformance::{PathStep, has_valid_gets};
 use job_bodies::{Action, MAX_ACTIONS};
 use std::alloc::{AllocError, Global};
 

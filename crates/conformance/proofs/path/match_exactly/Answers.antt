@@ -5,6 +5,7 @@ use Rattle.support.specs.In.{here}
 use Rattle.support.proofs.Members.{not_In_nil}
 use Rattle.conformance.specs.declared.walk_state.WalkState.{WalkState}
 use Rattle.conformance.specs.WalkStates.{AreStatesAt, HasState}
+use Rattle.conformance.proofs.SameSteps.{of_same_steps}
 use Rattle.conformance.proofs.StoppedStates.{result_if_stopped, many_lists}
 use Rattle.conformance.proofs.path.match_exactly.Goals as goal
 
@@ -15,6 +16,11 @@ empty_list (state ∷ states) e = absurd (omega (arith, e))
 first_state : (states : List WalkState) → (length states ≡ 0 → ⊥) → HasState states
 first_state [] filled = absurd (filled refl)
 first_state (state ∷ states) filled = (state, here)
+
+pub returns-then-has_same_steps : goal.returns-then-has_same_steps
+returns-then-has_same_steps c =
+    let a = c.args in
+    of_same_steps a.kind a.path_state a.body.now a.path.now (c.has_same_steps.ensures.0 c.if-has_same_steps.true)
 
 pub returns-then-is_empty : goal.returns-then-is_empty
 returns-then-is_empty c =

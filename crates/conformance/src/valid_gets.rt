@@ -3,13 +3,13 @@
 ghost use Rattle.std.specs.Prelude.{◌≡◌, ◌↔◌, IsTrue, take, slice_get};
 ghost use Rattle.job_bodies.specs.WellFormed as spec;
 ghost use Rattle.job_bodies.specs.Plan.{submits, has_get_of};
-ghost use Rattle.learning.specs.ValidGets.{HasValidGets, is_valid_at};
+ghost use Rattle.conformance.specs.ValidGets.{HasValidGets, is_valid_at};
 
 use job_bodies::Action;
 
 /// Returns true if each get names an earlier submit of the body, and no two gets name the same
 /// submit.
-pub(crate) fn has_valid_gets(body: &[Action]) -> bool
+pub fn has_valid_gets(body: &[Action]) -> bool
     ensures { IsTrue result ↔ HasValidGets body.now }
 {
     for position in 0..body.len() {

@@ -4,7 +4,7 @@ use Rattle.std.specs.Prelude.{Option, None, Some, slice_get}
 use Rattle.std.proofs.lemmas.Option.{slice_get_within}
 use Rattle.job_bodies.specs.declared.action.Action.{Action}
 use Rattle.job_bodies.specs.declared.action.Action.TheVariants.{Work, Submit, Get}
-use Rattle.learning.specs.ValidGets.{HasValidGets, is_valid_at}
+use Rattle.conformance.specs.ValidGets.{HasValidGets, is_valid_at}
 
 pub lawful_gets : (body : List Action) → ((position : ℕ) → position < length body → is_valid_at body position (slice_get body position) ≡ true) → HasValidGets body
 lawful_gets body each = λ position submit e. sym (ap (is_valid_at body position) e) ∙ each position (slice_get_within body position (Get submit) e)

@@ -1,6 +1,6 @@
-use Rattle.std.proofs.Common.{◌≡◌, ◌<◌, ℕ, refl, arith}
-use Rattle.learning.proofs.ValidGetsByIndex.{lawful_gets, lawful_at}
-use Rattle.learning.proofs.valid_gets.has_valid_gets.Goals as goal
+use Rattle.std.proofs.Common.{refl, arith}
+use Rattle.conformance.proofs.ValidGetsByIndex.{lawful_gets, lawful_at}
+use Rattle.conformance.proofs.valid_gets.has_valid_gets.Goals as goal
 
 pub returns : goal.returns
 returns c = (λ yes. lawful_gets c.args.body.now (λ position l. c.loop-position.invariant position (omega arith)), λ valid_gets. refl)
