@@ -14,7 +14,7 @@ use job_bodies::{MAX_ROUNDS, MAX_STATES, MAX_WORKERS};
 use std::alloc::Global;
 
 /// A command of the program.
-#[derive(Clone, Copy, Debug, PartialEq, Eq)]
+#[derive(Clone, Copy)]
 pub enum Command {
     /// A command on a plan and a second text: events or a certificate. It neither starts a thread
     /// nor waits for one.
@@ -26,7 +26,7 @@ pub enum Command {
 }
 
 /// A command on a plan and a second text: events or a certificate.
-#[derive(Clone, Copy, Debug, PartialEq, Eq)]
+#[derive(Clone, Copy, Debug)]
 pub enum ReviewCommand {
     /// Replays events on a plan, and reports the outcome of each event.
     Replay,
@@ -38,7 +38,7 @@ pub enum ReviewCommand {
 }
 
 /// A command on a recording of what a service did.
-#[derive(Clone, Copy, Debug, PartialEq, Eq)]
+#[derive(Clone, Copy, Debug)]
 pub enum RecordingCommand {
     /// Compares a recording with the plan that precedes it in the input.
     Conform,
@@ -51,7 +51,7 @@ pub enum RecordingCommand {
 }
 
 /// A command that uses threads: it searches, or it runs a plan.
-#[derive(Clone, Copy, Debug, PartialEq, Eq)]
+#[derive(Clone, Copy, Debug)]
 pub enum Task {
     /// Searches for a certificate.
     Certify {
@@ -88,7 +88,7 @@ pub enum Task {
 }
 
 /// The parsed arguments of a command line.
-#[derive(Clone, Copy, PartialEq, Eq)]
+#[derive(Clone, Copy)]
 pub struct Cli<'a> {
     pub command: Command,
     /// The first file. If it is the only file, it holds the whole input. Otherwise it holds the
@@ -103,7 +103,7 @@ pub struct Cli<'a> {
 }
 
 /// An output format of `fit`.
-#[derive(Clone, Copy, Debug, PartialEq, Eq)]
+#[derive(Clone, Copy, Debug)]
 pub enum SizesForm {
     /// One line for each pool, with its sizes, and a last line with the number of sizes that differ
     /// from the plan. The lines of the pools mark these sizes.
@@ -113,7 +113,7 @@ pub enum SizesForm {
 }
 
 /// An output format of `refute`.
-#[derive(Clone, Copy, Debug, PartialEq, Eq)]
+#[derive(Clone, Copy, Debug)]
 pub enum RefuteFormat {
     /// Lines for a person: the violation, and the events that lead to it. The violation is a
     /// refused submit, or jobs that wait only for each other.
@@ -123,7 +123,7 @@ pub enum RefuteFormat {
 }
 
 /// The texts that `ask` reads.
-#[derive(Clone, Copy, Debug, PartialEq, Eq)]
+#[derive(Clone, Copy, Debug)]
 pub enum AskInput {
     /// A plan alone, because no second file is named.
     PlanAlone,
@@ -132,7 +132,7 @@ pub enum AskInput {
 }
 
 /// The options of `ask`.
-#[derive(Clone, Copy, Debug, PartialEq, Eq)]
+#[derive(Clone, Copy, Debug)]
 pub struct AskOptions {
     /// Whether a warning about a safe plan changes the exit status from 0 to 1. A note, which some
     /// lints give in place of a warning, does not change the exit status, because the plan does not
@@ -142,7 +142,7 @@ pub struct AskOptions {
 }
 
 /// An output format of `ask`.
-#[derive(Clone, Copy, Debug, PartialEq, Eq)]
+#[derive(Clone, Copy, Debug)]
 pub enum Form {
     /// Plain text for a person.
     Words,

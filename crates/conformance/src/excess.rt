@@ -9,7 +9,7 @@ use std::fmt;
 /// pass of a client through its body.
 ///
 /// The excess formats as a short phrase without the kind's name, such as `31 at once, count is 30`.
-#[derive(Clone, Copy, PartialEq, Eq)]
+#[derive(Clone, Copy)]
 pub enum Excess {
     /// `rounds` rounds are open at once, which is more than `count`.
     Concurrent { rounds: u64, count: u64 },

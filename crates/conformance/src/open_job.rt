@@ -5,7 +5,7 @@ ghost use Rattle.conformance.specs.MissingJob.{first_in};
 ghost use Rattle.conformance.specs.Path as spec;
 
 /// A job of a path that is submitted and not yet got.
-#[derive(Clone, Copy, PartialEq, Eq)]
+#[derive(Clone, Copy)]
 pub struct OpenJob {
     /// The index of its submit in the path.
     pub job: usize,

@@ -23,7 +23,7 @@ use recordings::{InvalidatingEvent, Invalidation, Line, RecordedActor};
 use std::alloc::{AllocError, Global};
 
 /// The count of jobs that a pool rejected. `pool` is the number of this pool in the plan.
-#[derive(Clone, Copy, PartialEq, Eq)]
+#[derive(Clone, Copy)]
 pub struct PoolRejections {
     pub pool: usize,
     pub count: usize,

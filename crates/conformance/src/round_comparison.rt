@@ -15,7 +15,7 @@ use recordings::Line;
 use std::alloc::{AllocError, Global};
 
 /// The first line at which a client kind has more rounds than the plan allows.
-#[derive(Clone, Copy, PartialEq, Eq)]
+#[derive(Clone, Copy)]
 pub struct RoundExcess {
     /// The number of the line, from 1.
     pub line: usize,

@@ -15,7 +15,7 @@ pub enum PathStep {
 
 /// The kind of an actor. An actor gets only jobs that it submitted, and the kind determines which
 /// of these jobs it may get.
-#[derive(Clone, Copy, PartialEq, Eq)]
+#[derive(Clone, Copy)]
 pub enum ActorKind {
     /// A job. At each index of its body, it may get only jobs of classes that the body gets there
     /// or later.
@@ -26,7 +26,7 @@ pub enum ActorKind {
 }
 
 /// Whether a path is whole or only a prefix.
-#[derive(Clone, Copy, PartialEq, Eq)]
+#[derive(Clone, Copy)]
 pub enum PathState {
     /// The whole path: the actor has ended.
     Whole,

@@ -19,7 +19,7 @@ const MAX_ACTORS: usize = 8;
 /// - `newer` selects the actor among those that are ready for the choice: 0 is the one that became
 ///   ready last, 1 is the one before it, and so on. `newer` has no effect on the choices `Begin`,
 ///   `Take` and `Retire`.
-#[derive(Clone, Copy, PartialEq, Eq)]
+#[derive(Clone, Copy)]
 pub(crate) struct Branch {
     pub(crate) place: usize,
     pub(crate) newer: usize,

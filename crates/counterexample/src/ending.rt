@@ -16,7 +16,7 @@ pub enum Ending {
 
 /// The reason why no later event ends the wait of jobs that wait only for each other. In each case,
 /// no new thread can take one of these jobs from a queue.
-#[derive(Clone, Copy, Debug, PartialEq, Eq)]
+#[derive(Clone, Copy, Debug)]
 pub enum Reason {
     /// Each pool that has at least one of these jobs in its queue has `max` threads.
     PoolsAreFull,

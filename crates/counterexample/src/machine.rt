@@ -15,7 +15,7 @@ pub(crate) enum Phase {
 }
 
 /// A job that was created. The number of the job is its index in [`Machine::jobs`].
-#[derive(Clone, Copy, PartialEq, Eq)]
+#[derive(Clone, Copy)]
 pub(crate) struct Job {
     pub(crate) class: usize,
     pub(crate) pool: usize,
@@ -32,7 +32,7 @@ pub(crate) struct Job {
 
 /// A client that has moved. The number of the client in this machine is its index in
 /// [`Machine::active_clients`]. Its number in the plan can be different.
-#[derive(Clone, Copy, PartialEq, Eq)]
+#[derive(Clone, Copy)]
 pub(crate) struct ActiveClient {
     kind: usize,
     position: usize,

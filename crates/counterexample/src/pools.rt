@@ -6,7 +6,7 @@ use std::collections::VecDeque;
 
 /// The response of a pool to an offered job. A full pool rejects the job if the plan says that the
 /// pool may reject jobs, and otherwise refuses it. A pool with an unbounded queue is never full.
-#[derive(Clone, Copy, PartialEq, Eq)]
+#[derive(Clone, Copy)]
 pub(crate) enum Admission {
     Started,
     Queued,

@@ -15,7 +15,7 @@ use std::alloc::{AllocError, Global};
 const FOR_CLIENTS: u64 = 16;
 
 /// A limit for a submit to a pool with an unbounded queue.
-#[derive(Clone, Copy, PartialEq, Eq)]
+#[derive(Clone, Copy)]
 pub(crate) struct QueueLimit {
     pub(crate) pool: usize,
     /// The limit, as a number of queued jobs. A search does not make the submit if the queue has at

@@ -7,7 +7,7 @@ use written_machine::{Event, Parent};
 
 /// An event of a script, and the number of the job that the event created, if it created one.
 /// Clients are numbered in the order of their first steps, as in [`Machine`].
-#[derive(Clone, Copy, PartialEq, Eq)]
+#[derive(Clone, Copy)]
 pub(crate) struct ScriptStep {
     pub(crate) event: Event,
     pub(crate) made: Option<usize>,

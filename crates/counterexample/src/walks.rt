@@ -20,7 +20,7 @@ use written_machine::Parent;
 const FOR_A_LOSS: u64 = 10_000_000_000_000;
 
 /// The violation in which a list of events ends. Every violation except `StuckNow` is *permanent*.
-#[derive(Clone, Copy, PartialEq, Eq)]
+#[derive(Clone, Copy)]
 pub(crate) enum Violation {
     /// The last event is a refused submit.
     Refused,
@@ -57,7 +57,7 @@ pub(crate) struct WalkResult {
 }
 
 /// The outcome of a choice.
-#[derive(Clone, Copy, PartialEq, Eq)]
+#[derive(Clone, Copy)]
 pub(crate) enum WalkStep {
     /// The walk moved to a new state, and no submit was rejected or refused.
     Advanced,

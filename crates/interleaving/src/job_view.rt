@@ -7,7 +7,7 @@ ghost use Rattle.interleaving.specs.ViewStep.{is_done, is_live_child, drop_if_st
 use written_machine::Parent;
 
 /// The phase of a live job.
-#[derive(Clone, Copy, PartialEq, Eq)]
+#[derive(Clone, Copy)]
 pub enum Phase {
     /// The job waits in its pool's queue.
     Queued,
@@ -19,7 +19,7 @@ pub enum Phase {
 }
 
 /// A live job.
-#[derive(Clone, Copy, PartialEq, Eq)]
+#[derive(Clone, Copy)]
 pub struct JobView {
     /// The number of the job's class.
     pub class: usize,

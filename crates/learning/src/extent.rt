@@ -2,7 +2,7 @@
 
 /// The part of a recording from which bodies are learned. Everything else in the plan is always
 /// learned from the whole recording.
-#[derive(Clone, Copy, PartialEq, Eq)]
+#[derive(Clone, Copy)]
 pub enum Extent {
     /// The complete lines in the first [`START_BYTES`] bytes, or the whole recording if it has at
     /// most that many bytes. No plan is learned if an actor that begins in these lines matches no

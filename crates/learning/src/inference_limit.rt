@@ -7,7 +7,7 @@ use std::fmt;
 
 /// The reason why a valid recording gives no plan: the plan would exceed a limit, or no bodies were
 /// found.
-#[derive(Clone, Copy, PartialEq, Eq)]
+#[derive(Clone, Copy)]
 pub enum InferenceLimit {
     /// The plan would need more pools than a plan may have.
     Pools,

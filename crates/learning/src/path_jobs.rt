@@ -18,7 +18,7 @@ pub(crate) struct PathJob {
 }
 
 /// A step of a path, with its job.
-#[derive(Clone, Copy, PartialEq, Eq)]
+#[derive(Clone, Copy)]
 pub(crate) enum JobStep {
     Submits(PathJob),
     Gets(PathJob),

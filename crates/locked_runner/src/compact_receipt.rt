@@ -20,7 +20,7 @@ pub struct CompactReceipt {
 }
 
 /// The kind of an event.
-#[derive(Clone, Copy, PartialEq, Eq)]
+#[derive(Clone, Copy)]
 enum Kind {
     Client,
     Job,

@@ -1,14 +1,14 @@
 //! The interface to the code that does the work of a run's `work` actions.
 
 /// A client or a job of a run.
-#[derive(Clone, Copy, PartialEq, Eq)]
+#[derive(Clone, Copy)]
 pub enum Actor {
     Client(usize),
     Job(usize),
 }
 
 /// The error that a [`Gate`] returns if the work failed.
-#[derive(Clone, Copy, PartialEq, Eq)]
+#[derive(Clone, Copy)]
 pub struct GateFault;
 
 /// The code that does the work of a run's `work` actions. Many threads may call it at the same

@@ -8,7 +8,7 @@ use crate::carriers::carriers;
 use job_bodies::{MAX_RUN_CARRIERS, MAX_RUN_CLIENTS, MAX_RUN_EVENTS, Plan};
 
 /// A limit that a run can exceed.
-#[derive(Clone, Copy, PartialEq, Eq)]
+#[derive(Clone, Copy)]
 pub enum RunLimit {
     /// The plan must have no pool that may reject jobs. A run must perform every job of the plan,
     /// but a rejected job is not performed.

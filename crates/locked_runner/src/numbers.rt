@@ -12,7 +12,7 @@ use weights::Ranks;
 
 /// The numbers of jobs and units of work of a complete run, and an upper bound of the number of its
 /// events. A number above `u64::MAX` is stored as `u64::MAX`.
-#[derive(Clone, Copy, PartialEq, Eq)]
+#[derive(Clone, Copy)]
 pub struct RunNumbers {
     /// The number of jobs that clients and jobs submit.
     pub jobs: u64,

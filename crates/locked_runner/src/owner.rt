@@ -17,7 +17,7 @@ use std::alloc::{AllocError, Global};
 
 /// The owner of an event: a client or a pool. A pool owns each event in which one of its threads
 /// takes a job, performs an action of a job, or ends a job.
-#[derive(Clone, Copy, PartialEq, Eq)]
+#[derive(Clone, Copy)]
 pub enum Owner {
     Client(usize),
     Pool(usize),

@@ -7,7 +7,7 @@ use crate::rule::LineRule;
 use std::fmt;
 
 /// The reason why a line is bad.
-#[derive(Clone, Copy, PartialEq, Eq)]
+#[derive(Clone, Copy)]
 pub enum FaultReason {
     /// The line has none of the forms in `docs/RECORDING.md`.
     Form,
@@ -28,7 +28,7 @@ impl fmt::Display for FaultReason {
 }
 
 /// A bad line of a recording.
-#[derive(Clone, Copy, PartialEq, Eq)]
+#[derive(Clone, Copy)]
 pub struct RecordingFault {
     /// The line number, from 1.
     pub line: usize,

@@ -13,7 +13,7 @@ use std::fmt;
 /// the line of the event.
 ///
 /// The displayed text is a short phrase without the line number, such as `job 4 was refused`.
-#[derive(Clone, Copy, PartialEq, Eq)]
+#[derive(Clone, Copy)]
 pub enum InvalidatingEvent {
     /// A pool refused the job that this actor submitted.
     Refused { actor: RecordedActor, job: usize },
@@ -35,7 +35,7 @@ pub enum InvalidatingEvent {
 }
 
 /// An event that invalidates a SAFE answer, with the line that reports it.
-#[derive(Clone, Copy, PartialEq, Eq)]
+#[derive(Clone, Copy)]
 pub struct Invalidation {
     /// The line number, from 1.
     pub line: usize,

@@ -18,7 +18,7 @@ pub struct RecordingLines<'a> {
 }
 
 /// A line that has none of the forms in `docs/RECORDING.md`.
-#[derive(Clone, Copy, PartialEq, Eq)]
+#[derive(Clone, Copy)]
 pub struct BadLine;
 
 impl<'a> Model for RecordingLines<'a> {

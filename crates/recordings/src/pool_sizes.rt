@@ -18,7 +18,7 @@ pub const UNBOUNDED_CAPACITY: usize = MAX_LINE_NUMBER;
 /// The settings of a pool in a `pool` line. If a value is above
 /// [`MAX_LINE_NUMBER`](job_bodies::MAX_LINE_NUMBER), a recorder writes this limit instead, so no
 /// number in a line is larger.
-#[derive(Clone, Copy, PartialEq, Eq)]
+#[derive(Clone, Copy)]
 pub struct PoolSizes {
     pub core: usize,
     pub max: usize,
@@ -63,7 +63,7 @@ impl QueueKind {
 }
 
 /// The kind of a pool's handler for refused jobs.
-#[derive(Clone, Copy, PartialEq, Eq)]
+#[derive(Clone, Copy)]
 pub enum HandlerKind {
     Abort,
     CallerRuns,

@@ -7,7 +7,7 @@ use std::fmt;
 
 /// A rule for the lines of a recording. Whether a line keeps the rule depends on the lines before
 /// it.
-#[derive(Clone, Copy, PartialEq, Eq)]
+#[derive(Clone, Copy)]
 pub enum LineRule {
     /// O1: the first line is `recording 1`, and no other line is `recording 1`. No line comes after
     /// `end`.

@@ -4,7 +4,7 @@ ghost use Rattle.std.specs.Prelude.{◌≡◌};
 ghost use Rattle.recordings.specs.ActorPath as spec;
 
 /// A submit or a get in the path of an actor. It corresponds to an action of a body in a plan.
-#[derive(Clone, Copy, PartialEq, Eq)]
+#[derive(Clone, Copy)]
 pub enum RecordedStep {
     /// The actor submitted the job with this number.
     Submits(usize),

@@ -20,7 +20,7 @@ const NO_ANSWER: u8 = 3;
 ///
 /// - If the sink failed, a prefix of the answer was written.
 /// - If the certificate's file could not be written, the whole answer was written.
-#[derive(Debug, Drop)]
+#[derive(Drop)]
 pub enum CliError<'a> {
     /// An error of `clap`, or a request for help. Its `Display` writes `clap`'s own text for the
     /// user.

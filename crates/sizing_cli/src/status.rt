@@ -15,7 +15,7 @@ use support::FaultHead;
 use support::number::{GATE, MEMORY, MIXED, READ_FAILED, WRITE_FAILED};
 
 /// The outcome of a command that gave an answer.
-#[derive(Clone, Copy, Debug, PartialEq, Eq)]
+#[derive(Clone, Copy, PartialEq, Eq)]
 pub enum Status {
     /// Yes, or the command did what it was asked to do.
     Done,
