@@ -21,8 +21,7 @@ pub enum EventLine<'a> {
 }
 
 /// Parses the first line of a text. Returns the content of the line and the text after the line, or
-/// `None` if the line is malformed. A `job` or `client` line must end directly after its number,
-/// and is parsed in one pass.
+/// `None` if the line is malformed.
 #[inline(always)]
 pub(crate) fn split_event_line<'a>(plan: &Plan, text: &'a [u8]) -> Option<(EventLine<'a>, &'a [u8])>
     ensures { option_map (λ read. (line_seen read.0, read.1.now)) result
