@@ -34,9 +34,8 @@ use std::alloc::{AllocError, Global};
 /// The classifier stores the paths of the unsettled actors. For each settled job that an unsettled
 /// actor submitted, it also stores the classes that the job can belong to.
 ///
-/// Each search for an unsettled job in the path of an ended actor stops at the first such job, and
-/// the next search continues there. No contract states how long a line takes. If several
-/// actors become settled with the same line, no contract states in which order they are reported.
+/// No contract bounds the running time of [`take`](ActorClassifier::take). If several actors become
+/// settled with the same line, no contract states in which order they are reported.
 #[derive(Drop)]
 pub struct ActorClassifier {
     pub(crate) paths: Paths,

@@ -15,8 +15,7 @@ use recordings::{RecordedActor, RecordedStep};
 use std::alloc::{AllocError, Global};
 use support::IdMap;
 
-/// An unsettled actor: an actor that is open, or that has ended but has an unsettled job in its
-/// path.
+/// An unsettled actor: an actor that has not ended, or that has an unsettled job in its path.
 #[derive(Drop)]
 pub(crate) struct UnsettledActor {
     /// The class of a job, or the kind of a round.
@@ -25,7 +24,7 @@ pub(crate) struct UnsettledActor {
     pub(crate) pool: String,
     /// The submitter of a job. It is `None` for a refused job and for a round.
     pub(crate) submitter: Option<RecordedActor>,
-    /// The path of the actor if it has ended. It is `None` if the actor is open.
+    /// The path of the actor if the actor has ended, and `None` otherwise.
     pub(crate) ended_path: Option<EndedPath>,
 }
 
@@ -66,7 +65,8 @@ impl ActorTable {
         }
     }
 
-    /// Inserts an unsettled actor. Replaces the actor if the table already has it.
+    /// Inserts the actor, with `kept` as its entry. Replaces the entry if the table already has
+    /// one.
     ///
     /// # Errors
     ///
@@ -87,7 +87,7 @@ impl ActorTable {
         }
     }
 
-    /// Inserts an open actor. Replaces the actor if the table already has it.
+    /// Inserts an actor that has not ended. Replaces its entry if the table already has one.
     ///
     /// - `label` is the class of a job or the kind of a round.
     /// - `pool` is the pool of a job, and empty for a round.
@@ -163,8 +163,8 @@ impl ActorTable {
     }
 
     /// Stores `known` for an ended actor: the length of a prefix of the actor's path. All jobs that
-    /// this prefix submits are settled. Does nothing if the actor has not ended or is not in the
-    /// table.
+    /// this prefix submits must be settled. Does nothing if the actor has not ended or is not in
+    /// the table.
     pub(crate) fn advance(&mut self, actor: RecordedActor, known: usize)
         ensures later { (one : RecordedActor)
             → in_table self.new one

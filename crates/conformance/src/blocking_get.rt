@@ -8,8 +8,8 @@ ghost use Rattle.conformance.specs.BlockingGet as spec;
 
 use crate::body_gets::BodyGet;
 
-/// The result of a search for a get that blocks the way to an index of the body. The way starts at
-/// the last index up to this one at which the body can be. It ends before the action at this index.
+/// The result of a search for a get that blocks the body on its way to an index. The way starts at
+/// the last index, up to this one, where the body can be. It ends before the action at this index.
 #[derive(Clone, Copy)]
 enum Way {
     /// There is no way: the body can be neither at the index nor before it.
@@ -25,10 +25,10 @@ enum Way {
 /// Returns the get that blocks the way of the body to the index `end`. Returns `None` if no get on
 /// the way blocks the body, or if the body can be neither at this index nor before it.
 ///
-/// A get blocks the body if the body may not pass the get. The way starts at the last index up to
-/// `end` at which the body can be, and ends before the action at `end`. The candidates are the
-/// first blocking get on the way, and all later gets of the same class on the way. The result is
-/// the candidate with the smallest [`limit`](BodyGet::limit).
+/// A get blocks the body if the body may not pass the get. The way starts at the last index, up to
+/// `end`, where the body can be. It ends before the action at `end`. The candidates are the first
+/// blocking get on the way, and all later gets of the same class on the way. The result is the
+/// candidate with the smallest [`limit`](BodyGet::limit).
 ///
 /// - `row` says for each index, and for the end of the body, whether the body can be there.
 /// - `passes` says for each action whether the body may pass the action: go to the next one while

@@ -65,8 +65,8 @@ impl ActorClassifier {
         Ok(())
     }
 
-    /// Returns the path of an open actor up to the lines read so far. Returns an empty path if the
-    /// actor is not open.
+    /// Returns the path of an actor that has not ended, up to the lines read so far. Returns an
+    /// empty path for any other actor.
     ///
     /// # Errors
     ///
@@ -84,8 +84,9 @@ impl ActorClassifier {
         }
     }
 
-    /// Returns the path of the actor. If the actor has ended, this is the whole path, which is in
-    /// `ended_path`. If the actor is open, it is the path up to the lines read so far.
+    /// Returns the path of the actor. If the actor has ended, `ended_path` must have its whole
+    /// path, which is the result. Otherwise `ended_path` must be `None`, and the result is the path
+    /// up to the lines read so far.
     ///
     /// # Errors
     ///

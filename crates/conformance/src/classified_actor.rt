@@ -13,8 +13,8 @@ pub struct ClassifiedActor {
     pub pool: String,
     /// The submits and gets of the actor, in order.
     pub path: Vec<RecordedStep>,
-    /// The classes that the job can belong to, or the kinds that the round can belong to. They are
-    /// decided only if the classes of each job in the path are decided
-    /// ([`is_decided`](FamilyMatch::is_decided)).
+    /// The classes that the job can belong to, or the kinds that the round can belong to. If
+    /// [`is_decided`](FamilyMatch::is_decided) is false in the result of a job that the path
+    /// submits, it is false here too.
     pub family: FamilyMatch,
 }

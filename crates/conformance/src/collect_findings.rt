@@ -360,10 +360,13 @@ fn push_event(
     Ok(())
 }
 
-/// Returns the class and the pool that the finding names: those of the event's job. For
-/// `invokeAny`, returns the class or client kind of the caller and the pool of the first such call.
-/// For jobs that no line submits, returns an empty name and the pool of the first line with such
-/// jobs.
+/// Returns the label of the finding for this event, a name and a pool:
+///
+/// - for a call of `invokeAny`, the class or client kind of the calling actor, and the pool of the
+///   first such call;
+/// - for an `unseen` line, which reports jobs without `submit` lines, an empty name, and the pool
+///   of the first such line;
+/// - for any other event, the class and the pool of the event's job.
 fn subject_of(
     alloc: Global,
     recording: &[u8],

@@ -42,7 +42,7 @@ pub enum Conformance {
         /// Findings without a line come last. The recording conforms to the plan if the list is
         /// empty.
         findings: Vec<Finding>,
-        /// The number of rejections of each pool that may reject jobs, in the order of the plan.
+        /// The number of rejections by each pool that may reject jobs, in the order of the plan.
         /// Only rejections that the plan allows are counted.
         rejections: Vec<PoolRejections>,
     },
@@ -64,10 +64,10 @@ pub enum Conformance {
 /// - for each label of the plan, the first actor, by number, with a path that matches no body. The
 ///   finding has the first step that no body allows, and the line of this step;
 /// - for each label of the plan, the first actor, by number, with an undecided match: it is unknown
-///   which bodies the path matches. The path of this actor, or of a job that it submitted directly
-///   or through other jobs, has a moment with more than [`MAX_OPEN_LISTS`](crate::MAX_OPEN_LISTS)
-///   choices of classes for its open jobs. So there is no such actor if each label of a job refers
-///   to at most one class of the plan;
+///   which bodies the path matches. This happens only if the open jobs of a path may have more than
+///   [`MAX_OPEN_LISTS`](crate::MAX_OPEN_LISTS) combinations of classes at the same time. This path
+///   is that of the actor, or of a job that it submitted, directly or through other jobs. So there
+///   is no such actor if each label of a job refers to at most one class of the plan;
 /// - for each client kind, the first line at which the kind has more rounds than the plan allows.
 ///   Each round is counted for the first kind that it can belong to. If it can belong to none, it
 ///   is counted for the first kind that its label may refer to. A round with an undecided kind is

@@ -29,9 +29,9 @@ pub fn rounds_are_within_plan()
 
 /// States that the plan allows a rejection only if the rejecting pool may reject jobs.
 ///
-/// Also states a consequence for a plan in which no pool may reject jobs. Such a plan allows no
-/// line that invalidates a SAFE answer. So if the plan allows all such lines of a recording, the
-/// recording has none.
+/// Also states a consequence for a plan in which no pool may reject jobs. Consider the lines of a
+/// recording that invalidate a SAFE answer independently of the paths. If each of them is a
+/// rejection that the plan allows, there is no such line.
 pub fn rejections_need_the_key()
     ensures need { RejectionsNeedTheKey }
     ensures all { WithoutTheKeyAllCount }
@@ -41,8 +41,8 @@ pub fn rejections_need_the_key()
 ///
 /// - The plan allows no rejection by the pool.
 /// - [`mark_rejecting_pools`](crate::mark_rejecting_pools) returns a plan in which the pool may not
-///   reject jobs, unless the field `queue` of the pool is 0. A pool of a parsed plan does not have
-///   this 0: parsing sets the field, which has no other effect on an unbounded queue, to 1,000,000.
+///   reject jobs, unless the field `queue` of the pool is 0. In a parsed plan it is not 0, because
+///   parsing sets this field to 1,000,000 if the queue is unbounded.
 pub fn unbounded_pools_reject_nothing()
     ensures none { UnboundedPoolsRejectNothing }
     ensures no_key { UnboundedPoolsGetNoKey }

@@ -292,10 +292,10 @@ fn deviating_submit(
     }
 }
 
-/// Returns the deviation for a submit that the body cannot make. The path of the submitted job
-/// itself is no deviation: it matches a class, or its match is undecided. `excess` has the open
-/// jobs that block the submit. If `excess` is `None`, the body has no submit left for a job of this
-/// label.
+/// Returns the deviation for a submit that the body cannot make. `label` is the label of the
+/// submitted job. `excess` has the open jobs that block the submit. If `excess` is `None`, the body
+/// has no submit left for a job of this label. The job's own path must match a class, or its match
+/// must be undecided.
 fn submit_of_body(label: ActorLabel, excess: Option<OpenExcess>) -> DeviatingStep
     ensures { result ≡ spec.submit_of_body label excess }
 {

@@ -30,8 +30,8 @@ pub enum Difference {
     CoreTimeout,
     /// The recorded core threads never time out, but those of the plan's pool may.
     NoCoreTimeout,
-    /// The number of threads when the recording began. The planned number is the core size for a
-    /// pool with `prestart`, and 0 for any other pool.
+    /// The number of threads that the pool had when its recording began. The planned number is the
+    /// core size for a pool with `prestart`, and 0 for any other pool.
     Prestarted { recorded: u64, planned: u64 },
 }
 

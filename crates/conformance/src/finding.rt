@@ -59,7 +59,8 @@ pub enum Finding {
         ///
         /// - for a call of `invokeAny`, the class or client kind of the calling actor, and the pool
         ///   of the call;
-        /// - for jobs that no line submits, an empty name, and the pool of the line;
+        /// - for an `unseen` line, which reports jobs without `submit` lines, an empty name, and
+        ///   the pool of the line;
         /// - for any other event, the class and the pool of the job.
         label: ActorLabel,
     },

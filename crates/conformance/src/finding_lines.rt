@@ -213,7 +213,8 @@ fn push_get_of(text: &mut String, job: usize, class: &str, pool: &str) -> Result
     push_job(text, job, class, pool)
 }
 
-/// Appends an actor with its class or kind, without a pool.
+/// Appends an actor with its class or kind, but without a pool, such as `job 44 of class order` or
+/// `round 3 of kind visitor`.
 fn push_short_actor(text: &mut String, actor: RecordedActor, name: &str) -> Result<(), AllocError>
     ensures { Pushes result text.old text.new (spec.short_actor_text actor name.now) }
 {

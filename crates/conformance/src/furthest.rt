@@ -16,8 +16,8 @@ pub(crate) struct Reached {
     pub(crate) index: usize,
 }
 
-/// Returns the last index up to `end` at which the body can be in one of the states. Returns `None`
-/// if there is no such index.
+/// Returns the last index up to `end` where the body can be, over all states. The result also has a
+/// state in which the body can be there. Returns `None` if there is no such index.
 pub(crate) fn furthest(states: &[WalkState], end: usize) -> Option<Reached>
     ensures { spec.IsFurthest states.now end result }
 {
@@ -39,9 +39,9 @@ pub(crate) fn reaches(states: &[WalkState], end: usize) -> bool
     }
 }
 
-/// Returns the larger one of two indices: the one in `before`, and `index`, at which the body can
-/// be in the state at the place `number`. If one of them is `None`, returns the other one. If they
-/// are equal, returns `before`.
+/// Returns the larger one of two indices, with its state. The first index is in `before`. The
+/// second one is `index`, and `number` is the place of its state. If one of them is `None`, returns
+/// the other one. If they are equal, returns `before`.
 fn further(before: Option<Reached>, number: usize, index: Option<usize>) -> Option<Reached>
     ensures { result ≡ spec.further before number index }
 {

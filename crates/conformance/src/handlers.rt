@@ -15,7 +15,8 @@ use recordings::Line;
 use std::alloc::{AllocError, Global};
 
 /// The facts about the pools of a recording that, together with the plan, determine the
-/// [`RejectionRule`] of each pool. They come from the lines read so far, and are four sets of pools:
+/// [`RejectionRule`] of each pool. They come from the lines read so far, and are four sets of
+/// pools:
 ///
 /// - the pools with a line that names a handler other than `abort`;
 /// - the pools with a line that names a handler other than `caller_runs`;
@@ -149,9 +150,9 @@ fn rule_by(aborts: bool, caller_runs: bool, closes: bool, drops: bool) -> Reject
     }
 }
 
-/// Adds the name of a pool to `names`, unless `is_kind` is true. Each such set belongs to one kind of
-/// handler: for example, the set `not_abort` has the pools with a line that names a handler other
-/// than `abort`. `is_kind` says whether the current line of the pool names a handler of this kind.
+/// Adds the name of a pool to `names`, unless `is_kind` is true. `names` has the pools with a line
+/// that names a handler other than one certain handler, such as `abort`. `is_kind` says whether the
+/// pool's current line names that handler.
 fn insert_unless(names: &mut PoolNames, name: &str, is_kind: bool) -> Result<(), AllocError>
     ensures { OnOk result
         ((q : List ℕ)

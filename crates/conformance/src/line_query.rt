@@ -21,7 +21,7 @@ pub(crate) enum LineQuery {
     Last(RecordedActor),
     /// A line that records a call of `invokeAny`.
     InvokesAny,
-    /// A line that reports jobs that no line submits.
+    /// An `unseen` line. It reports jobs that have no `submit` line.
     Unseen,
 }
 
@@ -92,7 +92,7 @@ fn is_same_actor(one: RecordedActor, other: RecordedActor) -> bool
 }
 
 /// Returns the first line of the text that meets the condition, with the number of the line, from
-/// 1. Returns `None` if no line meets the condition.
+/// 1. Skips malformed lines and does not count them. Returns `None` if no line meets the condition.
 pub(crate) fn first_line(text: &[u8], line_query: LineQuery) -> Option<(usize, Line<'_>)>
     ensures { spec.IsFirstLine (lines_of text.now) line_query (spec.found_seen result) }
 {

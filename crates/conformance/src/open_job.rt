@@ -19,7 +19,8 @@ pub(crate) fn count_in(class: usize, jobs: &[OpenJob]) -> usize
     jobs.iter().filter(|one| one.class == class).count()
 }
 
-/// Returns the first job in `jobs` that has the class, or `None` if there is none.
+/// Returns the first job in `jobs` that has the class, as the index of its submit in the path.
+/// Returns `None` if no job has the class.
 pub(crate) fn first_in(class: usize, jobs: &[OpenJob]) -> Option<usize>
     ensures { result ≡ first_in class jobs.now }
 {
@@ -45,7 +46,8 @@ pub(crate) fn are_same(one: &[OpenJob], other: &[OpenJob]) -> bool
     true
 }
 
-/// Removes the job from `jobs` and returns its class. Returns `None` if the job is not in `jobs`.
+/// Removes a job from `jobs` and returns its class. `job` is the index of the job's submit in the
+/// path. Returns `None` if the job is not in `jobs`.
 pub(crate) fn take_job(jobs: &mut Vec<OpenJob>, job: usize) -> Option<usize>
     ensures class { result ≡ spec.open_class job jobs.old.items }
     ensures jobs { jobs.new.items ≡ spec.without job jobs.old.items }

@@ -42,9 +42,9 @@ use std::alloc::{AllocError, Global};
 /// ways. No contract says that these ways are tried.
 ///
 /// If each job of the path has at most one of the body's classes, at most one list is possible
-/// after each step. If each job has at most one class in all, the number of computation steps is at
-/// most proportional to the length of the body times the sum of both lengths. No contract states
-/// this.
+/// after each step. If each job has at most one class in all, the running time is at most
+/// proportional to `B * (B + P)`, for a body with `B` actions and a path with `P` steps. No
+/// contract states this.
 ///
 /// # Errors
 ///
@@ -163,8 +163,8 @@ fn match_at_end(
     }
 }
 
-/// Returns true if the path matches the body with at least one of the rules of [`Pick`], each of
-/// which picks a class for each job in the path.
+/// Returns true if the path matches the body with at least one rule of [`Pick`]. A rule picks one
+/// class for each job in the path.
 ///
 /// # Errors
 ///

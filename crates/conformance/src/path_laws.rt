@@ -17,8 +17,8 @@ ghost use Rattle.conformance.specs.LaggingRun.{PathsAreFollowed, RunsStayReachab
 /// - The actor passes the actions of its body late: directly before the next submit of the path, or
 ///   before the end. It skips the submits among these actions, and gets only jobs that are not open
 ///   in the path. So the actor gets each job no sooner than the path does.
-/// - If the actor is a job and the path waits in a get, the rest of the actor's body still has a get
-///   of a job of the same class as the job for which the path waits.
+/// - Suppose that the actor is a job, and that the path waits in a get. Then the rest of the
+///   actor's body still has a get of a job of the awaited job's class.
 /// - The states of such a run are reachable, so they are safe.
 pub fn paths_are_followed()
     ensures followed { PathsAreFollowed }

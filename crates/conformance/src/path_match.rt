@@ -18,8 +18,7 @@ pub enum PathMatch {
     /// prefix. The step after the prefix deviates. If there is no such step, the actor ended too
     /// early.
     Deviates(ExplainedPrefix),
-    /// It is unknown whether the path matches. Some jobs of the path may belong to several classes
-    /// that the body submits, and more than [`MAX_OPEN_LISTS`] lists of open jobs are possible
-    /// after some step of the path.
+    /// It is unknown whether the path matches, because its open jobs may have too many combinations
+    /// of classes: more than [`MAX_OPEN_LISTS`] after some step of the path.
     Undecided,
 }

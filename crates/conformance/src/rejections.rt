@@ -1,5 +1,5 @@
-//! The refusals of a recording: the rejections that the plan allows, and the other refusals. They
-//! are collected only if some pool of the plan may reject jobs.
+//! The refusals of a recording: the rejections that the plan allows, and the other refusals.
+//! [`conform`](crate::conform) collects them only if some pool of the plan may reject jobs.
 
 ghost use Rattle.std.specs.Prelude.{◌≡◌, ◌+◌, ◌==◌, ◌++◌, ◌∷◌, [], ℕ, true, Some, List, count_by, length, OnOk, IfOk};
 ghost use Rattle.std.specs.Option.{option_to_list};
@@ -34,7 +34,8 @@ pub struct PoolRejections {
 pub(crate) struct Rejections {
     /// The pool of each rejection that the plan allows, in the order of the lines.
     pools: Vec<usize>,
-    /// The pool of each refusal that the plan does not allow, in the order of the lines.
+    /// The pool of each refusal that the plan does not allow, in the order of the lines. Pools that
+    /// are not in the plan are not in the list.
     refusing: Vec<usize>,
     /// The first refusal that the plan does not allow.
     pub(crate) first_refusal: Option<Invalidation>,

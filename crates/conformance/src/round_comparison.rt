@@ -111,9 +111,9 @@ impl RoundComparison {
         Ok(RoundComparison { kinds })
     }
 
-    /// Reads line `number` of a valid recording. If a client kind has more rounds than the plan
-    /// allows for the first time at this line, appends the excess to `found`. So there is at most
-    /// one excess for each kind.
+    /// Reads line `number` of a valid recording. If this is the first line at which a client kind
+    /// has more rounds than the plan allows, appends the excess to `found`. So there is at most one
+    /// excess for each kind.
     ///
     /// If the line begins or ends a round, `kind` is the number of the round's client kind in the
     /// plan. It must be the same in both lines of the round. The round is not counted if `kind` is

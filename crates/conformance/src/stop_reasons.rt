@@ -25,17 +25,18 @@ use crate::walk_states::states_at;
 use job_bodies::Action;
 use std::alloc::{AllocError, Global};
 
-/// The body's next submit of one of several classes, and the last index that a joint walk reaches
-/// at or before this submit.
+/// The body's next submit of one of several classes. `submit` is the index of this submit.
+/// `reached` has the last index up to this submit where the body can be.
 #[derive(Clone, Copy)]
 pub(crate) struct SubmitAhead {
     pub(crate) submit: usize,
     pub(crate) reached: Reached,
 }
 
-/// Returns the reason why no joint walk makes the step at index `place` of the path. The result has
-/// a meaning only if no walk makes the step. Returns the result of [`excess_in`] if the step is a
-/// submit, and `None` if the step is a get.
+/// Finds the reason why no joint walk makes the step at index `place` of the path. Returns the open
+/// jobs that block the body before its next matching submit. Returns `None` if the step is a get,
+/// or if the body has no matching submit left. The result has a meaning only if no walk makes the
+/// step.
 ///
 /// # Errors
 ///
@@ -90,9 +91,9 @@ fn excess_in(
 }
 
 /// Returns a job that the actor should have got before its end, as the index of the job's submit in
-/// the path. No walk may have reached the end of the body. Take a walk in which the body is
-/// furthest, and the next get that the body cannot pass. The result is the first open job of the
-/// path that has the class of this get.
+/// the path. The result has a meaning only if no walk reaches the end of the body. A get then
+/// blocks the walk that is furthest in the body. The result is the first open job of the path that
+/// has the class of this get.
 pub(crate) fn missing_in(
     states: &[WalkState],
     body: &[Action],
@@ -113,8 +114,9 @@ pub(crate) fn missing_in(
     first_in(get.class, &state.jobs)
 }
 
-/// Returns the body's first submit of one of the classes that is at or after an index where the
-/// body can be. Also returns the last index, at or before this submit, where the body can be.
+/// Returns the body's next submit of one of the classes: the first one at or after an index where
+/// the body can be. Also returns the last index up to this submit where the body can be. Returns
+/// `None` if there is no such submit.
 fn submit_ahead(states: &[WalkState], body: &[Action], classes: &[usize]) -> Option<SubmitAhead>
     ensures { spec.AreAhead states.now body.now classes.now result }
 {

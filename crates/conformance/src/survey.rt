@@ -50,7 +50,7 @@ impl LineSurvey {
         }
     }
 
-    /// Reads line `number` of a valid recording.
+    /// Updates the facts for line `number` of a valid recording.
     ///
     /// # Errors
     ///
@@ -73,7 +73,7 @@ impl LineSurvey {
         self.unplanned.take(plan, number, line)
     }
 
-    /// Adds a finding for each pool of the plan that the recording lacks, if the recording ends
+    /// Adds a deviation for each pool of the plan that the recording lacks, if the recording ends
     /// with `end`.
     ///
     /// # Errors
@@ -88,8 +88,8 @@ impl LineSurvey {
     }
 }
 
-/// The facts about a recording that each classified actor updates. Examples are the actors with a
-/// path that matches no body.
+/// The facts about a recording that depend on the classes and kinds of its actors. Examples are the
+/// actors with a path that matches no body.
 #[derive(Drop)]
 pub(crate) struct ActorSurvey {
     pub(crate) verdicts: Verdicts,
@@ -139,7 +139,7 @@ impl ActorSurvey {
     }
 }
 
-/// All facts about a recording that a comparison with a plan needs.
+/// The facts that one pass over a recording collects for the comparison with a plan.
 #[derive(Drop)]
 pub(crate) struct Survey {
     pub(crate) line_survey: LineSurvey,

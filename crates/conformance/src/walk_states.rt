@@ -117,8 +117,9 @@ fn states_after_submit(
     Ok(next)
 }
 
-/// Appends the states that follow `state` after the submit, one for each class with which the body
-/// can make the submit. The last class needs no copy of `state`.
+/// Appends the states that follow `state` after a submit of a job that may belong to any of these
+/// classes: one for each of the classes that the body can submit. `job` is the index of the submit
+/// in the path.
 fn push_after_submit(
     alloc: Global,
     next: &mut Vec<WalkState>,
