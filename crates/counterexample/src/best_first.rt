@@ -1,5 +1,6 @@
 //! A best-first search for a violation. The search repeatedly selects a state that it has reached,
-//! and *expands* this state. To expand a state means to visit the successors of the state. Several
+//! and *expands* this state. To expand a state means to visit the successors of the state. A
+//! *branch* leads from a state to a successor: it is a choice and the actor that makes it. Several
 //! measures take turns in the selection:
 //!
 //! - the weight that was lost under a vector on the way to the state (see below),
@@ -51,8 +52,8 @@ struct ReplayedState<'a> {
 }
 
 impl ReplayedState<'_> {
-    /// Performs the branches of `path` in order, and adds the weights that they lose to `lost`.
-    /// `potentials` has the vectors of `lost`, in the same order.
+    /// Performs the branches of `path` in order. Adds the weight that is lost under each vector in
+    /// `potentials` to the entry of `lost` with the same index.
     fn perform(&mut self, path: &[Branch], potentials: &[Potential]) -> Result<(), AllocError> {
         for branch in path {
             for (lost, potential) in self.lost.iter_mut().zip(potentials) {

@@ -44,12 +44,12 @@ impl<'a> Walk<'a> {
         })
     }
 
-    /// Returns the branches that the search tries from this state. Skips submits to an unbounded
-    /// queue that is at its limit. Also limits the number of actors that are tried:
+    /// Returns the branches that the search tries from this state. Skips a submit to an unbounded
+    /// queue that already has as many jobs as the search allows. Also limits the number of actors
+    /// that are tried:
     ///
-    /// - After the end of its body, a client can be at its first submit again. For each client
-    ///   kind, at most one of these clients is tried. A new client is tried only if there is no
-    ///   such client.
+    /// - For the first submit of a client kind, at most one client is tried: one that has started
+    ///   its body again, if there is one, and otherwise a new one.
     /// - For each other submit, at most [`MAX_ACTORS`] actors are tried.
     pub(crate) fn branches(&self, alloc: Global) -> Result<Vec<Branch>, AllocError> {
         let mut branches = Vec::new(alloc);

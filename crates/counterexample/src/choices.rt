@@ -34,8 +34,8 @@ pub(crate) struct Choices {
     pub(crate) all: Vec<Choice>,
     /// Whether core threads of some pool may time out. If so, the search checks more states for
     /// jobs that wait only for each other. Such jobs can then be queued in a pool that has idle
-    /// threads, because these threads can end. The wait of the jobs is over as soon as an idle
-    /// thread takes a queued job instead, so rare checks would miss it.
+    /// threads, because these threads can end. If an idle thread takes a queued job instead, the
+    /// wait is over, and a later check does not find it.
     pub(crate) has_core_timeout: bool,
     /// For each choice, the limit on the number of jobs in the queue to which the choice submits.
     /// `None` if the choice is not a submit, or if the queue is bounded.

@@ -64,8 +64,8 @@ pub fn confirmed(
     Ok(witness_of(plan, &world, replayed, events, members, standing))
 }
 
-/// Returns the witness that the replay of the events found, if it found one. `replayed` is the
-/// result of this replay, and `world` is the state after it.
+/// Returns the result of [`confirmed`] for these events, members and vectors. `replayed` is the
+/// result of the replay of the events, and `world` is the state after the replay.
 fn witness_of(
     plan: &Plan,
     world: &World,

@@ -42,9 +42,9 @@ impl WeightedBody<'_> {
         self.row.get(position).copied().unwrap_or(0)
     }
 
-    /// Returns the weight of an actor at this position after it has performed all work up to its
-    /// next submit or get. If it reaches the end of its body instead, returns `end`. Also returns
-    /// whether it reaches the end.
+    /// Returns the weight of an actor that was at this position and has performed all work up to
+    /// its next submit or get, and `false`. If it has reached the end of its body instead, returns
+    /// `end` and `true`.
     fn weight_after_work(&self, position: usize) -> (u64, bool) {
         let mut position = position;
         for _ in 0..MAX_ACTIONS {
@@ -62,7 +62,7 @@ impl WeightedBody<'_> {
 /// actors are the job and, if it ends at once, each ancestor that then continues.
 #[derive(Clone, Copy)]
 struct TakeWeights {
-    /// The last job that ended, if its parent was not considered yet. Otherwise `None`.
+    /// The last job that ended, if the steps of its parent are not included yet. Otherwise `None`.
     ended: Option<usize>,
     before: u64,
     after: u64,
@@ -75,7 +75,7 @@ impl<'a> Losses<'a> {
 
     /// Returns the loss of the choice if `actor` makes it. The loss is at most [`MAX_LOST`]. The
     /// choice must be possible. `actor` has no effect on the losses of `Begin`, `Take` and
-    /// `Retire`.
+    /// `Retire`. The loss of any other choice is [`MAX_LOST`] if `actor` is `None`.
     pub(crate) fn of(&self, choice: Choice, actor: Option<Parent>) -> u64 {
         let lost = match choice {
             Choice::Begin(kind) => self.of_begin(kind),
@@ -213,8 +213,8 @@ impl<'a> Losses<'a> {
         Some(taken.before.saturating_sub(taken.after))
     }
 
-    /// Returns `taken`, extended by the next steps of the parent of `job` if this parent waits for
-    /// `job`, which has just ended.
+    /// Extends `taken` by the next steps of the parent of `job`, and returns it. `job` has just
+    /// ended. If the parent does not wait for `job`, the weights stay the same.
     fn with_parent(&self, taken: TakeWeights, job: usize) -> Option<TakeWeights> {
         let Job { class, parent, .. } = *self.machine.jobs.get(job)?;
         if self.machine.waits_for(parent) != Some(job) {

@@ -179,9 +179,9 @@ impl<'a> Machine<'a> {
         }
     }
 
-    /// Returns `true` if the actor has not yet passed the get of the job that the submit at
-    /// position `submit` of its body creates. Returns `false` if the body has no such get, or if
-    /// the actor is a queued or done job.
+    /// Returns `true` if the actor has yet to get the job that it submits at position `submit` of
+    /// its body. Returns `false` if the body has no such get, if the actor has passed it, or if the
+    /// actor is a queued or done job.
     pub(crate) fn is_to_get(&self, actor: Parent, submit: usize) -> bool {
         let Some((position, _)) = self.point(actor) else {
             return false;
@@ -200,7 +200,7 @@ impl<'a> Machine<'a> {
         }
     }
 
-    /// Returns `true` if the job has reached the end of its body.
+    /// Returns `true` if the job has ended or was rejected.
     pub(crate) fn is_done(&self, job: usize) -> bool {
         self.jobs
             .get(job)

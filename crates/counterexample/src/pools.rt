@@ -144,8 +144,8 @@ impl SearchPool {
         self.idle
     }
 
-    /// Returns the number of threads, but at least `core`, because the pool starts `core` threads
-    /// before it queues a job.
+    /// Returns the greater of the number of threads and `core`. A pool with fewer than `core`
+    /// threads starts a thread at each submit.
     pub(crate) fn threads_to_come(&self) -> u64 {
         self.threads.max(self.core)
     }

@@ -65,10 +65,9 @@ impl<'a> QueueLimits<'a> {
 }
 
 /// Returns the maximum number of jobs that a search puts into the pool's unbounded queue. This is
-/// the limit for submits by jobs. It is [`FOR_CLIENTS`], plus the greatest number of jobs that the
-/// running jobs of all pools can submit to this queue. To this number, each pool contributes its
-/// greatest number of threads, times the greatest number of submits to this queue in the body of
-/// one of its classes.
+/// the limit for submits by jobs. It is [`FOR_CLIENTS`], plus a number for each pool of the plan:
+/// the greatest number of threads of that pool, times the greatest number of submits to this queue
+/// that one of its jobs can make.
 pub(crate) fn most_queued(plan: &Plan, pool: usize) -> u64 {
     let mut jobs = FOR_CLIENTS;
     for (number, from) in plan.pools().iter().enumerate() {
@@ -78,8 +77,7 @@ pub(crate) fn most_queued(plan: &Plan, pool: usize) -> u64 {
     jobs
 }
 
-/// Returns the greatest number of submits to the pool `to` that the body of a class of the pool
-/// `from` has.
+/// Returns the greatest number of submits to the pool `to` that a job of the pool `from` can make.
 fn most_submits(plan: &Plan, from: usize, to: usize) -> u64 {
     let mut most = 0u64;
     for class in plan.classes() {

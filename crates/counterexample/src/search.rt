@@ -153,10 +153,9 @@ impl Search<'_> {
         self.reserved = 0;
     }
 
-    /// Performs the walks in fixed orders, until one of them finds a permanent violation. No walk
-    /// visits more than [`longest_walk`] states. Within this limit, the first walk may visit all
-    /// remaining states, and the other walks together may visit half of the states that then
-    /// remain.
+    /// Performs the walks in fixed orders, until one of them finds a permanent violation. The first
+    /// walk may visit all remaining states. The other walks together may visit half of the states
+    /// that then remain. But no walk visits more than [`longest_walk`] states.
     fn in_fixed_orders(&mut self) -> Result<Option<CandidateWitness>, AllocError> {
         let first = self.fixed_rules(0)?;
         if let Some(found) = self.walk_once(first, None)? {
@@ -346,8 +345,8 @@ fn longest_walk(plan: &Plan) -> usize {
 /// Shortens the script, and returns the result as a probable witness. The given script ends in
 /// `violation`. The shorter script ends in the same violation or in a refused submit.
 ///
-/// If idle threads must end before the jobs wait only for each other, the witness also has the
-/// events that end these threads.
+/// If jobs wait only for each other once idle threads have ended, the witness also has the events
+/// in which these threads end.
 fn answer_of(
     alloc: Global,
     plan: &Plan,

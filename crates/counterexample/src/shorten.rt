@@ -7,11 +7,11 @@ use job_bodies::Plan;
 use std::alloc::{AllocError, Global};
 use written_machine::Event;
 
-/// The number of events that may be replayed to shorten one script, in addition to
-/// [`WHOLE_REPLAYS`] replays of the whole script.
+/// The fixed part of the limit on replayed events. To shorten a script of `n` events, at most
+/// [`WHOLE_REPLAYS`] times `n`, plus `MAX_REPLAYED`, events are replayed.
 const MAX_REPLAYED: u64 = 6_000_000;
-/// The number of times that the whole script may be replayed, in addition to [`MAX_REPLAYED`]
-/// events. These replays allow a long script to be shortened too.
+/// The factor of the script's length in the limit on replayed events (see [`MAX_REPLAYED`]). It
+/// allows a long script to be shortened too.
 const WHOLE_REPLAYS: u64 = 24;
 /// The maximum number of rounds, each of which tries every kind of removal.
 const MAX_ROUNDS: usize = 8;

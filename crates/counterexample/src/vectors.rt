@@ -84,9 +84,11 @@ impl MissedVectors {
         Ok(())
     }
 
-    /// Tries the ranks in ascending order, and gives each rank to the pools that have enough
-    /// threads for it. Stops at the first rank that no pool gets, and then records the blocked
-    /// vectors of the pools without a rank.
+    /// Gives ranks to the pools: first 0, then 1, and so on. [`rank_pools`] decides which pools get
+    /// each rank. Stops at the first rank that no pool gets, and then records the blocked vectors
+    /// of the pools without a rank.
+    ///
+    /// [`rank_pools`]: MissedVectors::rank_pools
     fn check_blocked(&mut self, growing: &ResizedPlan) -> Result<(), AllocError> {
         let pools = growing.plan.pools().len();
         let mut ranks = vec![in self.alloc; None; pools]?;
@@ -158,9 +160,11 @@ impl MissedVectors {
         Ok(moved)
     }
 
-    /// Gives `rank` to each pool that has no rank and whose lightest vector of kind `kind` shows
-    /// that the pool has enough threads. For each other pool without a rank, records its lightest
-    /// vector of this kind, if there is one. Returns whether any pool got the rank.
+    /// Gives `rank` to each pool that has no rank and has enough threads (see [`rank_pools`]).
+    /// `kind` is the kind of the blocked vectors for this rank. Records the lightest vector of each
+    /// other pool without a rank, if there is one. Returns whether any pool got the rank.
+    ///
+    /// [`rank_pools`]: MissedVectors::rank_pools
     fn rank_with(
         &mut self,
         growing: &ResizedPlan,
