@@ -77,9 +77,9 @@ impl Levels {
         Ok(())
     }
 
-    /// Returns the length of a prefix of the class's body. The prefix ends before the first submit
-    /// of a class at `level` or above. If there is no such submit, the prefix is the whole body.
-    /// The first `known` actions are known to be in this prefix, and are not checked again.
+    /// Returns the length of the longest prefix of the class's body that submits only classes with
+    /// a level below `level`. The first `known` actions are known to be in this prefix, and are not
+    /// checked again.
     fn known_actions(&self, class: &Class, level: u64, known: usize) -> usize {
         let mut known = known;
         for action in class.body.iter().skip(known) {
@@ -91,7 +91,7 @@ impl Levels {
         known
     }
 
-    /// Returns `false` if the action submits a class at `level` or above, and `true` otherwise.
+    /// Returns `true` if the action submits a class with a level below `level`, or is not a submit.
     fn is_below(&self, action: Action, level: u64) -> bool {
         match action {
             Action::Submit(class) => number_at(&self.of_classes, class) < level,

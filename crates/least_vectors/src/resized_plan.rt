@@ -24,10 +24,9 @@ use weights::Vector;
 pub struct VectorSummary {
     /// For each pool, the weight of one of its workers.
     pub workers: Vec<u64>,
-    /// The pools whose workers had weight at some point in the search. A second search, with other
-    /// maximums, gives the same result under two conditions: each of these pools has the same
-    /// maximum in both searches, and no pool has a smaller maximum in the second search than in
-    /// this one.
+    /// The pools whose workers had weight at some point in the search. A second search gives the
+    /// same result if only the maximums of other pools differ, and none of them is smaller than in
+    /// the first search.
     pub lenders: Vec<usize>,
     /// The total of the vector: the weight of all clients at the start of their bodies, plus the
     /// weight of all workers if each pool has its maximum of workers.

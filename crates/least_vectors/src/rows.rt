@@ -47,7 +47,7 @@ pub(crate) fn vector_of(
 }
 
 /// Returns the weights of a job of class `number`: when it is queued, at each position of its body,
-/// and when it is done. The weights are computed from the end of the body to its start.
+/// and when it is done. `worker` is the weight of a worker of the pool of this class.
 fn class_row(
     alloc: Global,
     target: &Target,

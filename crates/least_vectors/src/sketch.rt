@@ -24,9 +24,10 @@ pub(crate) struct Sketch {
     pub(crate) done: Vec<u64>,
     /// The weight of a client of each kind at the start of its body.
     pub(crate) starts: Vec<u64>,
-    /// For each pool, the largest weight that a job of the pool has at any position of its body, if
-    /// it weighs as little as possible when it is done. Classes that are never submitted are
-    /// ignored. If the workers of the pool weigh 0, the search tries this weight for them.
+    /// For each pool, the largest weight that a job of the pool has at any position of its body.
+    /// This assumes that the job weighs as little as possible when it is done. Classes that are
+    /// never submitted are ignored. If the workers of the pool weigh 0, the search tries this
+    /// weight for them.
     pub(crate) peaks: Vec<u64>,
     /// The total weight of all workers, if each pool has its maximum of workers.
     pub(crate) on_loan: u64,
@@ -127,6 +128,7 @@ impl Sketch {
     }
 
     /// Returns the weight of an actor before the action, given its weight after the action.
+    /// `actions` is the body that contains the action.
     pub(crate) fn before(
         &self,
         target: &Target,
