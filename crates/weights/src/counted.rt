@@ -4,8 +4,8 @@
 ghost use Rattle.std.specs.Prelude.{◌≡◌, ℕ, Bool};
 
 /// A rule that decides which gets are counted, such as [`RanksOf`](crate::RanksOf). A counted get
-/// can block a thread that other jobs need. If a get waits for a job that always makes progress,
-/// the get does not have to be counted.
+/// can block a thread that other jobs need. A get need not be counted if its job depends only on
+/// pools of lower ranks.
 ///
 /// In the blocked vector of a pool, a job of the pool weighs at least 1 at each counted get. So the
 /// vector bounds the number of the pool's jobs that wait at counted gets.

@@ -42,7 +42,7 @@ impl Ranks {
     }
 }
 
-/// A plan, and ranks that have the shape of this plan. The ranks decide which gets of the plan are
+/// A plan, and ranks that fit it (see [`Ranks::fits`]). The ranks decide which gets of the plan are
 /// counted.
 #[derive(Clone, Copy)]
 pub struct RanksOf<'a> {
@@ -52,7 +52,7 @@ pub struct RanksOf<'a> {
 }
 
 impl<'a> RanksOf<'a> {
-    /// Creates the pair of a plan and its ranks, which must have the shape of the plan.
+    /// Creates the pair of a plan and its ranks, which must fit the plan.
     pub fn new(plan: &'a Plan, ranks: &'a Ranks) -> RanksOf<'a>
         requires { IsTrue (spec.ranks_fit plan.now ranks.now) }
         ensures plan { result.plan.now ≡ plan.now }

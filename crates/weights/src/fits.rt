@@ -16,7 +16,7 @@ pub fn are_small(numbers: &[u64]) -> bool
     numbers.iter().all(|number| *number <= MAX_WEIGHT)
 }
 
-/// Returns whether each number of each row is at most [`MAX_WEIGHT`].
+/// Returns whether each number of each list in `rows` is at most [`MAX_WEIGHT`].
 #[tactic(auto, using(crate::proofs::Loops::images_turn))]
 fn are_small_rows(rows: &[Vec<u64>]) -> bool
     ensures { result ≡ list_all (list_all spec.is_small) (map (λ row. row.items) rows.now) }

@@ -21,13 +21,14 @@ pub enum Rule {
     /// The weight of an actor before a submit is at least its weight afterwards plus the weight of
     /// the queued job.
     V3,
-    /// A job at its first position weighs at most as much as the queued job plus a worker of its
-    /// pool.
+    /// The weight of a job at its first position is at most its weight in the queue plus the weight
+    /// of a worker of its pool.
     V4,
     /// A get increases the weight of the actor that performs it by at most the weight of the done
     /// job.
     V5,
-    /// A job at its end weighs at least as much as the done job plus a worker of its pool.
+    /// The weight of a job at the end of its body is at least its weight when it is done plus the
+    /// weight of a worker of its pool.
     V6,
     /// A client that repeats weighs at least as much at its end as at its start.
     V7,

@@ -16,8 +16,8 @@ use crate::body::{Body, BodyOwner, visit_body_rows};
 use crate::{GetReturn, Place, Row, RowVisitor, Rule, Vector};
 use job_bodies::{Class, Client, Plan};
 
-/// Returns condition V4 for the class at index `number`. V4 requires that a job at its first
-/// position weighs at most as much as the queued job plus a worker of its pool.
+/// Returns condition V4 for the class at index `number`. V4 requires that the weight of a job at
+/// its first position is at most its weight in the queue plus the weight of a worker of its pool.
 fn take_row(plan: &Plan, vector: &Vector, number: usize, class: &Class) -> Row
     requires fits { IsTrue (spec.vector_fits plan.now vector.now) }
     requires well_formed { IsWellFormed plan.now }
@@ -36,8 +36,9 @@ fn take_row(plan: &Plan, vector: &Vector, number: usize, class: &Class) -> Row
     )
 }
 
-/// Returns condition V6 for the class at index `number`. V6 requires that a job at its end weighs
-/// at least as much as the done job plus a worker of its pool.
+/// Returns condition V6 for the class at index `number`. V6 requires that the weight of a job at
+/// the end of its body is at least its weight when it is done plus the weight of a worker of its
+/// pool.
 fn end_row(plan: &Plan, vector: &Vector, number: usize, class: &Class) -> Row
     requires fits { IsTrue (spec.vector_fits plan.now vector.now) }
     requires well_formed { IsWellFormed plan.now }

@@ -15,7 +15,8 @@ use std::marker::Model;
 /// [`MAX_WEIGHT`](job_bodies::MAX_WEIGHT).
 #[derive(Debug, Drop)]
 pub struct Vector {
-    /// The weight of one worker of each pool.
+    /// The weight of one worker of each pool. A pool has as many workers as its maximum. A worker
+    /// has this weight while it runs no job, whether its thread has started or not.
     pub workers: Vec<u64>,
     /// The weights of a job of each class: when it is queued, at each position of its body from 0
     /// to the length of the body, and when it is done.
