@@ -44,7 +44,7 @@ looks_like_a_size plan units = nat_le 50 units && is_a_size plan units
 
 -- ---- submits to pools that may reject jobs
 
--- the pool's queue is unbounded, or the maximum number of jobs in it at once is known and at most its capacity
+-- the pool's queue is unbounded, or a bound on the number of jobs in it at once is known and at most its capacity
 abbrev pub holds_all : Pool → Option ℕ → Bool
 holds_all pool None = pool.unbounded
 holds_all pool (Some most) = pool.unbounded || nat_le most pool.queue
@@ -172,7 +172,7 @@ abbrev pub lints_of_parts : Plan → List (Option ℕ) → List Bool → List Li
 lints_of_parts plan needed marks = lints_of_pools plan needed marks ++ lints_of_classes plan needed marks ++ lints_of_clients plan needed
 
 -- the lints of a plan: one of the whole plan if such a lint applies, and otherwise those of its parts. `needed` has, for each
--- pool, the maximum number of jobs in its queue at once, if known. `marks` has, for each class, whether it is submitted
+-- pool, a bound on the number of jobs in its queue at once, if one is known. `marks` has, for each class, whether it is submitted
 abbrev pub lints : Plan → List (Option ℕ) → List Bool → List Lint
 lints plan needed marks =
     if length plan.clients == 0 then without_clients plan ∷ [] else

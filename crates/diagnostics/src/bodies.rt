@@ -52,8 +52,8 @@ impl CheckedAction<'_> {
         self.report_with_range(collector, number, words, None)
     }
 
-    /// Reports a fault of this action. If the fault is a number that is out of range, `range` is
-    /// the valid range.
+    /// Reports a fault of this action. `number` is the number of the fault, and `words` is its
+    /// message. `range` is the valid range if the action has a number that is out of range.
     fn report_with_range(
         &self,
         collector: &mut FaultCollector,

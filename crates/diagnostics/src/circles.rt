@@ -7,8 +7,8 @@ use std::alloc::{AllocError, Global};
 /// possibly through other classes, back to the same class.
 #[derive(Drop)]
 struct CircleSearch {
-    /// For each class, the class in whose body the search first found a submit of this class, or
-    /// `None` if the search has found no such submit.
+    /// For each class C, the class in whose body the search first found a submit of C, or `None` if
+    /// the search has found no submit of C.
     submitters: Vec<Option<usize>>,
     /// The classes that were found, in the order in which they were found.
     found: Vec<usize>,

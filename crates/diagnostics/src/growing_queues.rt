@@ -85,7 +85,8 @@ fn push_client(
 }
 
 /// Appends a lint for each submit in the body that meets two conditions: the pool of the submitted
-/// job has an unbounded queue, and the body has no get of this job.
+/// job has an unbounded queue, and the body has no get of this job. `part` and `number` are the
+/// kind and the number of the entry with this body.
 fn push_body(
     found: &mut Vec<Lint>,
     plan: &Plan,

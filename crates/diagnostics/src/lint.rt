@@ -33,19 +33,18 @@ pub enum Lint {
     NothingSubmitted,
     /// No job is ever submitted to this pool.
     PoolWithoutJobs(usize),
-    /// The maximum of this pool is above its core size, but has no effect. The reason is that its
-    /// core threads never time out, and that the capacity of its queue is at least the maximum
-    /// number of jobs in the queue at once.
+    /// The maximum of this pool is above its core size, but has no effect: its core threads never
+    /// time out, and no submit finds its queue full.
     UselessMax(usize),
-    /// The plan says that this pool may reject jobs, but the pool never does. The reason is that
-    /// the capacity of its queue is at least the maximum number of jobs in the queue at once. The
-    /// second field is this maximum number.
+    /// The plan says that this pool may reject jobs, but the pool never does, because no submit
+    /// finds its queue full. The second field is a bound on the number of jobs in the queue at
+    /// once.
     UselessMayReject(usize, u64),
     /// The plan says that this pool may reject jobs, but the pool never does, because its queue is
     /// unbounded.
     NeverRejects(usize),
-    /// The capacity of this pool's queue is more than ten times the maximum number of jobs in the
-    /// queue at once. The second field is this maximum number.
+    /// The capacity of this pool's queue is more than ten times the second field, which is a bound
+    /// on the number of jobs in the queue at once.
     QueueFarAbove(usize, u64),
     /// No client submits this class, directly or through other jobs.
     ClassWithoutJobs(usize),

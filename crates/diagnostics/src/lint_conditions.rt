@@ -32,8 +32,8 @@ pub(crate) fn is_any_submitted(marks: &[bool]) -> bool
     marks.iter().any(|mark| *mark)
 }
 
-/// Returns the maximum number of jobs in the queue of this pool at once. `needed` has this number
-/// for each pool. Returns `None` if the number is not known, or if there is no such pool.
+/// Returns the bound on the number of jobs in the queue of this pool at once. `needed` has this
+/// bound for each pool. Returns `None` if no bound is known, or if there is no such pool.
 pub(crate) fn most_at(needed: &[Option<u64>], pool: usize) -> Option<u64>
     ensures { result ≡ slice_index_or needed.now pool None }
 {
@@ -73,15 +73,15 @@ pub(crate) fn grows_if_full(pool: &Pool) -> bool
 
 /// Returns whether the pool's maximum is above its core size, but has no effect: the pool starts
 /// threads above its core size only if its queue is full (see [`grows_if_full`]), and the queue can
-/// hold `most` jobs. `most` is the maximum number of jobs in the queue at once.
+/// hold `most` jobs. `most` is a bound on the number of jobs in the queue at once.
 pub(crate) fn has_useless_max(pool: &Pool, most: u64) -> bool
     ensures { result ≡ spec.has_useless_max pool.now most }
 {
     grows_if_full(pool) && most <= pool.queue
 }
 
-/// Returns whether the plan allows the pool to reject jobs, although the pool's queue can hold
-/// `most` jobs. `most` is the maximum number of jobs in the queue at once.
+/// Returns whether the plan allows the pool to reject jobs, but the pool never does, because its
+/// queue can hold `most` jobs. `most` is a bound on the number of jobs in the queue at once.
 pub(crate) fn never_rejects(pool: &Pool, most: u64) -> bool
     ensures { result ≡ spec.never_rejects pool.now most }
 {
@@ -89,8 +89,8 @@ pub(crate) fn never_rejects(pool: &Pool, most: u64) -> bool
 }
 
 /// Returns whether the capacity of the queue is far above `most`. This means that a tenth of the
-/// capacity, rounded down, exceeds both `most` and 1. `most` is the maximum number of jobs in the
-/// queue at once.
+/// capacity, rounded down, exceeds both `most` and 1. `most` is a bound on the number of jobs in
+/// the queue at once.
 pub(crate) fn is_far_above(pool: &Pool, most: u64) -> bool
     ensures { result ≡ spec.is_far_above pool.now most }
 {
@@ -98,8 +98,8 @@ pub(crate) fn is_far_above(pool: &Pool, most: u64) -> bool
 }
 
 /// Returns true if the pool of the class may reject the class's jobs and the body of the class has
-/// submits or gets. `needed` has, for each pool, the maximum number of jobs in its queue at once,
-/// or `None` if this number is not known.
+/// submits or gets. `needed` has, for each pool, a bound on the number of jobs in its queue at
+/// once, or `None` if no bound is known.
 pub(crate) fn may_run_in_caller(plan: &Plan, needed: &[Option<u64>], class: &Class) -> bool
     ensures { result ≡ spec.may_run_in_caller plan.now needed.now class.now }
 {
@@ -123,8 +123,8 @@ fn is_work(action: Action) -> bool
 /// - A future is open at the position (see [`has_open_future`]).
 /// - The pool of the class may reject the job (see [`may_reject_jobs`]).
 ///
-/// `needed` has, for each pool, the maximum number of jobs in its queue at once, or `None` if this
-/// number is not known.
+/// `needed` has, for each pool, a bound on the number of jobs in its queue at once, or `None` if no
+/// bound is known.
 pub(crate) fn leaves_a_future(
     plan: &Plan,
     needed: &[Option<u64>],
@@ -139,7 +139,7 @@ pub(crate) fn leaves_a_future(
 
 /// Returns whether the pool with this number may reject jobs: the plan allows the pool to reject
 /// jobs, and the queue may be too small for all jobs (see [`holds_all`]). `needed` has, for each
-/// pool, the maximum number of jobs in its queue at once, or `None` if this number is not known.
+/// pool, a bound on the number of jobs in its queue at once, or `None` if no bound is known.
 /// Returns `false` if there is no such pool.
 fn may_reject_jobs(plan: &Plan, needed: &[Option<u64>], number: usize) -> bool
     ensures { result ≡ spec.may_reject_jobs plan.now needed.now number }
@@ -151,8 +151,8 @@ fn may_reject_jobs(plan: &Plan, needed: &[Option<u64>], number: usize) -> bool
 }
 
 /// Returns whether the queue of the pool certainly has room for all jobs: either it is unbounded,
-/// or `most` is known, and the capacity of the queue is at least `most`. `most` is the maximum
-/// number of jobs in the queue at once, or `None` if this number is not known.
+/// or `most` is known, and the capacity of the queue is at least `most`. `most` is a bound on the
+/// number of jobs in the queue at once, or `None` if no bound is known.
 fn holds_all(pool: &Pool, most: Option<u64>) -> bool
     ensures { result ≡ spec.holds_all pool.now most }
 {
@@ -258,8 +258,8 @@ pub(crate) fn looks_like_a_size(plan: &Plan, units: u32) -> bool
     LIKE_A_SIZE <= units && is_a_size(plan, u64::from(units))
 }
 
-/// Returns `true` if some pool has a size that is this number (see [`has_size`]), or if some client
-/// kind has this count.
+/// Returns whether the number is a size of some pool (see [`has_size`]) or the count of some client
+/// kind.
 fn is_a_size(plan: &Plan, number: u64) -> bool
     ensures { result ≡ spec.is_a_size plan.now number }
 {

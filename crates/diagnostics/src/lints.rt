@@ -1,4 +1,10 @@
-//! The lints of a plan, in order.
+//! The lints of a plan, in order. These parameters have the same meaning in all functions:
+//!
+//! - `needed` has, for each pool, a bound on the number of jobs in its queue at once, or `None` if
+//!   no bound is known.
+//! - `marks` has, for each class, whether clients submit it, directly or through other jobs.
+//! - `number` is the number of a pool, class or client kind. In functions for a body, `part` says
+//!   whether the body belongs to a class or to a client kind.
 
 ghost use Rattle.std.specs.Prelude.{◌≡◌, ◌++◌, IfOk, OnOk};
 ghost use Rattle.diagnostics.specs.Lints as spec;
@@ -15,8 +21,8 @@ use std::alloc::{AllocError, Global};
 
 /// Returns the lints of the plan: the parts of the plan that are probably mistakes.
 ///
-/// - `needed` has, for each pool, the maximum number of jobs in its queue at once, or `None` if
-///   this number is not known.
+/// - `needed` has, for each pool, a bound on the number of jobs in its queue at once, or `None` if
+///   no bound is known.
 /// - `is_safe_at_core` says whether a certificate accepts the plan that [`at_core`](crate::at_core)
 ///   returns, which has lowered maximums.
 pub(crate) fn lints_of(
@@ -200,7 +206,8 @@ fn push_pool(
 }
 
 /// Appends the lints of the pool's sizes and of its key `may_reject`. If the queue of the pool is
-/// unbounded, the only possible lint is that `may_reject` has no effect.
+/// unbounded, the only possible lint is that `may_reject` has no effect. `most` is a bound on the
+/// number of jobs in the queue at once, or `None` if no bound is known.
 fn push_sizes(
     found: &mut Vec<Lint>,
     number: usize,
@@ -217,7 +224,7 @@ fn push_sizes(
     }
 }
 
-/// Appends the lints of a pool with a bounded queue, if `most` is known. `most` is the maximum
+/// Appends the lints of a pool with a bounded queue, if `most` is known. `most` is a bound on the
 /// number of jobs in the queue at once. The lints are
 ///
 /// - that the pool's maximum has no effect,
@@ -336,6 +343,8 @@ fn push_client(
 /// - one for each `work` with a length that looks like a size (see [`looks_like_a_size`]), and
 /// - one for each submit whose job may be rejected while a future is open (see
 ///   [`leaves_a_future`]).
+///
+/// `part` and `number` are the kind and the number of the entry with this body.
 fn push_body(
     found: &mut Vec<Lint>,
     plan: &Plan,

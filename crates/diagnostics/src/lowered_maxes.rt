@@ -36,8 +36,8 @@ fn some_grows_and_rejects(plan: &Plan) -> bool
     plan.pools().iter().any(|pool| grows_and_rejects(pool))
 }
 
-/// Returns true if the pool may reject jobs and starts threads above its core size only if its
-/// queue is full.
+/// Returns true if the plan allows the pool to reject jobs, and the pool starts threads above its
+/// core size when its queue is full, and only then.
 fn grows_and_rejects(pool: &Pool) -> bool
     ensures { result ≡ spec.grows_and_rejects pool.now }
 {

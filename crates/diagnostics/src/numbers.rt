@@ -11,9 +11,9 @@ use support::number::BAD_NUMBER;
 /// The largest valid size and count.
 const MOST: i64 = MAX_SIZE as i64;
 
-/// Returns the least valid number for the key, whatever the core size is. The number is 0 for the
-/// queue of a pool that may reject jobs, because such a queue can be a `SynchronousQueue`.
-/// Otherwise it is 1.
+/// Returns the least valid number for the key, except that a maximum must also be at least the core
+/// size. The result is 0 for the queue of a pool that may reject jobs, because such a queue can be
+/// a `SynchronousQueue`. Otherwise it is 1.
 fn least(entry: &PlacedEntry<'_>, key: &str) -> u64 {
     if key == "queue" && entry.is_set("may_reject") {
         0
@@ -85,7 +85,8 @@ fn has_no_limit(pool: &PlacedEntry<'_>) -> bool {
     }
 }
 
-/// Returns the low end of the valid range for the key. For a maximum, this is the core size.
+/// Returns the low end of the valid range for the key. For a maximum, this is the core size, or 1
+/// if the pool has no valid core size.
 fn low_end(entry: &PlacedEntry<'_>, key: &str) -> u64 {
     if key == "max" {
         least_max(entry)

@@ -90,7 +90,7 @@ fn in_single_line(
 }
 
 /// Returns the faults that the checks find in the plan. If the text is not valid UTF-8, or is not
-/// TOML, the result has only this fault.
+/// TOML, the result has only this fault. `wanted` is the fault that the plan parser reports.
 fn all_faults(
     alloc: Global,
     bytes: &[u8],

@@ -253,7 +253,8 @@ fn body(
     Ok(())
 }
 
-/// Reports an element of a body that is not a string. `found` is the type of the element.
+/// Reports an element of a body that is not a string. `number` is the index of the element, and
+/// `found` is its type.
 fn wrong_element(
     collector: &mut FaultCollector,
     entry: &PlacedEntry<'_>,

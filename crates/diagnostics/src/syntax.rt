@@ -92,9 +92,9 @@ fn with_hint(alloc: Global, hint: &str, words: &str) -> Result<String, AllocErro
     format!(in alloc; "{hint} ({words})")
 }
 
-/// Returns a hint for an error in this line, or `None`. `number` is the number of the line. If it
-/// is line 1, and shows that the text is not a plan, the hint says what kind of text it is.
-/// Otherwise the hint is the result of [`character_hint`].
+/// Returns a hint for an error in this line, or `None`. `number` is the number of the line. If the
+/// line is the first one and shows that the text is not a plan, the hint says what the text is
+/// instead. Otherwise the hint is the result of [`character_hint`].
 fn format_hint(line: &str, number: usize) -> Option<&'static str> {
     if number == 1
         && let Some(hint) = kind_hint(line)
@@ -105,7 +105,8 @@ fn format_hint(line: &str, number: usize) -> Option<&'static str> {
 }
 
 /// Returns a hint for an error in a list, in an entry's header, in a value, or after a value.
-/// Returns `None` if the mistake is not a known one.
+/// Returns `None` if the mistake is not a known one. The error is at byte `offset`. `place` is the
+/// line and column of this byte, and `line` is the text of this line.
 fn value_hint_at(text: &str, offset: usize, place: TextPlace, line: &str) -> Option<&'static str> {
     let rest = after_column(line, place.column);
     if is_in_list(text, offset, place) {

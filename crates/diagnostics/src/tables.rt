@@ -309,7 +309,7 @@ fn has_length(document: &Table, part: Part, length: usize) -> bool {
     }
 }
 
-/// Reports the class's pool if the plan has no pool of this name.
+/// Reports the class if its pool does not exist. `pools` has the names of the plan's pools.
 fn pool_of(
     collector: &mut FaultCollector,
     class: &PlacedEntry<'_>,

@@ -59,8 +59,9 @@ fn is_key(key: &str) -> bool {
             .all(|byte| byte.is_ascii_alphanumeric() || byte == b'_')
 }
 
-/// Returns the list that is open after this line, if there is one. `open` is the list that is open
-/// before this line. A new list can begin only after an equals sign that is not in a comment.
+/// Returns the list that is open after this line, if there is one. `number` is the number of the
+/// line, and `open` is the list that is open before it. A new list can begin only after an equals
+/// sign that is not in a comment.
 fn after_line(open: OpenList, number: usize, line: &str) -> OpenList {
     if open.depth > 0 {
         return OpenList {

@@ -32,8 +32,8 @@ pub struct Warning {
 /// probably a mistake.
 ///
 /// - `text` is the plan's text.
-/// - `needed` has, for each pool, the maximum number of jobs in its queue at once, or `None` if
-///   this number is not known.
+/// - `needed` has, for each pool, a bound on the number of jobs in its queue at once, or `None` if
+///   no bound is known.
 /// - `is_safe_at_core` says whether a certificate accepts the plan that [`at_core`] returns.
 ///
 /// Each message is a single line. If the message about a class that submits itself lists submits,
