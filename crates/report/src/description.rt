@@ -142,12 +142,9 @@ fn has_timeouts(plan: &Plan) -> bool
 /// Returns the words that say why a pool with fewer threads than its maximum starts no thread.
 /// `timeouts` says whether core threads of some pool may time out.
 ///
-/// - If core threads never time out, the words say that the pool never starts a thread above its
-///   core size.
-/// - If core threads may time out, the words say that the pool has at least as many threads as its
-///   core size, and that its queue is never full. A pool with fewer threads than its core size can
-///   start one for a job. A pool can also start a thread in place of one that timed out, even if it
-///   then has more threads than its core size.
+/// - If not, the words say that the pool never starts a thread above its core size.
+/// - If so, the words say that the pool has at least as many threads as its core size, and that its
+///   queue is never full.
 #[tactic(auto, unfolding(crate::specs::Description::at_core_words))]
 fn at_core_words(timeouts: bool) -> &'static str
     ensures { result.now ≡ spec.at_core_words timeouts }
@@ -159,10 +156,9 @@ fn at_core_words(timeouts: bool) -> &'static str
     }
 }
 
-/// Returns the words for a thread whose start may end the wait of the jobs that wait only for each
-/// other. `timeouts` says whether core threads of some pool may time out. If so, the start of any
-/// thread may end the wait, and the words are `another thread`. Otherwise the words are `a thread
-/// above core`.
+/// Returns the words for a new thread that may end the wait of jobs that wait only for each other.
+/// The words are `another thread` if `timeouts` says that core threads of some pool may time out,
+/// and otherwise `a thread above core`.
 fn started_words(timeouts: bool) -> &'static str
     ensures { result.now ≡ spec.started_words timeouts }
 {

@@ -75,7 +75,7 @@ pub(crate) fn perform_all(
 }
 
 /// Performs the events and appends what each event did. Stops before the first event that is not
-/// possible.
+/// possible. `kinds` has the client kind of each client.
 fn push_steps(
     steps: &mut Vec<EventStep>,
     plan: &Plan,
@@ -100,7 +100,7 @@ fn push_steps(
 }
 
 /// Performs the event and returns what it did. Changes nothing and returns `None` if the event is
-/// not possible.
+/// not possible. `kinds` has the client kind of each client.
 fn perform(
     plan: &Plan,
     kinds: &Clients,

@@ -8,9 +8,9 @@ use size_search::SizesFound;
 /// A finding about a plan with its declared sizes.
 #[derive(Drop)]
 pub enum PlanFinding {
-    /// A certificate accepts the plan. The first field is this certificate. The second field has an
-    /// element for each pool: the number of events after which the pool rejects a job. The element
-    /// is `None` if no rejection was found. Elements at the end can be missing.
+    /// A certificate accepts the plan. The first field is this certificate. The second field has,
+    /// for each pool, the number of events after which the pool rejects a job, or `None` if no
+    /// rejection was found. Missing elements at the end count as `None`.
     Safe(Cert, Vec<Option<u64>>),
     /// A counterexample shows that the plan is not safe. The fields are this counterexample and the
     /// result of the search for other sizes.

@@ -24,7 +24,7 @@ use weights::{Bound, Vector};
 ///
 /// - there is no bound,
 /// - the vector of the bound does not fit the plan, or
-/// - the queue has an unlimited capacity, and the total does not limit the jobs in the queue.
+/// - the queue is unbounded, and the total does not limit the jobs (see [`bounds_jobs`]).
 pub(crate) fn bound_value(
     alloc: Global,
     plan: &Plan,
@@ -142,8 +142,8 @@ fn push_share(
 ///
 /// - `most` is the maximum number of core threads that wait at counted gets at once. A counted get
 ///   can block a thread that other jobs need.
-/// - `left` is the number of threads that remain for other jobs: the least number of threads while
-///   a job is queued, minus `most`. It is never below 0.
+/// - `left` is the number of threads that remain for other jobs. It is the least number of threads
+///   that the pool has while a job is queued, minus `most`, and never below 0.
 ///
 /// The value is null if the vector `blocked`, whose total is `most`, does not fit the plan.
 #[tactic(auto, unfolding(crate::specs::JsonPools::waiting_data))]

@@ -138,9 +138,9 @@ fn push_wait(
     }
 }
 
-/// Appends a JSON object that says what a job waits for. The object has the number of the job, the
-/// name of its pool, and the numbers in `awaited`, which are those of the jobs for which this job
-/// waits. `place` is `queue` if the job waits in the pool's queue, and `get` if it waits at a get.
+/// Appends a JSON object that says what a job waits for. `number` is the number of this job, and
+/// `pool` is the name of its pool. `place` is `queue` if the job waits in the queue of this pool,
+/// and `get` if it waits at a get. `awaited` has the numbers of the jobs for which it waits.
 #[tactic(auto, using(std::proofs::lemmas::List::map_push), unfolding(crate::specs::JsonEnding::wait_data))]
 fn push_wait_for(
     values: &mut Vec<Value>,

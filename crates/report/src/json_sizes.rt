@@ -1,4 +1,5 @@
-//! Sizes that a certificate accepts, as JSON, or the reason why none were found.
+//! Sizes that a certificate accepts, as JSON, or the reason why none were found. `declared` is a
+//! pool of the plan, and `fit` is the same pool with the sizes that were found.
 
 ghost use Rattle.std.specs.Prelude.{◌≡◌, ◌++◌, IfOk, OnOk, map, option_map};
 ghost use Rattle.serde_json.specs.View.{view};

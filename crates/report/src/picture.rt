@@ -1,9 +1,11 @@
 //! The picture of a plan, as a Graphviz graph. A pool is a box with its sizes and classes. The
-//! sizes are the label of a node in the box, and not of the box itself, because some versions of
-//! Graphviz fail to route edges next to a box whose label is wider than its nodes. The clients are
-//! outside of the boxes. An arrow stands for submits of a class's jobs, and a dashed line stands
-//! for gets of its jobs. The dashed line is bold if at least one of these gets is counted. A
+//! sizes are the label of a node in the box. They are not the label of the box itself, because some
+//! versions of Graphviz fail to route edges next to a box with a wide label. The clients are
+//! outside of the boxes. An arrow represents submits of a class's jobs, and a dashed line
+//! represents gets of its jobs. The dashed line is bold if at least one of these gets is counted. A
 //! counted get can block a thread that other jobs need.
+//!
+//! The parameter `part` is the certificate's part for a pool, or `None` if there is no certificate.
 
 ghost use Rattle.std.specs.Prelude.{◌≡◌, IfOk, option_map, string_bytes};
 ghost use Rattle.support.specs.Pushed.{Pushes};

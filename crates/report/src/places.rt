@@ -18,8 +18,8 @@ use weights::{Bound, Vector};
 /// - the pool has a lifetime vector or no vector,
 /// - the vector does not fit the plan,
 /// - the queue is unbounded, and some queued job of the pool has no weight in the vector, or
-/// - the queue is unbounded, and the threads of a pool without a maximum have a weight in the
-///   vector.
+/// - the queue is unbounded, and the vector gives a weight to the threads of some pool without a
+///   maximum.
 ///
 /// # Errors
 ///
@@ -80,7 +80,7 @@ pub fn total_of(plan: &Plan, vector: &Vector) -> Option<u64>
 /// - The vector fits the plan.
 /// - The vector gives each job of the pool a weight of at least 1. A standing vector limits only
 ///   the queued jobs, so only queued jobs need this weight.
-/// - The vector gives no weight to the threads of a pool without a maximum.
+/// - The vector gives no weight to the threads of any pool without a maximum.
 pub(crate) fn bounds_jobs(plan: &Plan, pool: usize, bound: &Bound) -> bool
     ensures { result ≡ spec.bounds_jobs plan.now pool bound.now }
 {

@@ -40,8 +40,8 @@ pub(crate) fn push_safe(
 }
 
 /// Returns the words for what the certificate guarantees: no submit is refused, and no jobs wait
-/// for each other forever. If [`may_reject_jobs`] returns `true` for a pool, submits to this pool
-/// are an exception. The words then say that no submit to any other pool is refused.
+/// for each other forever. If some pool may reject jobs (see [`may_reject_jobs`]), the first part
+/// says only that no submit to another pool is refused.
 pub(crate) fn safe_words(plan: &Plan, cert: &Cert) -> &'static str
     ensures { result.now ≡ spec.safe_words plan.now cert.now }
 {
@@ -86,7 +86,8 @@ fn push_pools(
     Ok(())
 }
 
-/// Appends the lines of a pool. Appends nothing if the pool is not in the certificate.
+/// Appends the lines of a pool. Appends nothing if the pool is not in the certificate. `rejections`
+/// is as in [`push_safe`].
 fn push_pool(
     alloc: Global,
     text: &mut String,

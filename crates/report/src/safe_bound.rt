@@ -64,8 +64,9 @@ fn push_queue(
     }
 }
 
-/// Appends the capacity of the pool's queue and the text of [`push_no_bound`]. No bound of the
-/// certificate limits the jobs in this queue.
+/// Appends the capacity of the pool's queue and, in place of a bound, the text of
+/// [`push_no_bound`]. The caller has checked that no bound of the certificate limits the jobs in
+/// this queue.
 fn push_open_queue(
     alloc: Global,
     text: &mut String,
@@ -94,8 +95,8 @@ pub(crate) fn push_queue_size(text: &mut String, pool: &Pool) -> Result<(), Allo
     write!(text, "{queue}")
 }
 
-/// Appends the text that replaces the bound of a queue. No bound of the certificate limits the jobs
-/// in this queue.
+/// Appends the text that replaces the bound of a queue if no bound of the certificate limits the
+/// jobs in it.
 ///
 /// - If the capacity of the queue is unlimited, the text is the reason why there is no bound.
 /// - If the capacity is limited, the text says that the pool may reject jobs. It also says after

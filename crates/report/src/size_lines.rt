@@ -39,7 +39,8 @@ fn push_pool(text: &mut String, declared: &Pool, fit: &Pool) -> Result<(), Alloc
     text.push('\n')
 }
 
-/// Appends the maximum of a pool, unless it [has no effect](has_useless_max).
+/// Appends the maximum of the pool `fit`. If the pool `declared` has another maximum, appends this
+/// too, as in `, max 8 (now 4)`. Appends nothing if the maximum [has no effect](has_useless_max).
 fn push_max(text: &mut String, declared: &Pool, fit: &Pool) -> Result<(), AllocError>
     ensures { Pushes result text.old text.new (spec.max_part declared.now fit.now) }
 {

@@ -86,7 +86,8 @@ fn push_turns_from(
 
 /// Adds the step that follows `turn`, and returns the turn that ends with this step. If the step
 /// continues `turn`, the result is `turn` with the step at its end. Otherwise appends `turn` to
-/// `turns`, and returns a new turn that has only the step.
+/// `turns`, and returns a new turn that has only the step. `all` is the number of all steps of the
+/// story.
 fn after_step(
     turns: &mut Vec<Turn>,
     alloc: Global,

@@ -60,8 +60,8 @@ fn push_each(
     Ok(())
 }
 
-/// Appends a line that says what the job with this number waits for. Appends nothing if the job is
-/// not in `world`, or waits neither in a queue nor at a get of a job in `world`.
+/// Appends a line that says what the job with this number waits for, if the job is queued or at a
+/// get of a job in `world`. Otherwise appends nothing.
 fn push_wait(text: &mut String, plan: &Plan, world: &World, number: usize) -> Result<(), AllocError>
     ensures { Pushes result text.old text.new (seen.wait_seen plan.now world.now.view number) }
 {

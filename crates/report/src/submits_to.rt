@@ -1,4 +1,5 @@
-//! The lines that list the submits to a pool.
+//! The lines that list the submits to a pool. `kind` is `class` or `client`, and `name` is the name
+//! of the class or client kind whose body has the submit.
 
 ghost use Rattle.std.specs.Prelude.{◌≡◌, flat_map};
 ghost use Rattle.support.specs.Pushed.{Pushes};

@@ -17,7 +17,8 @@ use std::alloc::{AllocError, Global};
 
 /// Returns the text of the finding. The first line is the answer, and the other lines depend on it:
 ///
-/// - `SAFE`: the bound of each queue, and the shares that client kinds and pools have in the bound.
+/// - `SAFE`: for each pool, the bound of its queue and the pools for which its jobs wait. The last
+///   line says what the certificate guarantees.
 /// - `NOT SAFE`: the description of the counterexample, the result of the search for other sizes,
 ///   and advice.
 /// - `NOT DECIDED`: the result of the search for other sizes, advice, and a line that says what was
