@@ -21,9 +21,8 @@ pub(crate) struct Attempt {
     /// The sum of the amounts by which the needed cores, maximums and queues exceed the declared
     /// ones. The maximum of a pool with an unbounded queue does not count.
     pub(crate) cost: u64,
-    /// The largest number of candidates that a round had. The candidates of a round are the pools
-    /// whose core the round could raise. The number is 0 if no round raised a core. If the rounds
-    /// were repeated, only their first execution counts.
+    /// The largest number of pools among which a round could choose when it raised a core, or 0 if
+    /// no round raised a core. If the rounds were repeated, only their first execution counts.
     pub(crate) choices: usize,
 }
 

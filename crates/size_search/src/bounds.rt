@@ -16,6 +16,9 @@ use weights::Bound;
 ///   already large enough, or `None` if the search finds none.
 /// - For any other queue, returns the vector that requires the smallest increase of the queue. If
 ///   the search finds none, returns the pool as the obstacle.
+///
+/// `number` is the number of the pool. `pool_threads` has its current core and maximum, and `maxes`
+/// has the current maximum of each pool.
 pub(crate) fn bound_of(
     alloc: Global,
     cache: &mut VectorCache,

@@ -39,9 +39,9 @@ pub fn cause_of(alloc: Global, plan: &Plan) -> Result<Option<Cause>, AllocError>
     pool_circle(alloc, plan)
 }
 
-/// Returns `true` in two cases, in which there may be no sizes with which the plan's steady
-/// certificate (see [`steady`](crate::steady)) accepts the plan. The plan must have no cause (see
-/// [`cause_of`]). The two cases are these:
+/// Returns whether there may be no sizes with which the plan's [steady certificate](crate::steady)
+/// accepts the plan. The plan must have no cause (see [`cause_of`]). The result is `true` in two
+/// cases:
 ///
 /// - A repeating client submits a job, directly or through other jobs. The job is never got, and
 ///   its pool may reject jobs or has an unbounded queue.

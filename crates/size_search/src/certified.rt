@@ -71,13 +71,12 @@ fn pool_certs(
     Ok(pools)
 }
 
-/// Returns the blocked vector of a pool. `hit` names the pool and the place of the vector in the
-/// cache. The search found this vector in the round that gave the pool its rank. If there is no
-/// such vector, returns the pool as the obstacle.
+/// Returns the blocked vector that the search found for a pool in the round that gave the pool its
+/// rank. `hit` names the pool and the place of the vector in the cache. `maxes` and `reach` are
+/// those after the last round. If there is no such vector, returns the pool as the obstacle.
 ///
-/// The vector remains valid after that round: every other pool that had no rank before that round
-/// gets the same rank or a higher one. So the same gets are [counted](weights::Counted) as in that
-/// round.
+/// Later rounds give only higher ranks. So the same gets stay [counted](weights::Counted), and the
+/// vector stays valid.
 fn blocked_of(
     alloc: Global,
     cache: &VectorCache,

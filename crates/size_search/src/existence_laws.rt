@@ -26,8 +26,8 @@ pub fn no_sizes_help()
 /// - Each weight of the plan's steady certificate (see [`steady`](crate::steady)) is at most
 ///   `MAX_WEIGHT`.
 /// - The total of this certificate's vector is below `MAX_SIZE`.
-/// - If a repeating client submits a job to a pool that needs no bound, directly or through other
-///   jobs, the job is got. A pool needs no bound if it may reject jobs or its queue is unbounded.
+/// - No repeating client submits, directly or through other jobs, a job that is never got and whose
+///   pool needs no bound. A pool needs no bound if it may reject jobs or its queue is unbounded.
 /// - If a class has a get and the core threads of its pool may time out, clients submit this class,
 ///   directly or through other jobs.
 pub fn sizes_exist()

@@ -256,8 +256,9 @@ fn fit_error(
 }
 
 /// Returns the plan with the least cores and queues that make the certificate accept the plan. A
-/// core or a queue is only raised, never made smaller. Larger maximums would not allow smaller
-/// cores. If there are no such cores and queues, the inner error has the given plan and the reason.
+/// core or a queue is only raised, never made smaller. Even with larger maximums, no smaller cores
+/// would be enough. If there are no such cores and queues, the inner error has the given plan and
+/// the reason.
 ///
 /// These sizes stay unchanged:
 ///

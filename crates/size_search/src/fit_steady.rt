@@ -83,8 +83,8 @@ fn too_large(plan: &Plan, obstacle: Obstacle) -> SizesFound
     SizesFound::NotFound(NoSizes::TooLarge(obstacle.pool(plan)))
 }
 
-/// Returns the plan with the least sizes with which `cert`, its steady certificate, accepts it.
-/// Returns `None` if the total of the certificate's vector is at least `MAX_SIZE`.
+/// Returns the plan with the least sizes that its steady certificate, `cert`, needs. Returns `None`
+/// only if the total of the certificate's vector is at least `MAX_SIZE`.
 fn least_steady_sizes(alloc: Global, plan: &Plan, cert: &Cert) -> Result<Option<Plan>, AllocError>
     requires steady_plan { IsSteady plan.now }
     requires well_formed { IsWellFormed plan.now }

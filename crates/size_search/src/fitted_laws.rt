@@ -50,10 +50,10 @@ pub fn smallest_fit_is_least()
     ensures { SmallestFitIsLeast }
 {}
 
-/// States that no maximum of the widened plan is larger than necessary. In the widened plan, each
-/// maximum that is smaller than the core that the certificate needs is raised to this core. The
-/// needed cores are computed with the plan's own maximums. The maximum of a pool whose core threads
-/// may time out stays unchanged.
+/// States that no maximum of the widened plan is larger than necessary. In the widened plan, a
+/// maximum below the core that the certificate needs is raised to this core. The needed cores are
+/// computed with the plan's own maximums. The maximum of a pool whose core threads may time out
+/// stays unchanged.
 ///
 /// Let the certificate accept the plan with other sizes, whose maximums are no smaller than the
 /// plan's. Then these other sizes satisfy two conditions:
@@ -65,11 +65,11 @@ pub fn widened_maxes_are_least()
     ensures { WidenedMaxesAreLeast }
 {}
 
-/// States that the maximum of a pool is too small if a plan cannot be fitted to a certificate
-/// because of this pool's core.
+/// States what it means if a plan cannot be fitted to a certificate because of a pool's core: the
+/// maximum of this pool is too small.
 ///
-/// Let the certificate accept the plan with other sizes, whose maximums are no smaller than the
-/// plan's. Then these other sizes have a larger maximum of this pool than the plan.
+/// Let the certificate accept the plan with other sizes, and let none of the other maximums be
+/// smaller than the plan's. Then the other maximum of this pool is larger than the plan's.
 pub fn reported_cores_need_larger_maxes()
     ensures { ReportedCoresNeedLargerMaxes }
 {}

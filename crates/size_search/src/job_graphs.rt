@@ -96,7 +96,7 @@ fn class_waits(alloc: Global, plan: &Plan, number: usize) -> Result<Vec<usize>, 
     Ok(nodes)
 }
 
-/// Returns the classes of the jobs that the pool's marked classes get. `marks` says for each class
+/// Returns the classes whose jobs the pool's marked classes get. `marks` says for each class
 /// whether it is marked.
 fn marked_gets(
     alloc: Global,
@@ -119,8 +119,8 @@ fn marked_gets(
 }
 
 /// Returns the successors of a pool in the graph of waits. If core threads of the pool may time
-/// out, the successors are the classes of the jobs that the pool's marked classes get. Otherwise
-/// there are no successors. `marks` says for each class whether it is marked.
+/// out, the successors are the classes whose jobs the pool's marked classes get. Otherwise there
+/// are no successors. `marks` says for each class whether it is marked.
 fn pool_waits(
     alloc: Global,
     plan: &Plan,
@@ -170,9 +170,9 @@ fn push_pools(
 /// Returns the graph of waits, which shows what a job can wait for. `marks` says for each class
 /// whether it is marked. The nodes of the graph are the classes and then the pools:
 ///
-/// - The successors of a class are its pool and the classes of the jobs that it gets.
-/// - If core threads of a pool may time out, the successors of the pool are the classes of the jobs
-///   that the pool's marked classes get. Any other pool has no successors.
+/// - The successors of a class are its pool and the classes whose jobs it gets.
+/// - If core threads of a pool may time out, the successors of the pool are the classes whose jobs
+///   the pool's marked classes get. Any other pool has no successors.
 pub(crate) fn wait_graph(alloc: Global, plan: &Plan, marks: &[bool]) -> Result<Graph, AllocError>
     requires { length marks.now ≡ length plan.now.classes }
     ensures graph { IfOk result (λ graph. graph ≡ spec.wait_graph plan.now marks.now) }

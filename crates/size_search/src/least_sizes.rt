@@ -63,7 +63,7 @@ fn have_same_maxes(plan: &Plan, other: &Plan) -> bool {
         .all(|(pool, other)| pool.max == other.max)
 }
 
-/// Returns the obstacle for the reason why the maximums could not be raised.
+/// Returns the obstacle that belongs to `unfit`, the reason why the maximums could not be raised.
 fn obstacle_of_wide(unfit: FitError) -> Obstacle {
     match unfit {
         FitError::Core(pool) => Obstacle::Pool(pool),
@@ -72,9 +72,9 @@ fn obstacle_of_wide(unfit: FitError) -> Obstacle {
     }
 }
 
-/// Returns the obstacle for the reason why the plan with raised maximums could not be fitted. If
-/// the reason is [`FitError::Core`], returns [`Obstacle::Unknown`], because the needed core is then
-/// above the pool's maximum, but not necessarily above `MAX_SIZE`.
+/// Returns the obstacle that belongs to `unfit`, the reason why the plan with raised maximums could
+/// not be fitted. For [`FitError::Core`], this is [`Obstacle::Unknown`], because a core above the
+/// pool's maximum is not necessarily above `MAX_SIZE`.
 fn obstacle_of_fit(unfit: FitError) -> Obstacle {
     match unfit {
         FitError::Queue(pool) | FitError::CoreTimeout(pool) => Obstacle::Pool(pool),

@@ -55,9 +55,9 @@ fn has_core_timeouts(plan: &Plan) -> bool
     plan.pools().iter().any(|pool| pool.core_timeout)
 }
 
-/// Returns the level of each node of the graph of waits that [`wait_graph`] returns if every class
-/// is marked. The level of a node is 0 if it has no successors, and otherwise 1 more than the
-/// greatest level of its successors.
+/// Returns the level of each node of the graph of waits (see [`wait_graph`]), with every class
+/// marked. The level of a node is 0 if it has no successors, and otherwise 1 more than the greatest
+/// level of its successors.
 fn levels_of_waits(alloc: Global, plan: &Plan) -> Result<Vec<u64>, AllocError>
     requires { IsWellFormed plan.now }
     ensures { IfOk result (λ levels. levels.items ≡ spec.levels_of_waits plan.now) }

@@ -20,8 +20,8 @@ pub(crate) struct RankAssignment {
     /// Whether a round raised the maximum of a pool, because it raised the pool's core above that
     /// maximum.
     pub(crate) has_widened: bool,
-    /// The largest number of candidates that a round had. The candidates of a round are the pools
-    /// whose core the round could raise. The number is 0 if no round raised a core.
+    /// The largest number of pools among which a round could choose when it raised a core, or 0 if
+    /// no round raised a core.
     pub(crate) choices: usize,
 }
 
@@ -136,10 +136,9 @@ impl RankAssignment {
         }
     }
 
-    /// Returns one entry of `hits`. Each entry has a pool and the total of its blocked vector. The
-    /// shortfall of a pool is how much its core and maximum must grow, in total, for its blocked
-    /// vector. `choice` is the index of the returned entry, from 0, in ascending order of the
-    /// shortfalls. Returns `None` if `choice` is not below the number of entries.
+    /// Returns the entry of `hits` at index `choice`, counted from 0, in ascending order of the
+    /// shortfalls. The shortfall of a pool is how much its core and maximum must grow, in total,
+    /// for its blocked vector. Returns `None` if `choice` is not below the number of entries.
     fn choice_of(&self, hits: &[CacheHit], choice: usize) -> Option<CacheHit> {
         for hit in hits {
             let shortfall = self.shortfall(hit);

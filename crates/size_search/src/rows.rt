@@ -25,9 +25,10 @@ fn put_row(jobs: &mut Vector, number: usize, row: Vec<u64>)
     jobs.classes[number] = row;
 }
 
-/// Computes and stores the row of one class: the list of its weights. `number` is the index of the
-/// class, and `level` is its level. If one of the weights is above `MAX_WEIGHT`, stores nothing and
-/// returns `false`.
+/// Computes the row of one class, which is the list of its weights, and stores it in `jobs`.
+/// `number` is the index of the class, and `level` is its level. `jobs` must have the rows of all
+/// classes of lower levels. If one of the weights is above `MAX_WEIGHT`, stores nothing and returns
+/// `false`.
 fn set_class_row(
     alloc: Global,
     plan: &Plan,
@@ -53,9 +54,9 @@ fn set_class_row(
     Ok(true)
 }
 
-/// Computes and stores the row of the class (the list of its weights) if the class has this level.
-/// Does nothing and returns `true` if it has another level. If one of the weights is above
-/// `MAX_WEIGHT`, stores nothing and returns `false`.
+/// Computes the row of the class, which is the list of its weights, and stores it in `jobs`. Does
+/// nothing and returns `true` if `level` is not the level of the class. If one of the weights is
+/// above `MAX_WEIGHT`, stores nothing and returns `false`.
 fn set_row_of_level(
     alloc: Global,
     plan: &Plan,
@@ -81,8 +82,9 @@ fn set_row_of_level(
     }
 }
 
-/// Computes and stores the rows of the classes of this level. A row is the list of the weights of a
-/// class. Stops and returns `false` at the first row with a weight above `MAX_WEIGHT`.
+/// Computes the rows of the classes of this level, and stores them in `jobs`. A row is the list of
+/// the weights of a class. Stops and returns `false` at the first row with a weight above
+/// `MAX_WEIGHT`.
 fn set_level_rows(
     alloc: Global,
     plan: &Plan,

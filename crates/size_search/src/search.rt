@@ -70,8 +70,8 @@ const FEW_POOLS: usize = 8;
 /// - The plan has a [`Cause`](crate::Cause), so no sizes are enough.
 /// - The steady certificate is not used. Sizes for another certificate can exist.
 ///
-/// If none of these reasons holds, sizes are found. Unless the certificate is `first`, a search for
-/// a certificate of the plan with these sizes then succeeds.
+/// If neither reason holds, sizes are found, and a search for a certificate of the plan with these
+/// sizes then succeeds. The latter is not promised if the returned certificate is `first`.
 ///
 /// The contract proves that the certificate accepts the plan with the sizes that were found. It
 /// also proves that these sizes are the least for this certificate. Let the certificate also accept

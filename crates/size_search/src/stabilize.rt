@@ -73,8 +73,7 @@ pub(crate) fn stabilize(
 }
 
 /// Searches anew for a certificate of `fit`, which is `plan` with the sizes that were found. If no
-/// size of `fit` is larger than in `plan`, skips the search and returns [`Recheck::Same`], because
-/// the plan then keeps its certificate.
+/// size of `fit` is larger than in `plan`, skips the search and returns [`Recheck::Same`].
 fn recheck_plan(alloc: Global, plan: &Plan, fit: &Plan) -> Result<Recheck, AllocError> {
     if growth(plan, fit) == 0 {
         return Ok(Recheck::Same);
