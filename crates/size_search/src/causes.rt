@@ -97,8 +97,8 @@ fn circle(alloc: Global, plan: &Plan) -> Result<Option<Cause>, AllocError>
     }
 }
 
-/// Returns, as a cause, the first pool whose last thread can wait until a job of this pool ends.
-/// Returns `None` if there is no such pool.
+/// Returns, as a cause, the first pool whose last thread can wait until a job of this pool ends
+/// (see [`Cause::PoolWaitsForItself`]). Returns `None` if there is no such pool.
 fn pool_circle(alloc: Global, plan: &Plan) -> Result<Option<Cause>, AllocError>
     ensures cause { IfOk result (λ found. IfSome found (IsCause plan.now)) }
     ensures none { IfOk result (λ found. IfNone found (NoneWaitsForItself plan.now)) }

@@ -46,7 +46,7 @@ fn copied(alloc: Global, vector: &Vector) -> Result<Vector, AllocError>
 }
 
 /// Returns the vector of the steady certificate, or `None` if the vector has a weight above
-/// [`MAX_WEIGHT`](job_bodies::MAX_WEIGHT).
+/// [`MAX_WEIGHT`](job_bodies::MAX_WEIGHT). `levels` has the level of each class.
 fn steady_vector(alloc: Global, plan: &Plan, levels: &[u64]) -> Result<Option<Vector>, AllocError>
     requires free { NoCircle plan.now }
     requires levels { levels.now ≡ spec.steady_levels plan.now }

@@ -49,8 +49,8 @@ fn unfit_pool(number: usize, pool: &Pool) -> Option<FitError>
     }
 }
 
-/// Returns the reason for the first pool of the list whose sizes are invalid, or `None` if all
-/// sizes are valid.
+/// Returns the reason why the sizes of a pool are invalid, for the first such pool of the list.
+/// Returns `None` if all sizes are valid.
 pub(crate) fn unfit_pools(pools: &[Pool]) -> Option<FitError>
     ensures { result ≡ spec.first_unfit (enumerate_from 0 pools.now) }
 {

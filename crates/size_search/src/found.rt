@@ -23,15 +23,15 @@ pub enum NoSizes {
     /// A cause: a reason why no certificate accepts the plan with any sizes. The plan can still be
     /// safe.
     Cause(Cause),
-    /// No attempt found sizes, and the plan's steady certificate cannot be used, for one of these
-    /// reasons:
+    /// No attempt found sizes. The plan's steady certificate cannot be used either, for one of
+    /// these reasons:
     ///
-    /// - It needs sizes above 1,000,000.
-    /// - It has a weight above [`MAX_WEIGHT`](job_bodies::MAX_WEIGHT).
-    /// - A repeating client submits, directly or through other jobs, a job that is never got and
-    ///   whose pool may reject jobs or has an unbounded queue.
-    /// - A class that has a get, and whose pool's core threads may time out, is submitted by no
-    ///   client, neither directly nor through other jobs.
+    /// - The certificate needs sizes above 1,000,000.
+    /// - The certificate has a weight above [`MAX_WEIGHT`](job_bodies::MAX_WEIGHT).
+    /// - A repeating client submits a job, directly or through other jobs. The job is never got,
+    ///   and its pool may reject jobs or has an unbounded queue.
+    /// - A class has a get, but no client submits this class, directly or through other jobs. The
+    ///   core threads of the class's pool may time out.
     ///
     /// In the last two cases, there may be no sizes with which the steady certificate accepts the
     /// plan. In all cases, sizes for another certificate can exist. The field is the number of the

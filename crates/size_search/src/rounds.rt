@@ -45,8 +45,9 @@ impl RankAssignment {
             .collect(alloc)
     }
 
-    /// Returns, for each pool without a rank, the blocked vector that the search finds if all these
-    /// pools get `rank`. If `lending` is `false`, workers have no weight in the vectors.
+    /// Finds a blocked vector for each pool without a rank, on the assumption that all these pools
+    /// get `rank`. Returns the vectors as cache hits. If `lending` is `false`, workers have no
+    /// weight in the vectors.
     fn lightest_vectors(
         &self,
         alloc: Global,
