@@ -70,7 +70,7 @@ impl Draft {
     }
 
     /// Records the results of a round, and gives `rank` to each pool whose blocked vector was
-    /// found. Returns `false` in these cases, in which no certificate can result:
+    /// found. Returns `false` if no certificate can result, which is so in two cases:
     ///
     /// - No pool got the rank.
     /// - A pool of `found` needs a bound, and no bound is known for it.

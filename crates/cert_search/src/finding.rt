@@ -68,11 +68,10 @@ impl From<AllocError> for SearchFault {
 /// the plan, the result is never `None`.
 ///
 /// A pool needs no bound if it may reject jobs or its queue is unbounded. If the search
-/// nevertheless finds a bound for such a pool, the certificate contains this bound:
-///
-/// - A pool with a bound never rejects a job, even if the plan allows the pool to reject jobs.
-/// - For a pool with an unbounded queue, the bound is a standing vector, which bounds the number of
-///   queued jobs. The total of this vector has no limit.
+/// nevertheless finds a bound for such a pool, the certificate contains it. A pool with a bound
+/// never rejects a job, even if the plan allows the pool to reject jobs. The bound of a pool with
+/// an unbounded queue is a standing vector, which bounds the number of queued jobs. The total of
+/// this vector has no limit.
 ///
 /// Tests check that the result does not depend on the number of workers. This is not proved.
 ///
