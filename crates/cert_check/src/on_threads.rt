@@ -164,8 +164,8 @@ fn check_pool<G: PoolGate>(plan: &Plan, cert: &Cert, gate: &G, pool: usize) -> O
     })
 }
 
-/// Builds the verdict from `found`, which has the results of the pools in plan order, and from the
-/// conditions of the ranks, which are checked here. Returns `None` if a pool has no result.
+/// Returns the verdict. `found` has the results of the pools in plan order. The conditions of the
+/// ranks are checked here. Returns `None` if a pool has no result.
 fn verdict_of(
     alloc: Global,
     plan: &Plan,
