@@ -118,8 +118,8 @@ fn parse_ranks<'a>(
     Ok((ranks, rest))
 }
 
-/// Strips the last part of the text of `cert` from the start of `text`: the key `version`, the
-/// version and the closing brace. Returns the rest of `text`.
+/// Strips the key `version`, the version of `cert` and the closing brace from the start of `text`,
+/// and returns the rest. The text of a certificate ends with these parts.
 fn strip_version<'a>(cert: &Cert, text: &'a [u8]) -> Result<&'a [u8], CanonicalError>
     ensures { IfOk result (λ rest. text.now ≡ version_text cert.now ++ rest.now) }
 {

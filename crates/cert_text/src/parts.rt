@@ -60,8 +60,8 @@ fn push_vector(text: &mut String, vector: &Vector) -> Result<(), AllocError>
     text.push('}')
 }
 
-/// Appends the bound of a pool: a comma, the key and the vector. The comma separates the bound from
-/// the blocked vector before it.
+/// Appends the bound of a pool: a comma, the key `standing` or `lifetime`, and the vector. The
+/// comma separates the bound from the blocked vector before it.
 fn push_bound(text: &mut String, bound: &Bound) -> Result<(), AllocError>
     ensures { Pushes result text.old text.new (bound_text (Some bound.now)) }
 {
