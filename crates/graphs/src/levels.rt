@@ -31,8 +31,8 @@ fn level_above(levels: &[u64], nodes: &[usize]) -> u64
     highest
 }
 
-/// Returns the levels after one more round of [`Graph::levels`]. The new level of a node is 1 more
-/// than the greatest level of its successors in `levels`, or 0 if it has no successors.
+/// Computes a new level of each node: 1 more than the greatest level of its successors in `levels`,
+/// or 0 if it has no successors. [`Graph::levels`] repeats this step.
 fn next_levels(alloc: Global, graph: &Graph, levels: &[u64]) -> Result<Vec<u64>, AllocError>
     requires { (node : ℕ) → slice_index levels.now node < 2 ^ 32 }
     ensures { IfOk result (λ next. next.items ≡ map (spec.level_above levels.now) graph.now) }

@@ -9,7 +9,7 @@ ghost use Rattle.graphs.specs.Marks.{Has, Covers, Grows, IsReaching, MarksReache
 use crate::Graph;
 use std::alloc::{AllocError, Global};
 
-/// A set of nodes, and the nodes of the set whose successors were not added yet.
+/// A set of nodes, with a list of those of its nodes whose successors were not added yet.
 #[derive(Drop)]
 pub(crate) struct NodeSet {
     /// For each node, whether it is in the set.
