@@ -20,8 +20,8 @@ pub const MAX_ACTIONS: usize = 256;
 /// pool may reject jobs.
 pub const MAX_SIZE: u64 = 1_000_000;
 /// The `max` of a pool for which the plan sets no maximum: 2^28 - 1. The queue of such a pool is
-/// unbounded, and its core threads may time out. No system has room for that many threads, but
-/// Java's `ThreadPoolExecutor` allows this number: it packs the number of its threads into 29 bits.
+/// unbounded, and its core threads may time out. No system has room for that many threads. Java's
+/// `ThreadPoolExecutor` allows up to 2^29 - 1.
 pub const MAX_THREADS: u64 = 268_435_455;
 /// The maximum number of units of a `Work` action. The minimum is 1.
 pub const MAX_WORK: u64 = 1_000_000;

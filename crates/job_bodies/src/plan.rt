@@ -49,8 +49,8 @@ pub struct Pool {
     /// should ever be refused.
     pub may_reject: bool,
     /// Whether the queue is unbounded, like a `LinkedBlockingQueue` without a capacity. The pool
-    /// then refuses no job, and `queue` has no effect on what the pool does. If core threads may
-    /// not time out, the pool never has more than `core` threads, so `max` has no effect either.
+    /// then refuses no job, and `queue` has no effect on what the pool does. If core threads never
+    /// time out, the pool never has more than `core` threads, so `max` has no effect either.
     ///
     /// A plan that is read from a text has fixed values for sizes without an effect: 1,000,000 for
     /// `queue`, and `core` for `max`. The value for `max` is `core` because the totals of a
@@ -60,8 +60,9 @@ pub struct Pool {
     /// thread can then end, except that the last thread does not end while jobs are queued. So a
     /// pool with a queued job can be down to a single thread, whatever `core` is.
     ///
-    /// Java replaces a thread that ends while jobs are queued. So a pool can have more than `core`
-    /// threads even if its queue is unbounded.
+    /// If a thread ends while jobs are queued, Java may start another one. Submits may have started
+    /// `core` threads by then. So the pool can have more than `core` threads even if its queue is
+    /// unbounded.
     pub core_timeout: bool,
 }
 
