@@ -181,8 +181,8 @@ impl PoolState {
     /// - The pool has more threads than its core size, whether or not jobs are queued.
     /// - Core threads may time out, and the pool has another thread or no queued job.
     ///
-    /// There is one exception. In a bounded queue of capacity 0, each job was handed to an idle
-    /// worker. Such a worker does not end.
+    /// There is one exception. If the queue is bounded with capacity 0, each queued job was handed
+    /// to a different idle worker. A worker to which a job was handed does not end.
     pub fn retire(&mut self) -> bool
         ensures ended { OnTrue result (retired self.old ≡ Some self.new) }
         ensures nothing { OnFalse result (retired self.old ≡ None) }
