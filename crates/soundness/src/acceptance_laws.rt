@@ -83,7 +83,7 @@ pub fn bounded_plans_refuse_nothing()
 
 /// Proves that accepted plans are safe in Java's steps. Let a certificate accept a well-formed
 /// plan, and let a submit take the separate steps of Java's `execute`, with other events between
-/// them. Then every reachable state is safe.
+/// them. Then every reachable state is safe (see [`accepted_plans_are_safe`]).
 ///
 /// If core threads of a pool may time out, Java checks after some steps whether the pool needs a
 /// new thread. While such a check is still to come, the jobs in the queue of the pool do not count
@@ -117,15 +117,16 @@ pub fn accepted_plans_java_drain()
     ensures { AcceptedPlansJavaDrain }
 {}
 
-/// States the law [`bounded_plans_refuse_nothing`] for submits that take the separate steps of
-/// Java's `execute`. The conditions and the facts are the same.
+/// States that a well-formed plan refuses no submit in Java's steps if each pool has a valid bound
+/// or needs none. The conditions and the facts are those of [`bounded_plans_refuse_nothing`], but a
+/// submit takes the separate steps of Java's `execute`.
 pub fn bounded_plans_java_refuse_nothing()
     ensures { BoundedPlansJavaRefuseNothing }
 {}
 
-/// States that no call of Java's `execute` ever finds the queue of a pool full if the pool has a
-/// standing vector, which limits the number of jobs in the queue at one time. So no call requests a
-/// thread above core from this pool. All pools of the plan must satisfy the conditions of
+/// States that no call of Java's `execute` ever finds the queue full in a pool with a standing
+/// vector. Such a vector bounds the number of queued jobs. So no call requests a thread above core
+/// from this pool. All pools of the plan must satisfy the conditions of
 /// [`bounded_plans_refuse_nothing`].
 pub fn standing_pools_are_not_asked()
     ensures { StandingPoolsAreNotAsked }
@@ -178,10 +179,10 @@ pub fn accepted_bounds_never_reject()
     ensures { AcceptedBoundsNeverReject }
 {}
 
-/// States the law [`accepted_bounds_never_reject`] under the assumptions of
-/// [`accepted_plans_may_skip`]. If a call of Java's `execute` requests a thread of a pool with a
-/// bound, the pool has fewer threads than its maximum. So the pool neither refuses nor rejects a
-/// job.
+/// States that a pool with a bound neither refuses nor rejects a job, even if submits take the
+/// separate steps of Java's `execute` and actors skip submits or exchange jobs. Let a certificate
+/// accept a well-formed plan, and let the certificate have a bound for the pool. Then the pool has
+/// fewer threads than its maximum whenever a call of `execute` requests a thread from it.
 pub fn accepted_bounds_never_decline()
     ensures { AcceptedBoundsNeverDecline }
 {}

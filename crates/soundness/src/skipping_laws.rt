@@ -8,8 +8,8 @@ ghost use Rattle.soundness.specs.Skipping.{AlikeJobsAreGotInAnyOrder};
 
 /// States that a vector gives a done job of a class at most the weight of a queued job of this
 /// class. The rows (the conditions) of the vector and of the certificate's ranks must hold. So a
-/// skipped submit does not increase the sum of all weights in a state: it creates a done job in
-/// place of a queued job.
+/// skipped submit does not increase the sum of all weights in a state. For such a submit, the
+/// machine creates a job that is already done, in place of a queued job.
 pub fn done_within_queued()
     ensures { DoneWithinQueued }
 {}
