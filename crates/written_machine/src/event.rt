@@ -28,9 +28,9 @@ pub enum Outcome {
     Queued(usize),
     /// The pool with this index refused a submit, so no job was created.
     Refused(usize),
-    /// A pool had no room for the job of a submit and rejected it, as the plan allows. The submit
-    /// and its get are skipped: the job was created, but is already done. The fields are the index
-    /// of the pool and the number of the job.
+    /// A pool without room rejected the job of a submit, as the plan allows. The job was created,
+    /// but it is already done, so a get of it does not wait. The fields are the index of the pool
+    /// and the number of the job.
     Rejected(usize, usize),
     /// The actor performed this number of units of work.
     Worked(u32),

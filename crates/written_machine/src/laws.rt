@@ -80,8 +80,8 @@ pub fn full_waiting_sets_stay()
     ensures { FullWaitingSetsStay }
 {}
 
-/// Proves that a waiting set is full if the sizes of its pools are fixed. The sizes of a pool are
-/// fixed in these cases:
+/// Proves that a waiting set is full, and therefore permanent (see [`full_waiting_sets_stay`]), if
+/// the sizes of its pools are fixed. The sizes of a pool are fixed in these cases:
 ///
 /// - Its core size equals its maximum, and its core threads never time out.
 /// - Its core threads may time out, and its maximum is 1.
