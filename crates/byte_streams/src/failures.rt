@@ -4,9 +4,8 @@ ghost use Rattle.std.specs.Borrow.{ftrue};
 
 use std::marker::Model;
 
-/// A natural number that exists only in contracts, so it takes no memory and never overflows.
-/// [`Failures`] uses it for the exact number of failed calls. The counter that the program stores
-/// stops at `u64::MAX`.
+/// A natural number that exists only in contracts, so it takes no memory and never overflows. In
+/// [`Failures`], it is the exact number of failed calls.
 #[derive(Drop)]
 pub(crate) struct GhostCount {
     pub ghost value: { ℕ },

@@ -68,12 +68,12 @@ impl From<IoFault> for InputError {
 /// The initial size of the buffer for an input, in bytes.
 const INITIAL_SIZE: usize = 4096;
 
-/// The maximum number of bytes by which the buffer grows in one step. New space is filled with
-/// zeros. Because of this limit, the buffer of a long input is not much larger than the input.
+/// The maximum number of bytes by which the buffer for an input grows in one step. With this limit,
+/// the buffer of a long input is not much longer than the input.
 const MAX_GROWTH: usize = 65_536;
 
-/// Reads to the end of the input, or until `limit` bytes were read, and returns the bytes. Each
-/// successful call of the source reads at least one byte, except at the end of the input.
+/// Reads to the end of the input, or until `limit` bytes were read, and returns the bytes. The
+/// input ends when a call of the source returns 0.
 ///
 /// # Errors
 ///

@@ -2,8 +2,8 @@
 ghost use Rattle.std.specs.Prelude.{◌≡◌, ◌-◌, None, Some, IsTrue, ◌↔◌};
 ghost use Rattle.byte_streams.specs.ScriptedFault.{calls_after};
 
-/// The failure that a test plans for a stream. `calls_before` is the number of calls before the
-/// call that must fail, or `None` if no call must fail.
+/// The failure that a test plans for a stream. `calls_before` is the number of calls that are still
+/// to come before the call that must fail. It is `None` if no later call must fail.
 #[derive(Clone, Copy)]
 pub(crate) struct ScriptedFault {
     pub(crate) calls_before: Option<u64>,
