@@ -13,8 +13,8 @@ pub(crate) const CANDIDATES: usize = 8;
 /// The options of [`candidate`]. Different options can result in different bodies.
 #[derive(Clone, Copy)]
 pub(crate) struct Choices {
-    /// True if no submit of the candidate may be matched both with a job that its path gets and
-    /// with a job that its path never gets. If false, a submit may be matched with both.
+    /// True if a job that its path gets and a job that its path never gets must be matched with
+    /// different submits of the candidate. If it is false, one submit may be matched with both.
     pub(crate) marks_gets: bool,
     /// True if the submits of the paths are merged from the last path to the first. If it is false,
     /// they are merged from the first path to the last.
@@ -38,8 +38,8 @@ impl Choices {
 /// Returns a body that has the submits of all paths and gets each job as soon as the paths allow.
 /// Some path may still not match the body. `choices` selects one of several such bodies.
 ///
-/// Returns `None` if [`job_steps`] returns `None` for a path, or if the body would have more
-/// submits than a body may have actions.
+/// Returns `None` if a path is invalid or too long (see [`job_steps`]), or if the body would have
+/// more submits than a body may have actions.
 ///
 /// # Errors
 ///

@@ -53,8 +53,8 @@ impl KindCount {
     }
 }
 
-/// Returns the counters for the rounds of each client kind. `kinds` has the kind of each round, by
-/// round number.
+/// Returns the counters for the rounds of each client kind in `entries`. `kinds` has the index in
+/// `entries` of each round's kind, by round number.
 ///
 /// # Errors
 ///

@@ -100,8 +100,8 @@ fn new_body(
     }
 }
 
-/// Returns the best of the candidates that all paths match (see [`is_preferred`]). Returns `None`
-/// if there is no such candidate.
+/// Returns the candidate with the lowest cost (see [`is_preferred`]) among those that all paths
+/// match. Returns `None` if there is no such candidate.
 fn best_candidate(
     alloc: Global,
     kind: ActorKind,

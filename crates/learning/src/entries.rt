@@ -37,14 +37,15 @@ pub(crate) struct Entries {
     /// kinds.
     pub(crate) kind: ActorKind,
     /// The maximum number of classes or client kinds of a plan. If a recording needs more,
-    /// [`add`](Entries::add) fails with the reason `beyond`.
+    /// [`add`](Entries::add) fails with the reason in the field `beyond`.
     limit: usize,
     beyond: InferenceLimit,
     pub(crate) alloc: Global,
 }
 
 impl Entries {
-    /// Creates an empty list.
+    /// Creates an empty list of classes or client kinds, whose actors are of this `kind`. If the
+    /// list has `limit` entries, [`add`](Entries::add) fails with the reason `beyond`.
     pub(crate) fn new(
         alloc: Global,
         kind: ActorKind,

@@ -12,9 +12,9 @@ pub enum Extent {
     Whole,
 }
 
-/// The greatest number of bytes, from the beginning of a recording, from which [`Extent::Start`]
-/// learns bodies. That many bytes usually contain each path of the recording several times. A few
-/// passes over them take little time compared with one pass over a long recording.
+/// The maximum length of the part that [`Extent::Start`] selects, in bytes. That many bytes usually
+/// contain each path of the recording several times. A few passes over them take little time
+/// compared with one pass over a long recording.
 pub const START_BYTES: usize = 65_536;
 
 /// A prefix of a recording. If the prefix ends within a line, this last line is not read.

@@ -1,4 +1,4 @@
-//! The earliest times at which a body may get its jobs, so that every path still matches it.
+//! The times at which a body gets its jobs: as early as the paths that must match the body allow.
 
 use crate::path_jobs::{JobStep, PathJob, submitted_jobs};
 use std::alloc::{AllocError, Global};
@@ -121,8 +121,9 @@ fn times_of_path(
     Ok(times)
 }
 
-/// Records `time` for each get of the path at index `from` or later, up to the next submit. Returns
-/// the index of this submit, or the length of the path if there is no such submit.
+/// Sets the time to `time` for each job that the path gets at index `from` or later, before the
+/// next submit (see [`record_get`]). Returns the index of this submit, or the length of the path if
+/// there is no such submit.
 fn record_gets(
     common: &[PathJob],
     path: &[JobStep],

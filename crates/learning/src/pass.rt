@@ -19,8 +19,8 @@ use std::alloc::{AllocError, Global};
 /// The state of a pass over a part of a recording.
 #[derive(Drop)]
 pub(crate) struct Pass {
-    /// The first of the plan's client kinds to which each round can belong, by round number. The
-    /// value is `None` if the round matches no kind or is not yet classified.
+    /// For each round, by round number, the first client kind of the plan to which the round can
+    /// belong. It is `None` if the round matches no kind or is not yet classified.
     pub(crate) kinds: Vec<Option<usize>>,
     /// True if the pass changed a body.
     pub(crate) is_changed: bool,
@@ -33,9 +33,9 @@ pub(crate) struct Pass {
     alloc: Global,
 }
 
-/// Runs one pass over the part of the recording. If an actor matches no class or client kind, tries
-/// to change a body so that the actor's path matches it. Changes no body for the actor in these
-/// cases:
+/// Runs one pass over the part of the recording. `plan` is the plan of `draft` before the pass. If
+/// an actor matches no class or client kind of `plan`, tries to change a body of `draft` so that
+/// the actor's path matches it. Changes no body for the actor in these cases:
 ///
 /// - A job that the actor submitted has no class.
 /// - For some body, it is unknown whether the actor's path matches it.

@@ -25,8 +25,8 @@ pub(crate) enum JobStep {
 }
 
 /// Returns the steps of the path, each with its job. The class of a job is the first class that it
-/// can belong to. If `marks_gets` is true, `is_got` is true only for the jobs that the path gets.
-/// Otherwise `is_got` is true for all jobs.
+/// can belong to. If `marks_gets` is true, the field `is_got` of a job is true only if the path
+/// gets the job. Otherwise it is true for all jobs.
 ///
 /// Returns `None` in these cases:
 ///
