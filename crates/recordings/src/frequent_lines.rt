@@ -21,8 +21,8 @@ ghost use Rattle.recordings.specs.declared.recording_line.RecordedActor.TheVaria
 use crate::recording_line::{Line, RecordedActor};
 use job_bodies::MAX_NAME_BYTES;
 
-/// The maximum number of digits in a number. Each number of at most 9 digits is below
-/// `MAX_LINE_NUMBER`, so this parser need not compare numbers with this limit.
+/// The maximum number of digits in a number that this parser reads. A number of at most 9 digits is
+/// below `MAX_LINE_NUMBER`, so no such number is too large for a line.
 const MOST_DIGITS: usize = 9;
 
 /// Parses the first line of a text if it has one of the frequent forms. Returns the line and the

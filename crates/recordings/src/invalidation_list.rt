@@ -21,10 +21,8 @@ use std::collections::BTreeMap;
 ///
 /// A get that timed out or was interrupted is a *pending* event until the next line of its actor.
 /// If that line reports another get of the same job, with any outcome, the list discards the
-/// pending event. For each type, the list has at least these events:
-///
-/// - The first event that is not pending, if there is one.
-/// - All pending events before that event, or all pending events if there is no such event.
+/// pending event. Once the list has an event that is not pending, it adds no further events of this
+/// event's type.
 ///
 /// Processing a line takes one look-up of its actor. If the actor has a pending event, a second
 /// look-up finds this event.
@@ -172,7 +170,8 @@ fn settle_event(
     }
 }
 
-/// Appends the event to `certain`, unless `certain` has an event of the same type.
+/// Appends the event to `certain`, unless `certain` has an event of the same type. No later line
+/// can discard an event in `certain`.
 fn push_type(
     certain: &mut Vec<InvalidatingEvent>,
     event: InvalidatingEvent,

@@ -13,9 +13,9 @@ use support::IdMap;
 pub(crate) struct JobState {
     started: bool,
     cancelled: bool,
-    /// The job that the last line of this job submits, or `None` if that line is not a submit.
-    /// `refused` lines are ignored. The field is used to check that no line of this job comes
-    /// between a submit and the `refused` line of the submitted job, except other `refused` lines.
+    /// The other job that the last line of this job submits, or `None` if that line is not a
+    /// submit. `refused` lines are ignored. By rule O6, a `refused` line whose actor is this job
+    /// must name that other job.
     last_submit: Option<usize>,
 }
 

@@ -34,11 +34,9 @@ pub(crate) fn actor_of(line: &Line<'_>) -> Option<RecordedActor>
     }
 }
 
-/// Returns the job that the line names, such as job 5 in `round 2 got 5` and in `job 5 start`.
-/// Returns `None` in these cases:
-///
-/// - The line is a `submit` line, which is the first line that names its job.
-/// - The line names no job, or only the job that is its actor.
+/// Returns the job that the line names, such as job 5 in `round 2 got 5` and in `job 5 start`. A
+/// valid recording has an earlier `submit` line of this job. Returns `None` for a `submit` line,
+/// and for a line that names no job other than its actor (see [`actor_of`]).
 pub(crate) fn job_of(line: &Line<'_>) -> Option<usize>
     ensures { result ≡ spec.job_of (line_view line.now) }
 {
@@ -54,8 +52,8 @@ pub(crate) fn job_of(line: &Line<'_>) -> Option<usize>
     }
 }
 
-/// Returns the pool that needs an earlier `pool` line, because this line names it. Returns `None`
-/// if the line names no pool or is a `pool` line itself.
+/// Returns the pool that the line names. A valid recording has an earlier `pool` line of this pool.
+/// Returns `None` for a `pool` line, and for a line that names no pool.
 pub(crate) fn pool_of<'a>(line: &Line<'a>) -> Option<&'a str>
     ensures { option_map (λ pool. pool.now) result ≡ spec.pool_of (line_view line.now) }
 {
