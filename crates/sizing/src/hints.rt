@@ -228,7 +228,8 @@ fn hint_of_second(command: Command, text: &[u8], has_plan: bool) -> Option<Hint>
 }
 
 /// Returns a hint about a file that the command reads as a certificate. `has_plan` says whether the
-/// plan is known to have no fault. If so, the fault is in the certificate.
+/// plan is known to have no fault. If so, the fault is in the certificate. If not, returns `None`
+/// unless the file looks like a text of another kind.
 fn hint_of_certificate(text: &[u8], has_plan: bool) -> Option<Hint> {
     if let Some(hint) = hint_of_misplaced(text, CERTIFICATE) {
         return Some(hint);
@@ -241,7 +242,8 @@ fn hint_of_certificate(text: &[u8], has_plan: bool) -> Option<Hint> {
 }
 
 /// Returns a hint about a file of events. `has_plan` says whether the plan is known to have no
-/// fault. If so, the fault is in the events.
+/// fault. If so, the fault is in the events. If not, returns `None` unless the file looks like a
+/// text of another kind or its first line ends with a carriage return.
 fn hint_of_events(text: &[u8], has_plan: bool) -> Option<Hint> {
     if let Some(hint) = hint_of_misplaced(text, "events") {
         return Some(hint);
