@@ -35,9 +35,9 @@ use std::thread::Threads;
 ///
 /// The name `-` means `input`.
 ///
-/// The arguments can also give the name of a certificate file. If the answer is based on a
-/// certificate, the certificate is written to this file after the answer. The certificate is not
-/// written if its text is too long to be read back.
+/// With `--certificate`, the arguments of `ask` also give the name of a certificate file, which is
+/// an output. If the answer is based on a certificate, the certificate is written to this file
+/// after the answer. The certificate is not written if its text is too long to be read back.
 ///
 /// The certificate file need not exist. A regular file is replaced only if it is empty or contains
 /// a JSON object with the keys of a certificate. In these cases, the call fails before it reads the

@@ -116,7 +116,8 @@ fn ask_text<R: Threads + Wait + Sync>(
     }
 }
 
-/// Returns the answer of `ask` for a plan. `cert`, if it is given, is the text of a certificate.
+/// Returns the answer of `ask` for the plan that was parsed from `text`. `cert` is the text of the
+/// given certificate, or `None` if no certificate is given.
 fn ask_plan<R: Threads + Wait + Sync>(
     rt: &R,
     alloc: Global,
@@ -164,8 +165,8 @@ fn ask_with<R: Threads + Wait + Sync>(
     }
 }
 
-/// Returns the answer of `ask` for a plan. `cert` is the given certificate, which was parsed for
-/// this plan, or `None` if no certificate is given.
+/// Returns the answer of `ask` for the plan that was parsed from `text`. `cert` is the given
+/// certificate, which was parsed for this plan, or `None` if no certificate is given.
 fn ask_found<R: Threads + Wait + Sync>(
     rt: &R,
     alloc: Global,

@@ -23,12 +23,13 @@ use std::alloc::{AllocError, Global};
 /// certificate is to be written.
 ///
 /// # Errors
+///
 /// Returns an error in these cases:
 ///
 /// - The name is `-`, or is the name of a directory.
 /// - A regular file of this name cannot be read.
-/// - A regular file of this name is not empty and holds no JSON object with the keys of a
-///   certificate.
+/// - A regular file of this name has a text that a certificate may not replace (see
+///   [`is_replaceable`]).
 /// - Memory runs out.
 pub(crate) fn ensure_replaceable<'a, F: TextFiles>(
     alloc: Global,
@@ -92,8 +93,8 @@ fn ensure_replaceable_text<'a>(
 }
 
 /// Returns true if a certificate may replace this text. The text must be empty, or a JSON object
-/// with the keys of a certificate. The values of these keys are not checked, because they may be
-/// for an older version of the plan.
+/// with the keys of a certificate. The object must not be longer than a certificate may be. The
+/// values of its keys are not checked, because they may be for an older version of the plan.
 fn is_replaceable(alloc: Global, text: &[u8]) -> Result<bool, AllocError>
     ensures { IfOk result (λ replaceable. replaceable ≡ spec.is_replaceable text.now) }
 {

@@ -126,7 +126,8 @@ pub(crate) fn write_answer<R: Threads + Wait + Sync, K: Sink>(
     }
 }
 
-/// Runs the task on this input, and writes the answer to the sink. The task may use threads.
+/// Runs the task on this input, and writes the answer to the sink. The task may use threads. `file`
+/// and `certificate` have the same meaning as in [`serve_named`].
 fn write_task<R: Threads + Wait + Sync, K: Sink>(
     rt: &R,
     alloc: Global,
@@ -148,7 +149,8 @@ fn write_task<R: Threads + Wait + Sync, K: Sink>(
     Ok(output.status)
 }
 
-/// Runs the task on this input, and returns the answer.
+/// Runs the task on this input, and returns the answer. `file` and `certificate` have the same
+/// meaning as in [`serve_named`].
 fn answer_on_threads<R: Threads + Wait + Sync>(
     rt: &R,
     alloc: Global,

@@ -22,8 +22,8 @@ const NO_ANSWER: u8 = 3;
 /// - If the certificate's file could not be written, the whole answer was written.
 #[derive(Drop)]
 pub enum CliError<'a> {
-    /// An error of `clap`, or a request for help. Its `Display` writes `clap`'s own text for the
-    /// user.
+    /// An error of `clap`, or a request for help or for the version. The `Display` of this field
+    /// writes the text of `clap` for the user.
     Words(Error),
     /// The arguments name no command.
     NoCommand,
@@ -49,8 +49,8 @@ pub enum CliError<'a> {
 }
 
 impl CliError<'_> {
-    /// Returns the program's exit status, which is 2 for bad arguments and for help, and 3 for any
-    /// other error.
+    /// Returns the program's exit status: 2 for bad arguments and for a request for help, and 3 for
+    /// any other error. The program does not use it for a request for the version.
     pub fn code(&self) -> u8
         ensures { spec.IsCode self.now result }
     {

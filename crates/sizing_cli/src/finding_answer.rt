@@ -32,6 +32,7 @@ use std::alloc::{AllocError, Global};
 
 /// Returns the answer for this finding.
 ///
+/// - `text` is the plan's text.
 /// - `lowered` has the plan with lowered maximums, and a certificate that accepts this plan (see
 ///   [`LoweredPlan`]). `lowered` is `None` if no such certificate was found.
 /// - `file` is the name that messages use for the plan's file.
@@ -65,7 +66,7 @@ pub(crate) fn answer_of(
 }
 
 /// Returns the warnings about a plan. If `is_stale` is true, they are followed by a warning about
-/// the given certificate.
+/// the given certificate. `lowered` has the same meaning as in [`answer_of`].
 fn warnings_for(
     alloc: Global,
     text: &[u8],
@@ -187,7 +188,8 @@ fn with_stale(
 }
 
 /// Returns the answer with the finding and these warnings. The status depends on the finding, the
-/// warnings and `options.strict`.
+/// warnings and `options.strict`. Only the contract uses `lowered` and `is_stale`, which have the
+/// same meaning as in [`answer_of`].
 fn answer_with(
     alloc: Global,
     options: AskOptions,

@@ -85,10 +85,9 @@ fn learn_from_all(alloc: Global, strict: bool, recording: &[u8]) -> Result<Answe
 /// - the list of differences, if `strict` is true and the recording does not conform to the plan;
 /// - otherwise the text of the plan, after comments that list what else the recording shows.
 ///
-/// Returns `None` if the plan does not explain the recording. A round is one pass of a client
-/// through its body. The plan does not explain the recording in these cases:
+/// Returns `None` in these cases, in which the plan does not explain the recording:
 ///
-/// - A job or a round follows no body.
+/// - A job, or a round (one pass of a client through its body), follows no body.
 /// - It is undecided whether a job or a round follows a body.
 /// - A client kind, which is a `[[client]]` of the plan, has more rounds than the plan allows.
 fn plan_answer(
@@ -352,9 +351,9 @@ fn are_of_actors(findings: &[Finding]) -> bool
     findings.iter().any(|finding| is_of_actors(finding))
 }
 
-/// Returns true if the finding shows that a derived plan does not explain a job or a round. A round
-/// is one pass of a client through its body. Such a finding is about the label or the path of a job
-/// or round, or about a client kind (a `[[client]]` of the plan) with too many rounds.
+/// Returns true if the finding shows that a derived plan does not explain a job, or a round (one
+/// pass of a client through its body). Such a finding is about the label or the path of a job or
+/// round, or about a client kind (a `[[client]]` of the plan) with too many rounds.
 fn is_of_actors(finding: &Finding) -> bool
     ensures { result ≡ is_of_actors finding.now }
 {

@@ -53,10 +53,10 @@ pub(crate) fn read_texts<'a, F: TextFiles, S: Source>(
     }
 }
 
-/// Reads the two texts of the command, and joins them with a line `%%`. The result must split into
-/// the same two texts again, so neither text may have a line `%%` itself. The exception is the
-/// recording of `conform`: it may have such lines, because `conform` splits its input at the first
-/// one.
+/// Reads the two texts of the command from the files `first` and `second`, and joins them with a
+/// line `%%`. The result must split into the same two texts again, so neither text may have a line
+/// `%%` itself. The exception is the recording of `conform`: it may have such lines, because
+/// `conform` splits its input at the first one.
 fn read_both<'a, F: TextFiles, S: Source>(
     alloc: Global,
     command: Command,
@@ -86,8 +86,8 @@ fn read_both<'a, F: TextFiles, S: Source>(
     Ok(join_texts(plan, &behind)?)
 }
 
-/// Reads the two texts of the command. Returns an error if both texts are to come from standard
-/// input.
+/// Reads the two texts of the command from the files `first` and `second`. The name `-` and no name
+/// mean standard input. Returns an error if both texts are to come from standard input.
 fn read_pair<'a, F: TextFiles, S: Source>(
     alloc: Global,
     command: Command,

@@ -1,6 +1,6 @@
-//! The gate of the program, which never blocks. A gate is a hook. A search or a check calls the
-//! gate before each pool, and the gate can stop the search or check. A run calls the gate from the
-//! run's threads to do the declared work.
+//! The gate that the program uses. A gate is a hook. A search or a check calls the gate before each
+//! pool, and the gate can stop the search or check. A run calls the gate from the run's threads to
+//! do the declared work.
 
 use cert_check::PoolGate;
 use locked_runner::{Actor, Gate, GateFault};

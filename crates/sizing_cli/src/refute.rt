@@ -160,6 +160,7 @@ fn bundle(
 }
 
 /// Returns the answer for a plan that a certificate accepts. The answer says that the plan is safe.
+/// The status depends on `refute_format` (see [`without_bundle`]).
 fn safe(alloc: Global, refute_format: RefuteFormat) -> Result<Answer, AllocError>
     ensures { IfOk result (λ answer. answer ≡ spec.safe_answer refute_format) }
 {
@@ -171,7 +172,7 @@ fn safe(alloc: Global, refute_format: RefuteFormat) -> Result<Answer, AllocError
 }
 
 /// Returns the answer that says that neither a certificate nor a witness was found, and how many
-/// states were searched.
+/// states were searched. The status depends on `refute_format` (see [`without_bundle`]).
 fn not_decided(
     alloc: Global,
     refute_format: RefuteFormat,

@@ -16,8 +16,7 @@ pub struct StdFiles<'a, R> {
 }
 
 impl<'a, R: Files> StdFiles<'a, R> {
-    /// Creates a [`TextFiles`] for the files of the operating system, which it opens through
-    /// `files`.
+    /// Creates a [`TextFiles`] that opens the files of the operating system through `files`.
     pub fn new(files: &'a R) -> StdFiles<'a, R> {
         StdFiles { files }
     }

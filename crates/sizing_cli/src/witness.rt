@@ -59,10 +59,10 @@ fn confirm(
     confirmed(alloc, plan, found.events, members, &standing)
 }
 
-/// Returns a vector for each pool, in plan order. A vector gives a weight to each actor position
-/// and worker. It is a vector that can prove that its pool never starts a thread above the core
-/// size. If the search finds no such vector for a pool, the vector of this pool has no weights. The
-/// list is empty if a class submits itself, directly or through other classes.
+/// Returns a vector for each pool, in plan order: the standing vector that a search finds for the
+/// pool, or a vector without weights if it finds none. A standing vector bounds the number of jobs
+/// in the pool's queue. With it, [`confirmed`] can prove that the pool never starts a thread above
+/// the core size. The list is empty if a class submits itself, directly or through other classes.
 fn standing_vectors(alloc: Global, plan: &Plan) -> Result<Vec<Vector>, AllocError> {
     let mut vectors = Vec::new(alloc);
     let Some(levels) = Levels::of(alloc, plan)? else {
