@@ -31,8 +31,8 @@ pub const BAD_ACTION: u8 = 11;
 /// of the slot empties it.
 pub const SLOT_OPEN: u8 = 12;
 /// A get names an empty slot: no submit filled the slot, or a get has emptied it. In a plan that is
-/// built from lists, a get names the position of a submit instead of a slot. The fault is then one
-/// of these:
+/// not read from a text, a get names the position of a submit instead of a slot. The fault is then
+/// one of these:
 ///
 /// - The body has no earlier submit at this position.
 /// - An earlier get names the same position.
@@ -69,8 +69,8 @@ pub const STRANGE: u8 = 41;
 /// not those of a complete run. In a search, the results of its threads are inconsistent, or the
 /// check does not confirm the certificate that the search found.
 pub const MIXED: u8 = 42;
-/// A gate failed. In a run, a gate is the code that does the declared work. In a search or a check,
-/// a gate is the hook that is called before each pool.
+/// A gate failed in a run, or stopped a search or a check. In a run, a gate is the code that does
+/// the declared work. In a search or a check, it is the hook that is called before each pool.
 pub const GATE: u8 = 43;
 
 // ---- faults of an input
