@@ -30,10 +30,11 @@ use std::alloc::{AllocError, Global};
 /// Returns a plan that is learned from a recording. `extent` selects the part of the recording from
 /// which bodies are learned.
 ///
-/// The whole recording is read once, for its names, its counts and its first invalid line. The
-/// selected part is read a few more times, usually twice, while the bodies change. If a label has
-/// several client kinds, the rounds of each kind must also be counted. One more pass does this if
-/// the selected part is the whole recording. Otherwise, the result is an [`InferenceLimit`].
+/// The whole recording is read once, for its names, its counts and its first invalid line. If the
+/// names exceed a limit of plans, it is read again for its first invalid line. The selected part is
+/// read a few more times, usually twice, while the bodies change. If a label has several client
+/// kinds, the rounds of each kind must also be counted. One more pass does this if the selected
+/// part is the whole recording. Otherwise, the result is an [`InferenceLimit`].
 ///
 /// The memory grows with these numbers:
 ///
