@@ -22,9 +22,9 @@ use std::alloc::{AllocError, Global};
 /// the job yet.
 ///
 /// The size of the notes grows with the number of jobs that were submitted but not yet got by their
-/// submitters. It also grows with the number of actors whose last line is `timeout` or
-/// `interrupted`. Processing a line takes a constant number of look-ups. No contract states the
-/// size or the time.
+/// submitters. It also grows with the greatest number of actors whose last line was `timeout` or
+/// `interrupted` at the same time. Processing a line takes a constant number of look-ups. No
+/// contract states the size or the time.
 #[derive(Drop)]
 pub struct RecordedNotes {
     pub(crate) invalidations: InvalidationList,
