@@ -44,8 +44,8 @@ pub enum RecordingCommand {
     Conform,
     /// Derives a plan from a recording.
     Learn {
-        /// Whether the command withholds a derived plan to which the recording does not conform. It
-        /// then writes the differences in place of this plan.
+        /// Whether the command writes the derived plan only if the recording conforms to it. If the
+        /// recording does not conform, the command writes the differences instead.
         strict: bool,
     },
 }
@@ -105,8 +105,8 @@ pub struct Cli<'a> {
 /// An output format of `fit`.
 #[derive(Clone, Copy, Debug)]
 pub enum SizesForm {
-    /// One line for each pool, with its sizes, and a last line with the number of sizes that differ
-    /// from the plan. The lines of the pools mark these sizes.
+    /// A line for each pool, with its sizes. If a size differs from the plan, the size in the plan
+    /// follows it, as in `core 2 (now 1)`. The last line has the number of these differences.
     Sizes,
     /// The plan with the new sizes, and its certificate.
     Bundle,
@@ -134,9 +134,9 @@ pub enum AskInput {
 /// The options of `ask`.
 #[derive(Clone, Copy, Debug)]
 pub struct AskOptions {
-    /// Whether a warning about a safe plan changes the exit status from 0 to 1. A note, which some
-    /// lints give in place of a warning, does not change the exit status, because the plan does not
-    /// show whether the note matters.
+    /// Whether a warning about a safe plan changes the exit status from 0 to 1. A note does not
+    /// change it. `ask` prints a note in place of a warning if the plan does not show whether there
+    /// is a problem.
     pub strict: bool,
     pub form: Form,
 }

@@ -10,8 +10,8 @@ use clap::error::ErrorKind;
 use clap::{ArgMatches, Command, Error};
 use std::alloc::{AllocError, Global};
 
-/// Creates the error for arguments that `ask` rejects. `matches` has these arguments. The message
-/// of the error says what is wrong with them.
+/// Creates the error for arguments that `ask` rejects. The message of the error says what is wrong
+/// with them. `sizing` is the application, and `matches` has the arguments.
 pub(crate) fn refusal(
     alloc: Global,
     sizing: &mut Command<'_>,
