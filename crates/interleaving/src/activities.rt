@@ -20,8 +20,8 @@ pub(crate) struct PoolActivity {
 }
 
 impl PoolActivity {
-    /// Returns this activity with one more member counted. `phase` is the phase of this member, and
-    /// `is_new` is `false` if the member was counted before.
+    /// Adds a member to this activity, and returns the result. `phase` is the phase of the member.
+    /// `is_new` is `false` if the member was added before.
     ///
     /// - A queued member sets `queued`.
     /// - A running member adds 1 to `at_work` if `is_new` is `true`.

@@ -15,8 +15,8 @@ use std::marker::Model;
 use written_machine::Parent;
 
 /// The live jobs of a world, and an index of them. For each submit of a client or of an unfinished
-/// job, the index has the latest live job that this submit created. No other actor may still get
-/// jobs.
+/// job, the index has the latest live job that this submit created. It need not have such entries
+/// for a done job, because a done job gets no jobs.
 #[derive(Drop)]
 pub struct LiveJobs {
     kept: JobTable,
@@ -100,8 +100,8 @@ impl LiveJobs {
         self.kept.set_phase(number, Phase::At(position));
     }
 
-    /// Removes a done job when its parent gets it. `number` is the number of this job, and `job` is
-    /// its data. No other live job may come from the same submit of the parent.
+    /// Removes the done job with this number, because its parent gets it. `job` is the data of this
+    /// job. The job must be the only live job that its submit created.
     pub fn remove(&mut self, number: usize, job: JobView)
         requires live { live_job self.old.jobs number ≡ Some job }
         requires done { is_done job.phase ≡ true }
@@ -129,10 +129,10 @@ impl LiveJobs {
         self.kept.reserve()
     }
 
-    /// Adds the new job `job`, which a submit of an actor creates. If the same submit of this actor
-    /// created the job `latest`, and that job is done, removes that job, because no get can return
-    /// it any more. Every other live job of this submit must be unfinished.
-    /// [`LiveJobs::reserve_for`] must have reserved memory.
+    /// Adds `job`, which a submit of an actor creates. `latest` is the number of the latest live
+    /// job that the same submit created before, or `None`. If that job is done, removes it, because
+    /// no get can return it any more. All other live jobs that this submit created must be
+    /// unfinished. [`LiveJobs::reserve_for`] must have reserved memory.
     pub fn create(&mut self, latest: Option<usize>, job: JobView)
         requires room { 0 < room_for self.old.room job.parent }
         requires parent { WasMade self.old.jobs job.parent }
@@ -154,10 +154,10 @@ impl LiveJobs {
         self.unfinished += usize::from(!job.is_done());
     }
 
-    /// Finishes the job with this number. `job` is the data of this job before it finishes. If the
-    /// finished job is the latest job of its submit, and its parent may still get jobs, the
-    /// finished job stays live. Otherwise it is removed. Also removes the done jobs that the
-    /// finished job created, because no actor can get them any more.
+    /// Finishes the job with this number. `job` is the data of this job before it finishes. The job
+    /// stays live if its parent is a client or an unfinished job, and no later live job comes from
+    /// the same submit of this parent. Otherwise the job is removed. Also removes the done jobs
+    /// that the finished job created, because no actor can get them any more.
     pub fn finish(&mut self, number: usize, job: JobView)
         requires live { live_job self.old.jobs number ≡ Some job }
         requires going { is_done job.phase ≡ false }

@@ -1,5 +1,5 @@
-//! The states, by client number, of the clients that have left the start of their body at least
-//! once.
+//! A map from client numbers to the states of the clients that have moved. A client has moved if it
+//! has left the start of its body at least once.
 
 ghost use Rattle.std.specs.Prelude.{◌≡◌, ◌<◌, ℕ, None, Some, false, OnOk, is_some, nat_eq, if◌then◌else◌, ◌==◌};
 ghost use Rattle.std.specs.Option.{option_map};

@@ -111,8 +111,8 @@ impl World {
         &self.pools[pool]
     }
 
-    /// Returns the position in its body of the client with this number, or `None` if there is no
-    /// such client.
+    /// Returns the position of this client in its body, or `None` if there is no client with this
+    /// number.
     pub fn client(&self, client: usize) -> Option<usize>
         ensures { result
             ≡ option_map (λ client. client.position) (slice_get self.now.view.clients client) }
