@@ -16,7 +16,7 @@ use std::alloc::{AllocError, Global};
 
 /// Returns `true` if a run is complete. In a complete run, no job is unfinished, and each client
 /// has performed all events of its rounds and is at the end of its body. `world` is the state after
-/// the events of `history`.
+/// the events of `history`. `kinds` has, for each client, the index of its client kind.
 ///
 /// # Errors
 ///
@@ -74,7 +74,8 @@ fn clients_are_complete(
 }
 
 /// Returns `true` if the client with this number has performed all events of its rounds and is at
-/// the end of its body. `made` is the number of events that the client performed.
+/// the end of its body. `client` is its client kind, and `made` is the number of events that the
+/// client performed.
 fn is_complete_client(client: &Client, number: usize, world: &World, rounds: u64, made: u64) -> bool
     ensures { (plan : Plan) (history : List Event) (s : State)
         → made ≡ count_by (spec.is_of_client number) history

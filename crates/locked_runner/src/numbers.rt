@@ -227,10 +227,10 @@ fn greatest(levels: &[u64]) -> u64
     greatest
 }
 
-/// Returns the quantities in `numbers`, extended by one generation of jobs. `numbers` and the
-/// result have, for each class, the quantity of one job and of the jobs that it submits. The result
-/// includes one more generation of submitted jobs than `numbers`. If `numbers` is empty, the result
-/// includes no submitted jobs. `measure` selects the quantity.
+/// Returns, for each class, the quantity of one job of the class, plus the quantities of the jobs
+/// that its body submits. `measure` selects the quantity. `numbers` has, for each class, the
+/// quantity of one submitted job of the class. If this quantity includes n generations of jobs, the
+/// result includes n + 1. If `numbers` is empty, the result includes no submitted jobs.
 fn add_generation(
     alloc: Global,
     plan: &Plan,

@@ -23,8 +23,8 @@ pub enum Owner {
     Pool(usize),
 }
 
-/// Returns the number of the pool of the job that performs the event. `world` is the world before
-/// the event. Returns 0 if no job performs the event, or if the job is not in `world`.
+/// If a job performs the event, returns the number of the job's pool. Returns 0 if no job performs
+/// the event, or if the job is not in `world`. `world` is the world before the event.
 pub(crate) fn pool_of(plan: &Plan, world: &World, event: Event) -> u8
     ensures { (s : State)
         → IsReached plan.now s
@@ -67,7 +67,7 @@ pub(crate) fn owner_by(event: Event, pool: u8) -> Option<Owner>
     }
 }
 
-/// Returns the client kind of each client, in the order of the clients.
+/// Returns, for each client, the index of its client kind.
 ///
 /// # Errors
 ///

@@ -12,7 +12,7 @@ use interleaving::{Event, Outcome};
 use job_bodies::Plan;
 use std::alloc::{AllocError, Global};
 
-/// The replayed part of a history, without a copy of its events.
+/// The result of replaying a history. It does not store the events.
 #[derive(Drop)]
 pub(crate) struct Replay {
     /// The state after the replayed events.
@@ -20,14 +20,16 @@ pub(crate) struct Replay {
     /// For each replayed event, the pool of the job that performed the event, or 0 if no job
     /// performed it. This pool and the event determine the owner of the event.
     pub(crate) pools: Vec<u8>,
-    /// The units of work of the replayed events, or `None` if their number exceeds `u64::MAX`.
+    /// The number of units of work of the replayed events, or `None` if this number exceeds
+    /// `u64::MAX`.
     pub(crate) units: Option<u64>,
     /// Whether the replay ended because memory ran out.
     pub(crate) ended_for_memory: bool,
 }
 
 /// Replays the history from the initial state of the plan. Stops before the first event that is not
-/// possible, or for which there is not enough memory.
+/// possible. Also stops before an event for which there is not enough memory, and then sets
+/// `ended_for_memory` in the result.
 ///
 /// # Errors
 ///

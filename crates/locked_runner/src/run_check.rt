@@ -172,7 +172,8 @@ fn fault_of(
 /// - The history has as many jobs and as many units of work as `numbers` says.
 /// - The lists have exactly one receipt for each event.
 ///
-/// The caller must have checked that each list has only receipts of its own client or pool.
+/// `kinds` has, for each client, the index of its client kind. The caller must have checked that
+/// each list has only receipts of its own client or pool.
 ///
 /// # Errors
 ///

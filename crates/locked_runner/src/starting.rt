@@ -87,8 +87,8 @@ fn run_owners<R: Threads + Wait + Sync, G: Gate>(
 }
 
 /// Runs one thread of `owner`, which is a client or a pool, and returns the thread's receipts.
-/// Stops the run if there is not enough memory for the thread's state, or if the plan has no such
-/// client.
+/// `kinds` has, for each client, the index of its client kind. Stops the run if there is not
+/// enough memory for the thread's state, or if the plan has no such client.
 fn run_one<R: Wait, G: Gate>(
     rt: &R,
     alloc: Global,

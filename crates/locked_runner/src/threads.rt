@@ -44,8 +44,9 @@ impl<'a, 'b, R: Wait, G: Gate> Runner<'a, 'b, R, G> {
         })
     }
 
-    /// Runs the thread of a client, which performs the client's body `rounds` times unless the run
-    /// stops early. Returns the receipts of the thread.
+    /// Runs the thread of the client with this number. The thread performs the client's body
+    /// `rounds` times, unless the run stops early. `client` is the client's kind. Returns the
+    /// receipts of the thread.
     pub(crate) fn run_client(
         mut self,
         client: &Client,

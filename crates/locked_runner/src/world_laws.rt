@@ -1,4 +1,4 @@
-//! Laws of the states that certified plans reach, for every history: no submit is refused.
+//! Laws of certified plans: no history of such a plan has a refused submit.
 
 ghost use Rattle.std.specs.Prelude.{◌≡◌, List};
 ghost use Rattle.written_machine.specs.declared.event.Event.{Event};
