@@ -73,7 +73,7 @@ pub(crate) fn parts_of(alloc: Global, tokens: &[Token]) -> Result<Vec<Part>, All
 }
 
 /// Returns the part that begins at this token, or the header that ends at this token. Returns
-/// `None` if there is neither.
+/// `None` if there is neither. `line` is the state of the parser before the token.
 #[tactic(auto, unfolding(crate::specs::Outline::part_at))]
 fn part_at(line: LineState, token: Token) -> Option<Part>
     ensures { result ≡ part_at line token }

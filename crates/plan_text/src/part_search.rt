@@ -1,5 +1,5 @@
-//! Searches in the outline of a text. Each search finds a part, and returns this part and all later
-//! parts of the text.
+//! Searches in the outline of a text. Each search returns the part that it finds and all later
+//! parts of the text, or `None` if there is no such part.
 
 ghost use Rattle.std.specs.Prelude.{◌≡◌, option_map, drop};
 ghost use Rattle.plan_text.specs.Places.{is_quoted, unquoted, is_named, is_entry, entry_in, key_in, value_in, element_in, header_in, top_in, entry_key_in, start_of_part, start_of};
@@ -74,8 +74,8 @@ fn key_in<'p>(text: &[u8], parts: &'p [Part], name: &str) -> Option<&'p [Part]>
     None
 }
 
-/// Returns the parts after the key with which `parts` begins, if the first of them is the value of
-/// this key. Otherwise returns `parts` unchanged.
+/// Returns the value of a key, and all later parts. `parts` begins with the key. If the key has no
+/// value, returns `parts` unchanged.
 pub(crate) fn value_in(parts: &[Part]) -> &[Part]
     ensures { result.now ≡ value_in parts.now }
 {
@@ -140,7 +140,7 @@ fn after_first(parts: &[Part]) -> &[Part]
     }
 }
 
-/// Returns the offset at which the first of the parts begins.
+/// Returns the offset at which the first of the parts begins, or `None` if there are no parts.
 pub(crate) fn start_of(parts: &[Part]) -> Option<usize>
     ensures { result ≡ start_of parts.now }
 {

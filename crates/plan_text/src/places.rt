@@ -17,8 +17,8 @@ use std::marker::Model;
 /// `[[client]]`. The methods return `None` for a part that the index lacks. The caller can then use
 /// the position of a larger part: for example, the position of the entry instead of that of a key.
 ///
-/// In contracts, an index is the text that it was built for. Definitions such as `key_start` give
-/// offsets in this text, and each method returns the position of the byte at such an offset.
+/// Contracts see an index as the text that it was built for. They state which byte of this text a
+/// method finds, by definitions such as `key_start`.
 #[derive(Drop)]
 pub struct Places<'a> {
     text: &'a [u8],
@@ -109,7 +109,7 @@ impl<'a> Places<'a> {
     }
 }
 
-/// Returns the position of the first of the parts.
+/// Returns the position of the first of the parts, or `None` if there are no parts.
 fn place_of(text: &[u8], parts: &[Part]) -> Option<TextPlace>
     ensures { IsPlaceOf text.now (start_of parts.now) result }
 {

@@ -82,7 +82,7 @@ fn insert_text(alloc: Global, table: &mut Table, key: &str, text: &str) -> Resul
     insert_value(alloc, table, key, value)
 }
 
-/// Stores the texts of the actions of a body at the key `body`.
+/// Stores a body at the key `body`, as an array with a text for each action.
 fn insert_body(
     alloc: Global,
     table: &mut Table,

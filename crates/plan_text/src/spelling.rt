@@ -21,8 +21,8 @@ fn class_name(classes: &[Class], place: usize) -> &str
     }
 }
 
-/// The end of the text of the submit at `position` of `body`. It names the slot of the submit, as
-/// in ` as s2` at position 2. The end is empty if the body has no get of the submit.
+/// The part of a submit's text that names the slot, such as ` as s2` for the submit at position 2
+/// of a body. It is empty if the body has no get of the submit.
 #[derive(Clone, Copy)]
 struct SlotPart<'a> {
     body: &'a [Action],

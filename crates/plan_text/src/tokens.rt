@@ -77,7 +77,7 @@ pub(crate) fn tokens_of(alloc: Global, text: &[u8]) -> Result<Vec<Token>, AllocE
     Ok(tokens)
 }
 
-/// Appends the tokens that the byte ended.
+/// Appends the tokens that ended in this step.
 fn push_ended(tokens: &mut Vec<Token>, step: ByteStep) -> Result<(), AllocError>
     ensures { OnOk result (tokens.new.items
         ≡ tokens.old.items ++ (option_to_list step.before ++ option_to_list step.ended)) }
@@ -192,7 +192,8 @@ fn lines_step(string: OpenString, offset: usize, byte: u8) -> ByteStep
     }
 }
 
-/// Ends a token before this byte. The byte can begin a new one.
+/// Ends the token that began at `start`, and reads `byte` as the first byte after it. `offset` is
+/// the offset of this byte.
 fn end(kind: Kind, start: usize, offset: usize, byte: u8) -> ByteStep
     requires { offset < usize.MAX }
     ensures { result ≡ end kind start offset byte }
@@ -209,7 +210,7 @@ fn end(kind: Kind, start: usize, offset: usize, byte: u8) -> ByteStep
     }
 }
 
-/// Returns the step of a byte that ends no token.
+/// Returns the step of a byte that ends no token. `state` is the state after the byte.
 fn continued(state: OpenToken) -> ByteStep
     ensures { result ≡ continued state }
 {
