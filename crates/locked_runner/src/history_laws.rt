@@ -8,8 +8,9 @@
 ghost use Rattle.locked_runner.specs.RunNumbers.{TotalsAddUp, NumbersAreOfThePlan};
 
 /// States that the total quantity of a job is its own quantity plus the total quantities of the
-/// jobs that its body submits. A quantity is a number of jobs, of units of work or of events. The
-/// law assumes that the certificate's conditions on its ranks hold.
+/// jobs that its body submits. A quantity is a number of jobs, of units of work or of events. A
+/// total quantity includes all jobs that the job submits, directly or through other jobs. The law
+/// assumes that the certificate's conditions on its ranks hold.
 pub fn totals_add_up()
     ensures { TotalsAddUp }
 {}

@@ -96,8 +96,8 @@ fn by_jobs(
     Ok(submitted_by_all(plan, rounds, &numbers))
 }
 
-/// Returns the total quantity of the jobs that the clients submit in all their rounds. `numbers`
-/// has, for each class, the total quantity of one job of the class.
+/// Returns a quantity summed over all jobs of a run. `numbers` has, for each class, the quantity of
+/// one job of the class together with all jobs that it submits, directly or through other jobs.
 fn submitted_by_all(plan: &Plan, rounds: u64, numbers: &[u64]) -> u64
     ensures { (f : ℕ → ℕ)
         → spec.AreCapped plan.now f numbers.now

@@ -72,6 +72,8 @@ fn list_fits(
 ///
 /// - Event n of the history is the receipt's event.
 /// - This event belongs to the owner.
+///
+/// `pools` is as for [`lists_fit`].
 fn receipt_fits(
     _plan: &Plan,
     history: &[Event],

@@ -240,8 +240,9 @@ impl<'a> SharedState<'a> {
         }
     }
 
-    /// Puts a job into its pool's hand-off queue, from which a worker thread takes it, and returns
-    /// the threads to wake. Stops the run if the job's pool is not found or if memory runs out.
+    /// Puts a job into its pool's hand-off queue, and returns the threads to wake. A worker thread
+    /// takes the job from this queue. Stops the run if the job's pool is not found or if memory
+    /// runs out.
     fn hand_off<R: Wait>(&self, rt: &R, guard: &MachineGuard<'a, '_>, job: usize) -> Wakeup {
         let Some(pool) = self.pool_of(guard, job) else {
             return self.end_without_worker(rt);
