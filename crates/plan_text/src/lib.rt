@@ -1,9 +1,10 @@
 //! The text of a plan, which is TOML.
 //!
-//! [`read_plan`] parses a plan, or returns the first fault. [`write_plan`] writes a text of a plan.
+//! [`read_plan`] parses a plan, or returns the first fault. [`write_plan`] writes a plan as text.
 //! If this text has at most [`MAX_PLAN_BYTES`](job_bodies::MAX_PLAN_BYTES) bytes, [`read_plan`] can
 //! parse it. The parsed plan then equals the written plan, except for sizes that have no effect,
 //! such as the capacity of an unbounded queue.
+//!
 //! [`Places`] finds the line and column of each part of a plan in its text.
 #![tactic(auto)]
 
