@@ -1,7 +1,7 @@
 //! The arguments of the command line, and the command that they select.
 //!
-//! `clap` parses the arguments. It returns an error if they are invalid, and also if they ask for
-//! help or for the version. In `specs/`, `Application.antt` defines the application, and
+//! `clap` parses the arguments. It returns an error if it finds them invalid, and also if they ask
+//! for help or for the version. In `specs/`, `Application.antt` defines the application, and
 //! `Command.antt` defines which command the arguments select.
 #![tactic(auto)]
 
