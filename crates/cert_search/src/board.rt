@@ -90,7 +90,7 @@ impl PoolStatuses {
         self.statuses.iter().position(|status| is_free(*status))
     }
 
-    /// Returns whether every pool is done.
+    /// Returns whether vectors were searched for every pool, with or without a result.
     pub(crate) fn are_done(&self) -> bool
         ensures { result ≡ list_all spec.is_done self.now }
     {

@@ -149,8 +149,8 @@ impl ActorTable {
         }
     }
 
-    /// Returns the path of an ended actor, with the length of a prefix. All jobs that this prefix
-    /// submits are settled. Returns `None` if the actor has not ended or is not in the table.
+    /// Returns the path of an ended actor, and how many of its first steps were already found to
+    /// submit only settled jobs. Returns `None` if the actor has not ended or is not in the table.
     pub(crate) fn ended_path(&self, actor: RecordedActor) -> Option<&EndedPath>
         ensures { option_copied result
             ≡ option_and_then (λ kept. kept.ended_path) (in_table self.now actor) }

@@ -62,8 +62,7 @@ pub enum DeviatingStep {
         label: ActorLabel,
         failed_gets: usize,
     },
-    /// The actor ended before a get of its body in the plan. In the recording, the actor got every
-    /// job that it submitted.
+    /// The recorded actor got every job that it submitted, and ended before a get of its body.
     Ends,
 }
 

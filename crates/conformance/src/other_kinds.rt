@@ -33,8 +33,8 @@ impl OtherKinds {
         }
     }
 
-    /// Adds the actor if it is a round that is not counted for the first client kind that its label
-    /// may refer to.
+    /// Adds the round if it is counted for no client kind, or for another one than the first of its
+    /// label's family. Does nothing otherwise, and for a job.
     ///
     /// # Errors
     ///

@@ -10,8 +10,8 @@ use written_machine::Event;
 /// The fixed part of the limit on replayed events. To shorten a script of `n` events, at most
 /// [`WHOLE_REPLAYS`] times `n`, plus `MAX_REPLAYED`, events are replayed.
 const MAX_REPLAYED: u64 = 6_000_000;
-/// The factor of the script's length in the limit on replayed events (see [`MAX_REPLAYED`]). It
-/// allows a long script to be shortened too.
+/// The part of the limit on replayed events that grows with the script: this number for each of its
+/// events (see [`MAX_REPLAYED`]).
 const WHOLE_REPLAYS: u64 = 24;
 /// The maximum number of rounds, each of which tries every kind of removal.
 const MAX_ROUNDS: usize = 8;

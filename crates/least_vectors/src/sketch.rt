@@ -68,12 +68,12 @@ impl Sketch {
         Ok(sketch)
     }
 
-    /// Computes the weights of a job of the class when it is queued and when it is done. If the
-    /// class is submitted, raises the peak of its pool to the largest weight that the job has in
-    /// its body.
+    /// Computes and stores the weights of a job of the class when it is queued and when it is done.
+    /// If a body submits the class, also updates the peak of its pool: the largest weight of a
+    /// running job.
     ///
-    /// If a weight of the job is above `MAX_WEIGHT`, sets the total to [`TOO_HEAVY`] and, if the
-    /// class is never submitted, adds 1 to `overweight_unsubmitted`.
+    /// If a weight of the job is above `MAX_WEIGHT`, the total of the sketch becomes [`TOO_HEAVY`].
+    /// If no body submits the class, `overweight_unsubmitted` then grows by 1.
     fn weigh_class(
         &mut self,
         target: &Target,

@@ -1,4 +1,5 @@
-//! The invalidating events that lines report, and the later lines that discard them.
+//! The invalidating events that lines report, and the lines that discard one: a get that timed out
+//! or was interrupted does not count if the actor's next line gets the same job again.
 
 ghost use Rattle.std.specs.Prelude.{◌≡◌};
 ghost use Rattle.recordings.specs.RecordingLine.{line_view};

@@ -3,8 +3,9 @@
 //! of its core threads that wait at counted gets at once.
 //!
 //! Some members exist only in certain pools. `may_reject` and `rejects_after` exist only if the
-//! plan allows the pool to reject jobs. `rejects_after` is the number of events after which the
-//! pool rejects a job. `core_timeout` exists only if core threads of the pool may time out.
+//! plan allows the pool to reject jobs. `rejects_after` is the length of a list of events that was
+//! found, after which the pool rejects a job. `core_timeout` exists only if core threads of the
+//! pool may time out.
 
 ghost use Rattle.std.specs.Prelude.{◌≡◌, IfOk, IfSome, option_map, map, string_bytes};
 ghost use Rattle.serde_json.specs.Data.{array, string};

@@ -73,13 +73,13 @@ pub fn total_of(plan: &Plan, vector: &Vector) -> Option<u64>
     }
 }
 
-/// Returns whether the total of the bound limits the number of jobs of the pool. If the pool's
-/// queue is bounded, returns `true`: the conditions of a certificate then ensure this limit. If the
-/// queue is unbounded, all of these must hold for the vector of the bound:
+/// Returns whether the total of the bound limits the jobs of the pool. For a standing vector, these
+/// are the jobs in its queue. For a lifetime vector, they are all jobs that it is ever given. If
+/// the pool's queue is bounded, returns `true`: the conditions of a certificate then ensure this
+/// limit. If the queue is unbounded, all of these must hold for the vector of the bound:
 ///
 /// - The vector fits the plan.
-/// - The vector gives each job of the pool a weight of at least 1. A standing vector limits only
-///   the queued jobs, so only queued jobs need this weight.
+/// - Each of these jobs has a weight of at least 1.
 /// - The vector gives no weight to the threads of any pool without a maximum.
 pub(crate) fn bounds_jobs(plan: &Plan, pool: usize, bound: &Bound) -> bool
     ensures { result ≡ spec.bounds_jobs plan.now pool bound.now }

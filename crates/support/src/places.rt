@@ -12,7 +12,7 @@ use std::alloc::AllocError;
 // The number of slots. A power of two, so that the slot of a number needs no division.
 const TABLE_LEN: usize = 256;
 
-/// Returns the index of the slot for `number` in the table.
+/// Returns the index of the slot for `number`: only there does the table of an `IdMap` store it.
 #[inline(always)]
 pub(crate) fn place_of(number: usize) -> usize
     ensures { result ≡ place_of number }
