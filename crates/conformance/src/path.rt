@@ -90,8 +90,8 @@ pub fn match_path(
     }
 }
 
-/// Matches the path against the body. A path with the steps of the body, in the same order, needs no
-/// search. Any other path is matched in joint walks, which go through both together, step by step.
+/// Matches the path against the body. A path with the steps of the body, in the same order, matches
+/// at once. Any other path is matched in joint walks, which go through both together, step by step.
 /// Walks share a state if they have the same open jobs with the same classes. The path deviates at
 /// the first step that no walk can make. The result is undecided if there are more than
 /// [`MAX_OPEN_LISTS`] states after a step.
