@@ -2,7 +2,7 @@
 
 ghost use Rattle.std.specs.Prelude.{◌≡◌, IfOk, IfSome, take};
 ghost use Rattle.written_machine.specs.State.{State};
-ghost use Rattle.written_machine.specs.Reach.{IsReached};
+ghost use Rattle.written_machine.specs.Reach.{start, IsReached};
 ghost use Rattle.interleaving.specs.LiveView.{live_view};
 ghost use Rattle.interleaving.specs.OfPlan.{IsReachableView};
 ghost use Rattle.counterexample.specs.declared.ending.Ending.TheVariants.{Refused};
@@ -60,8 +60,25 @@ pub fn confirmed(
     ensures answer { IfOk result (IsAnswer plan.now events.items members.items standing.now) }
 {
     let mut world = World::start(alloc, plan)?;
-    let replayed = replay(plan, &mut world, &events)?;
-    Ok(witness_of(plan, &world, replayed, events, members, standing))
+    confirmed_in(plan, &mut world, events, members, standing)
+}
+
+/// Checks whether a list of events is a witness, as [`confirmed`] does. Performs the events in
+/// `world`, which must be in the plan's initial state.
+fn confirmed_in(
+    plan: &Plan,
+    world: &mut World,
+    events: Vec<Event>,
+    members: Vec<usize>,
+    standing: &[Vector],
+) -> Result<Option<Witness>, AllocError>
+    requires { world.old.view ≡ live_view plan.now (start plan.now) }
+    ensures witness { IfOk result (λ found.
+        IfSome found (λ witness. IsWitness plan.now witness.events.items witness.ending)) }
+    ensures answer { IfOk result (IsAnswer plan.now events.items members.items standing.now) }
+{
+    let replayed = replay(plan, world, &events)?;
+    Ok(witness_of(plan, world, replayed, events, members, standing))
 }
 
 /// Returns the result of [`confirmed`] for these events, members and vectors. `replayed` is the
