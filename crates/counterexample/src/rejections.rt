@@ -109,14 +109,28 @@ fn until_rejected(
         IfSome found (λ events. spec.EndsRejected plan.now events.items pool)) }
 {
     let mut events = events;
-    let mut world = World::start(alloc, plan)?;
-    match first_rejection(plan, &mut world, &events, pool)? {
+    match length_until_rejected(alloc, plan, &events, pool)? {
         Some(length) => {
             events.truncate(length);
             Ok(Some(events))
         }
         None => Ok(None),
     }
+}
+
+/// Returns the number of events up to and including the first event in which the pool rejects a
+/// job. Returns `None` in the cases of [`until_rejected`].
+fn length_until_rejected(
+    alloc: Global,
+    plan: &Plan,
+    events: &[Event],
+    pool: usize,
+) -> Result<Option<usize>, AllocError>
+    ensures { IfOk result (λ found.
+        IfSome found (λ length. spec.EndsRejected plan.now (take length events.now) pool)) }
+{
+    let mut world = World::start(alloc, plan)?;
+    first_rejection(plan, &mut world, events, pool)
 }
 
 /// Performs the events in `world` until the pool rejects a job, and returns the number of performed
