@@ -137,20 +137,18 @@ impl<'a> Machine<'a> {
     /// `None` at the end of the body. The whole result is `None` if the actor is a queued or done
     /// job, or if the machine does not have the actor.
     pub(crate) fn point(&self, actor: Parent) -> Option<(usize, Option<Action>)> {
+        let position = self.position_of(actor)?;
+        let body = self.body_of(actor)?;
+        Some((position, body.get(position).copied()))
+    }
+
+    fn position_of(&self, actor: Parent) -> Option<usize> {
         match actor {
-            Parent::Client(number) => {
-                let client = self.active_clients.get(number)?;
-                let body = &self.plan.client_at(client.kind)?.body;
-                Some((client.position, body.get(client.position).copied()))
-            }
-            Parent::Job(number) => {
-                let job = self.jobs.get(number)?;
-                let Phase::At(position) = job.phase else {
-                    return None;
-                };
-                let body = &self.plan.class_at(job.class)?.body;
-                Some((position, body.get(position).copied()))
-            }
+            Parent::Client(number) => Some(self.active_clients.get(number)?.position),
+            Parent::Job(number) => match self.jobs.get(number)?.phase {
+                Phase::At(position) => Some(position),
+                Phase::Queued | Phase::Done => None,
+            },
         }
     }
 
