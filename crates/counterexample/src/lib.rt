@@ -28,6 +28,7 @@ mod fingerprints;
 mod laws;
 mod losses;
 mod machine;
+mod next_choices;
 mod no_thread_starts;
 mod orders;
 mod pool_threads;

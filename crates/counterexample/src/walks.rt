@@ -4,7 +4,6 @@
 //! submit forever.
 
 use crate::choices::{Choice, Choices};
-use crate::losses::Losses;
 use crate::machine::{Machine, StepOutcome};
 use crate::orders::{Rng, shuffle};
 use crate::scripts::Script;
@@ -13,11 +12,6 @@ use crate::vectors::Potential;
 use job_bodies::{Action, Plan};
 use std::alloc::{AllocError, Global};
 use written_machine::Parent;
-
-/// The factor by which a walk multiplies the loss of a choice, before it adds the key of the
-/// choice. The walk makes the choice with the least result. The factor is greater than every key,
-/// so the keys decide only among choices with equal losses.
-const FOR_A_LOSS: u64 = 10_000_000_000_000;
 
 /// The violation in which a list of events ends. Every violation except `StuckNow` is *permanent*.
 #[derive(Clone, Copy)]
@@ -213,56 +207,6 @@ impl<'a> Walk<'a> {
             Some(ready.remove(at))
         } else {
             None
-        }
-    }
-
-    /// Returns the index of the choice that the walk makes next, or `None` if no choice is
-    /// possible. Selects the choice that loses the least weight under `potential`. Among choices
-    /// with equal losses, and in a walk without a vector, selects the choice with the least key.
-    ///
-    /// - A choice in `rejected` is returned only if no other choice is possible.
-    /// - A submit to an unbounded queue that is at its limit is never returned.
-    fn first_possible(&self, rules: &Rules, potential: Option<&Potential>) -> Option<usize> {
-        let mut best = None;
-        let mut least = u64::MAX;
-        let mut least_is_late = true;
-        let choices = self.choices.all.iter().zip(&rules.keys).zip(&self.ready);
-        for (place, ((choice, key), ready)) in choices.enumerate() {
-            let is_possible = self.is_possible(rules, *choice, ready);
-            if !is_possible || self.choices.is_at_limit(&self.machine, place) {
-                continue;
-            }
-            let lost = match potential {
-                Some(potential) => Losses::new(&self.machine, potential).of(
-                    *choice,
-                    ready.last().copied(),
-                ),
-                None => 0,
-            };
-            let key = lost.saturating_mul(FOR_A_LOSS).saturating_add(*key);
-            let is_late = self.rejected.contains(&place);
-            let is_better = if is_late == least_is_late {
-                key < least
-            } else {
-                least_is_late
-            };
-            if is_better {
-                least = key;
-                least_is_late = is_late;
-                best = Some(place);
-            }
-        }
-        best
-    }
-
-    fn is_possible(&self, rules: &Rules, choice: Choice, ready: &[Parent]) -> bool {
-        match choice {
-            Choice::Begin(kind) => {
-                self.machine.active_clients() < rules.max_active_clients && self.has_more(kind)
-            }
-            Choice::Take(class) => self.would_take(class),
-            Choice::Retire(pool) => self.machine.can_retire(pool),
-            _ => !ready.is_empty(),
         }
     }
 
