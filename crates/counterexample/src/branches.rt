@@ -53,22 +53,36 @@ impl<'a> Walk<'a> {
     /// - For each other submit, at most [`MAX_ACTORS`] actors are tried.
     pub(crate) fn branches(&self, alloc: Global) -> Result<Vec<Branch>, AllocError> {
         let mut branches = Vec::new(alloc);
-        for (place, (choice, ready)) in self.choices.all.iter().zip(&self.ready).enumerate() {
-            if self.choices.is_at_limit(&self.machine, place) {
-                continue;
-            }
-            let ways = match *choice {
-                Choice::Begin(kind) => usize::from(self.has_more(kind) && !self.has_old(kind)),
-                Choice::Take(class) => usize::from(self.would_take(class)),
-                Choice::Retire(pool) => usize::from(self.machine.can_retire(pool)),
-                Choice::First(_) => ready.len().min(1),
-                Choice::Later(_) | Choice::Inner(_) => ready.len().min(MAX_ACTORS),
-            };
-            for newer in 0..ways {
-                branches.push(Branch { place, newer })?;
-            }
+        for place in 0..self.choices.all.len() {
+            push_branches(&mut branches, place, self.tried_actors(place))?;
         }
         Ok(branches)
+    }
+
+    /// Returns the number of branches that the search tries for the choice with this index, as
+    /// described at [`branches`](Walk::branches).
+    fn tried_actors(&self, place: usize) -> usize {
+        let Some(choice) = self.choices.all.get(place).copied() else {
+            return 0;
+        };
+        if self.choices.is_at_limit(&self.machine, place) {
+            return 0;
+        }
+        match choice {
+            Choice::Begin(kind) => usize::from(self.has_more(kind) && !self.has_old(kind)),
+            Choice::Take(class) => usize::from(self.would_take(class)),
+            Choice::Retire(pool) => usize::from(self.machine.can_retire(pool)),
+            Choice::First(_) => self.ready_actors(place).min(1),
+            Choice::Later(_) | Choice::Inner(_) => self.ready_actors(place).min(MAX_ACTORS),
+        }
+    }
+
+    /// Returns the number of actors that are ready for the choice with this index.
+    fn ready_actors(&self, place: usize) -> usize {
+        match self.ready.get(place) {
+            Some(ready) => ready.len(),
+            None => 0,
+        }
     }
 
     /// Returns `true` if some client of this client kind has started its body again and is at its
@@ -141,4 +155,16 @@ impl<'a> Walk<'a> {
     pub(crate) fn fingerprint(&self, alloc: Global) -> Result<u64, AllocError> {
         fingerprint(alloc, &self.machine, self.choices)
     }
+}
+
+/// Appends the branches of the first `actors` actors for the choice with the index `place`.
+fn push_branches(
+    branches: &mut Vec<Branch>,
+    place: usize,
+    actors: usize,
+) -> Result<(), AllocError> {
+    for newer in 0..actors {
+        branches.push(Branch { place, newer })?;
+    }
+    Ok(())
 }
