@@ -30,6 +30,49 @@ struct Shortener<'a> {
     left: u64,
 }
 
+/// A set of events of a script. The shortening tries to remove all events of a set at once.
+#[derive(Clone, Copy)]
+enum Removal {
+    /// The events in which a thread ends.
+    Retirements,
+    /// The events of jobs.
+    JobSteps,
+    /// The events in which a thread takes a job from a queue.
+    Takes,
+    /// The events of the clients whose numbers are at least `from` and less than `to`.
+    Clients { from: usize, to: usize },
+    /// The events whose indexes are at least `from` and less than `to`.
+    Places { from: usize, to: usize },
+    /// The events equal to `event` whose indexes are at least `from`.
+    Equal { from: usize, event: Event },
+}
+
+impl Removal {
+    /// Returns `true` if the set has this event, whose index in the script is `place`.
+    fn removes(self, place: usize, event: Event) -> bool {
+        match self {
+            Removal::Retirements => matches!(event, Event::Retire(_)),
+            Removal::JobSteps => matches!(event, Event::Job(_)),
+            Removal::Takes => matches!(event, Event::Take(_)),
+            Removal::Clients { from, to } => is_client_between(event, from, to),
+            Removal::Places { from, to } => from <= place && place < to,
+            Removal::Equal {
+                from,
+                event: removed,
+            } => from <= place && event == removed,
+        }
+    }
+}
+
+/// Returns `true` if this is an event of a client whose number is at least `from` and less than
+/// `to`.
+fn is_client_between(event: Event, from: usize, to: usize) -> bool {
+    match event {
+        Event::Client(client) => from <= client && client < to,
+        _ => false,
+    }
+}
+
 /// Shortens a script, which is a list of events that ends in `violation`. The result ends in the
 /// same violation or in a refused submit, and is not longer than the given script.
 pub(crate) fn shorten_script(
@@ -66,16 +109,18 @@ impl Shortener<'_> {
     /// - events of jobs, and
     /// - events in which a thread takes a job from a queue.
     fn without_kinds(&mut self) -> Result<(), AllocError> {
-        if self
-            .script
+        if self.has_retirement() {
+            self.try_without(Removal::Retirements)?;
+        }
+        self.try_without(Removal::JobSteps)?;
+        self.try_without(Removal::Takes)
+    }
+
+    fn has_retirement(&self) -> bool {
+        self.script
             .steps
             .iter()
             .any(|act| matches!(act.event, Event::Retire(_)))
-        {
-            self.try_without(|_, event| matches!(event, Event::Retire(_)))?;
-        }
-        self.try_without(|_, event| matches!(event, Event::Job(_)))?;
-        self.try_without(|_, event| matches!(event, Event::Take(_)))
     }
 
     /// Tries to remove groups of clients with consecutive numbers, large groups before small ones.
@@ -86,10 +131,7 @@ impl Shortener<'_> {
             for chunk in (0..chunks).rev() {
                 let from = chunk.saturating_mul(size);
                 let to = from.saturating_add(size);
-                self.try_without(|_, event| match event {
-                    Event::Client(client) => from <= client && client < to,
-                    _ => false,
-                })?;
+                self.try_without(Removal::Clients { from, to })?;
             }
             if size <= 1 {
                 break;
@@ -107,7 +149,7 @@ impl Shortener<'_> {
             for chunk in (0..chunks).rev() {
                 let from = chunk.saturating_mul(size);
                 let to = from.saturating_add(size);
-                self.try_without(|place, _| from <= place && place < to)?;
+                self.try_without(Removal::Places { from, to })?;
             }
             if size <= 1 {
                 break;
@@ -126,42 +168,38 @@ impl Shortener<'_> {
     fn with_actors_still(&mut self) -> Result<(), AllocError> {
         for from in (0..self.script.steps.len()).rev() {
             if let Some(act) = self.script.steps.get(from).copied() {
-                self.try_without(|place, event| from <= place && event == act.event)?;
+                let event = act.event;
+                self.try_without(Removal::Equal { from, event })?;
             }
         }
         Ok(())
     }
 
-    /// Replays the script without the events for which `is_out` returns `true`. Skips events that
-    /// are no longer possible. Does nothing if the script has more events than may still be
-    /// replayed.
+    /// Replays the script without the events that `removal` removes. Skips events that are no
+    /// longer possible. Does nothing if the script has more events than may still be replayed.
     ///
     /// The performed events become the new script if two conditions hold:
     ///
     /// - There are fewer events than before.
     /// - The events still end in the violation or in a refused submit.
-    fn try_without<F: Fn(usize, Event) -> bool>(&mut self, is_out: F) -> Result<(), AllocError>
-        requires { F.IsAlwaysCallable is_out }
-    {
+    fn try_without(&mut self, removal: Removal) -> Result<(), AllocError> {
         let events = self.script.steps.len() as u64;
         if self.left < events {
             return Ok(());
         }
         self.left = self.left.saturating_sub(events);
-        let kept = self.kept_without(is_out)?;
+        let kept = self.kept_without(removal)?;
         if kept.contains(&false) {
             self.try_replay(&kept)?;
         }
         Ok(())
     }
 
-    /// Returns, for each event of the script, whether `is_out` returns `false` for it.
-    fn kept_without<F: Fn(usize, Event) -> bool>(&self, is_out: F) -> Result<Vec<bool>, AllocError>
-        requires { F.IsAlwaysCallable is_out }
-    {
+    /// Returns, for each event of the script, whether `removal` keeps it.
+    fn kept_without(&self, removal: Removal) -> Result<Vec<bool>, AllocError> {
         let mut kept = Vec::with_capacity(self.alloc, self.script.steps.len())?;
         for (place, act) in self.script.steps.iter().enumerate() {
-            kept.push(!is_out(place, act.event))?;
+            kept.push(!removal.removes(place, act.event))?;
         }
         Ok(kept)
     }
