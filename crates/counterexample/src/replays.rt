@@ -51,6 +51,33 @@ impl<'a> Replay<'a> {
         Ok(replay)
     }
 
+    /// Replays all events of the script in order, as [`of`](Replay::of) does.
+    pub(crate) fn of_whole(
+        alloc: Global,
+        plan: &'a Plan,
+        script: &Script,
+    ) -> Result<Replay<'a>, AllocError> {
+        let kept = vec![in alloc; true; script.steps.len()]?;
+        Replay::of(alloc, plan, script, &kept)
+    }
+
+    /// Returns the numbers of jobs that wait only for each other, in ascending order. The list is
+    /// minimal, unless the work for this exceeds its limit. It is empty if the replay ended in a
+    /// refused submit. If `permanent` is `true`, each pool with one of these jobs in its queue must
+    /// have `max` threads.
+    pub(crate) fn waiting_jobs(
+        &self,
+        alloc: Global,
+        permanent: bool,
+    ) -> Result<Vec<usize>, AllocError> {
+        if self.is_refused {
+            return Ok(Vec::new(alloc));
+        }
+        JobSet::greatest(alloc, &self.machine, permanent)?
+            .made_least(alloc, &self.machine, permanent)?
+            .numbers(alloc)
+    }
+
     /// Returns `true` if the replay ended in the violation `wanted` or in a refused submit. If
     /// `wanted` is [`Violation::StuckNow`], a permanent wait counts too.
     pub(crate) fn has_violation(

@@ -20,7 +20,6 @@ use crate::replays::Replay;
 use crate::scripts::Script;
 use crate::shorten::shorten_script;
 use crate::vectors::{Potential, missed_vectors};
-use crate::waiting_sets::JobSet;
 use crate::walks::{Rules, Violation, perform_walk};
 use job_bodies::Plan;
 use std::alloc::{AllocError, Global};
@@ -227,7 +226,7 @@ impl Search<'_> {
             self.stuck_now = stuck_now;
         }
         match found {
-            Some((script, violation)) => Ok(Some(answer_of(
+            Some((script, violation)) => Ok(Some(candidate_of(
                 self.alloc, self.plan, script, violation,
             )?)),
             None => Ok(None),
@@ -264,7 +263,7 @@ impl Search<'_> {
                 }
                 Ok(None)
             }
-            Some(violation) => Ok(Some(answer_of(
+            Some(violation) => Ok(Some(candidate_of(
                 self.alloc,
                 self.plan,
                 walk_result.script,
@@ -279,7 +278,7 @@ impl Search<'_> {
     fn stuck_now_result(&mut self) -> Result<Option<CandidateWitness>, AllocError> {
         match self.stuck_now.take() {
             Some(script) => {
-                let found = answer_of(self.alloc, self.plan, script, Violation::StuckNow)?;
+                let found = candidate_of(self.alloc, self.plan, script, Violation::StuckNow)?;
                 Ok(Some(found))
             }
             None => Ok(None),
@@ -345,25 +344,29 @@ fn longest_walk(plan: &Plan) -> usize {
 /// Shortens the script, and returns the result as a probable witness. The given script ends in
 /// `violation`. The shorter script ends in the same violation or in a refused submit.
 ///
-/// If jobs wait only for each other once idle threads have ended, the witness also has the events
-/// in which these threads end.
-fn answer_of(
+/// If idle threads must end before the jobs wait only for each other, the witness also has the
+/// events that end these threads.
+fn candidate_of(
     alloc: Global,
     plan: &Plan,
     script: Script,
     violation: Violation,
 ) -> Result<CandidateWitness, AllocError> {
     let script = shorten_script(alloc, plan, script, violation)?;
-    let kept = vec![in alloc; true; script.steps.len()]?;
-    let mut replay = Replay::of(alloc, plan, &script, &kept)?;
-    let members = if replay.is_refused {
-        Vec::new(alloc)
-    } else {
-        let permanent = violation == Violation::StuckForever;
-        JobSet::greatest(alloc, &replay.machine, permanent)?
-            .made_least(alloc, &replay.machine, permanent)?
-            .numbers(alloc)?
-    };
+    let mut replay = Replay::of_whole(alloc, plan, &script)?;
+    candidate_after(alloc, plan, &mut replay, violation)
+}
+
+/// Returns the events of the replay as a probable witness. The replay ends in `violation` or in a
+/// refused submit. If idle threads must end before jobs wait only for each other, first ends these
+/// threads in the replay.
+fn candidate_after(
+    alloc: Global,
+    plan: &Plan,
+    replay: &mut Replay,
+    violation: Violation,
+) -> Result<CandidateWitness, AllocError> {
+    let members = replay.waiting_jobs(alloc, violation == Violation::StuckForever)?;
     replay.end_idle_threads(&members)?;
     Ok(CandidateWitness {
         events: replay.script.events(alloc, plan)?,
