@@ -203,32 +203,32 @@ impl<'a> BestFirst<'a> {
     /// - For each measure, a turn selects the open state that is most promising by this measure.
     /// - After that, a turn selects the oldest open state.
     fn next_open(&mut self, turn: usize) -> Option<usize> {
-        let measures = self.opens.len().saturating_add(1);
-        let measure = turn.checked_rem(measures)?;
-        let number = match self.most_promising(measure) {
-            Some(number) => number,
-            None => self.first_open()?,
-        };
+        let number = self.select_open(turn)?;
         if let Some(node) = self.nodes.get_mut(number) {
             node.is_open = false;
         }
         Some(number)
     }
 
-    fn most_promising(&mut self, measure: usize) -> Option<usize> {
-        let open = self.opens.get_mut(measure)?;
-        for _ in 0..open.len() {
-            let (_, number) = open.pop()?;
-            if self.nodes.get(number).is_some_and(|node| node.is_open) {
-                return Some(number);
-            }
+    /// Returns the number of the open state that [`next_open`](BestFirst::next_open) selects.
+    fn select_open(&mut self, turn: usize) -> Option<usize> {
+        let measures = self.opens.len().saturating_add(1);
+        let promising = self.most_promising(turn.checked_rem(measures)?);
+        if promising.is_some() {
+            promising
+        } else {
+            self.first_open()
         }
-        None
+    }
+
+    fn most_promising(&mut self, measure: usize) -> Option<usize> {
+        let heap = self.opens.get_mut(measure)?;
+        pop_open(heap, &self.nodes)
     }
 
     fn first_open(&mut self) -> Option<usize> {
         for number in self.oldest..self.nodes.len() {
-            if self.nodes.get(number).is_some_and(|node| node.is_open) {
+            if is_open(&self.nodes, number) {
                 self.oldest = number;
                 return Some(number);
             }
@@ -389,5 +389,24 @@ impl<'a> BestFirst<'a> {
         let mut replayed = self.replayed(number)?;
         replayed.walk.choose(branch.place, branch.newer)?;
         Ok(replayed.walk.script)
+    }
+}
+
+/// Removes states from the heap, the most promising first, until it has removed an open state.
+/// Returns the number of this state, or `None` if the heap has no open state.
+fn pop_open(heap: &mut BinaryHeap<(u64, usize), Global>, nodes: &[Node]) -> Option<usize> {
+    for _ in 0..heap.len() {
+        let (_, number) = heap.pop()?;
+        if is_open(nodes, number) {
+            return Some(number);
+        }
+    }
+    None
+}
+
+fn is_open(nodes: &[Node], number: usize) -> bool {
+    match nodes.get(number) {
+        Some(node) => node.is_open,
+        None => false,
     }
 }
