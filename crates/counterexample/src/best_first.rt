@@ -18,6 +18,7 @@
 
 use crate::branches::Branch;
 use crate::choices::Choices;
+use crate::replayed_states::ReplayedState;
 use crate::scripts::Script;
 use crate::vectors::Potential;
 use crate::walks::{Violation, Walk, WalkStep};
@@ -40,36 +41,6 @@ struct Node {
     before: usize,
     branch: Branch,
     is_open: bool,
-}
-
-/// A reached state, recreated by a replay of the branches that lead to it. The search does not
-/// store whole states. For each vector, `lost` has the weight that was lost on the way to the
-/// state.
-#[derive(Drop)]
-struct ReplayedState<'a> {
-    walk: Walk<'a>,
-    lost: Vec<u64>,
-}
-
-impl ReplayedState<'_> {
-    /// Performs the branches of `path` in order. Adds the weight that is lost under each vector in
-    /// `potentials` to the entry of `lost` with the same index.
-    fn perform(&mut self, path: &[Branch], potentials: &[Potential]) -> Result<(), AllocError> {
-        for branch in path {
-            for (lost, potential) in self.lost.iter_mut().zip(potentials) {
-                *lost = lost.saturating_add(self.walk.loss(*branch, potential));
-            }
-            self.walk.choose(branch.place, branch.newer)?;
-        }
-        Ok(())
-    }
-
-    /// Returns the weight that is lost under `potential` on the way from the initial state to the
-    /// successor to which `branch` leads. `potential` is the vector with the number `vector`.
-    fn lost_after(&self, branch: Branch, vector: usize, potential: &Potential) -> u64 {
-        let lost = self.lost.get(vector).copied().unwrap_or(0);
-        lost.saturating_add(self.walk.loss(branch, potential))
-    }
 }
 
 /// The result of a best-first search.
@@ -339,13 +310,9 @@ impl<'a> BestFirst<'a> {
         number: usize,
     ) -> Result<(), AllocError> {
         let potentials = self.potentials;
-        for (measure, open) in self.opens.iter_mut().enumerate() {
-            let cost = match potentials.get(measure) {
-                Some(potential) => replayed.lost_after(branch, measure, potential),
-                None if measure == potentials.len() => walk.moving_threads(),
-                None => walk.least_room(),
-            };
-            open.push((u64::MAX.saturating_sub(cost), number))?;
+        for (measure, heap) in self.opens.iter_mut().enumerate() {
+            let cost = replayed.cost_after(walk, branch, measure, potentials);
+            heap.push((u64::MAX.saturating_sub(cost), number))?;
         }
         Ok(())
     }

@@ -35,6 +35,7 @@ mod pool_threads;
 mod pools;
 mod queue_limits;
 mod rejections;
+mod replayed_states;
 mod replaying;
 mod replays;
 mod rising;
