@@ -46,11 +46,9 @@ struct Node {
 /// The result of a best-first search.
 #[derive(Drop)]
 pub(crate) struct BestFirstResult {
-    /// A permanent violation, if one was found.
+    /// A permanent violation, with the events that lead to it. If the search found none, the first
+    /// violation that is not permanent.
     pub(crate) found: Option<(Script, Violation)>,
-    /// Events after which some jobs wait only for each other. A later event may end this wait.
-    /// `None` if the search found no such events.
-    pub(crate) stuck_now: Option<Script>,
     /// The number of states that the search could still have visited within its limit.
     pub(crate) left: usize,
 }
@@ -74,8 +72,8 @@ pub(crate) fn best_first(
     states: usize,
 ) -> Result<BestFirstResult, AllocError> {
     let mut search = BestFirst::start(alloc, plan, choices, potentials, states)?;
-    let found = search.find()?;
-    Ok(search.into_result(found))
+    search.find()?;
+    Ok(search.into_result())
 }
 
 /// A best-first search in progress. Each state that it has reached takes about 100 bytes: its node,
@@ -96,8 +94,10 @@ struct BestFirst<'a> {
     oldest: usize,
     /// The number of states that the search may still visit.
     left: usize,
-    /// Events after which some jobs wait only for each other. A later event may end their wait.
-    stuck_now: Option<Script>,
+    /// A permanent violation, with the events that lead to it. If there is none, the first violation
+    /// that is not permanent: some jobs wait only for each other, and a later event may end their
+    /// wait.
+    found: Option<(Script, Violation)>,
 }
 
 impl<'a> BestFirst<'a> {
@@ -125,25 +125,24 @@ impl<'a> BestFirst<'a> {
             opens,
             oldest: 0,
             left: states.saturating_sub(1),
-            stuck_now: None,
+            found: None,
         };
         let start = Branch { place: 0, newer: 0 };
         search.add_node(0, start)?;
         Ok(search)
     }
 
-    fn into_result(self, found: Option<(Script, Violation)>) -> BestFirstResult {
+    fn into_result(self) -> BestFirstResult {
         BestFirstResult {
-            found,
-            stuck_now: self.stuck_now,
+            found: self.found,
             left: self.left,
         }
     }
 
     /// Visits the successors of *open* states, those that were not expanded yet, until a permanent
-    /// violation is found, and returns this violation. Returns `None` if the limit of states is
-    /// reached or no open state is left.
-    fn find(&mut self) -> Result<Option<(Script, Violation)>, AllocError> {
+    /// violation is found, the limit of states is reached, or no open state is left. Stores the
+    /// violation in `found`.
+    fn find(&mut self) -> Result<(), AllocError> {
         for turn in 0..usize::MAX {
             if self.left == 0 {
                 break;
@@ -151,11 +150,11 @@ impl<'a> BestFirst<'a> {
             let Some(number) = self.next_open(turn) else {
                 break;
             };
-            if let Some(found) = self.expand(number)? {
-                return Ok(Some(found));
+            if self.expand(number)? {
+                break;
             }
         }
-        Ok(None)
+        Ok(())
     }
 
     fn add_node(&mut self, before: usize, branch: Branch) -> Result<usize, AllocError> {
@@ -207,10 +206,10 @@ impl<'a> BestFirst<'a> {
         None
     }
 
-    /// Visits the successors of the state with this number, within the limit of states. Returns the
-    /// first permanent violation, if there is one, with the events that lead to this violation.
-    /// Stores in `stuck_now` the events of the first violation that is not permanent.
-    fn expand(&mut self, number: usize) -> Result<Option<(Script, Violation)>, AllocError> {
+    /// Visits the successors of the state with this number, within the limit of states, until a
+    /// permanent violation is found. Returns whether one was found. Stores the first violation in
+    /// `found`, and replaces it by a permanent one.
+    fn expand(&mut self, number: usize) -> Result<bool, AllocError> {
         let replayed = self.replayed(number)?;
         let branches = replayed.walk.branches(self.alloc)?;
         self.expand_along(&replayed, number, &branches)
@@ -223,42 +222,38 @@ impl<'a> BestFirst<'a> {
         replayed: &ReplayedState<'a>,
         number: usize,
         branches: &[Branch],
-    ) -> Result<Option<(Script, Violation)>, AllocError> {
+    ) -> Result<bool, AllocError> {
         for branch in branches {
             if self.left == 0 {
                 break;
             }
             self.left = self.left.saturating_sub(1);
             if let Some(violation) = self.visit(replayed, number, *branch)? {
-                let found = self.record_violation(number, *branch, violation)?;
-                if found.is_some() {
-                    return Ok(found);
+                self.record_violation(number, *branch, violation)?;
+                if violation != Violation::StuckNow {
+                    return Ok(true);
                 }
             }
         }
-        Ok(None)
+        Ok(false)
     }
 
-    /// Returns the violation with the events that lead to it, if the violation is permanent.
-    /// Otherwise stores these events in `stuck_now`, and returns `None`. The violation is in the
+    /// Stores the violation, with the events that lead to it, in `found`. The violation is in the
     /// successor to which `branch` leads from the state with this number.
     fn record_violation(
         &mut self,
         number: usize,
         branch: Branch,
         violation: Violation,
-    ) -> Result<Option<(Script, Violation)>, AllocError> {
+    ) -> Result<(), AllocError> {
         let script = self.script_of(number, branch)?;
-        if violation != Violation::StuckNow {
-            return Ok(Some((script, violation)));
-        }
-        self.stuck_now = Some(script);
-        Ok(None)
+        self.found = Some((script, violation));
+        Ok(())
     }
 
     /// Visits the successor to which `branch` leads from the state with this number. Returns the
     /// violation in the successor, if there is one. If the violation is not permanent, returns it
-    /// only if `stuck_now` has no events yet.
+    /// only if `found` has no violation yet.
     ///
     /// Adds the successor to the open states. Skips this if a submit was refused, or if the search
     /// has reached the successor before.
@@ -294,7 +289,7 @@ impl<'a> BestFirst<'a> {
         let next = self.add_node(number, branch)?;
         self.add_open(replayed, walk, branch, next)?;
         if (walk.has_blocked || self.choices.has_core_timeout) && walk.has_closed() {
-            return walk.stuck(self.alloc, self.stuck_now.is_none());
+            return walk.stuck(self.alloc, self.found.is_none());
         }
         Ok(None)
     }

@@ -11,7 +11,7 @@
 
 ghost use Rattle.std.specs.Prelude.{◌≤◌, IfOk};
 
-use crate::best_first::{BestFirstResult, best_first};
+use crate::best_first::best_first;
 use crate::choices::Choices;
 use crate::orders::{FIXED_ORDERS, Rng, fixed_order, shuffle};
 use crate::pools::most_threads;
@@ -20,7 +20,7 @@ use crate::replays::Replay;
 use crate::scripts::Script;
 use crate::shorten::shorten_script;
 use crate::vectors::{Potential, missed_vectors};
-use crate::walks::{Rules, Violation, perform_walk};
+use crate::walks::{Rules, Violation, WalkResult, perform_walk};
 use job_bodies::Plan;
 use std::alloc::{AllocError, Global};
 use written_machine::Event;
@@ -80,10 +80,9 @@ pub fn search_witness(alloc: Global, plan: &Plan, states: usize) -> Result<Searc
         rng: Rng::new(),
         left: states,
         reserved: 0,
-        stuck_now: None,
+        found: None,
     };
     let found = search.find()?;
-    search.release_reserved();
     Ok(SearchResult {
         found,
         states: states.saturating_sub(search.left),
@@ -104,9 +103,10 @@ struct Search<'a> {
     /// The number of states that are reserved for the later stages of the search. They are not
     /// included in `left`.
     reserved: usize,
-    /// Events after which some jobs wait only for each other. A later event may end their wait. The
-    /// search returns these events if it finds no permanent violation.
-    stuck_now: Option<Script>,
+    /// The first permanent violation, with the events that lead to it. If there is none, the first
+    /// violation that is not permanent: some jobs wait only for each other, and a later event may
+    /// end their wait.
+    found: Option<(Script, Violation)>,
 }
 
 impl Search<'_> {
@@ -115,30 +115,27 @@ impl Search<'_> {
     /// violation. If no stage finds one, returns a probable witness for the first other violation,
     /// or `None` if no violation was found.
     fn find(&mut self) -> Result<Option<CandidateWitness>, AllocError> {
-        if let Some(found) = self.in_fixed_orders()? {
-            return Ok(Some(found));
+        if !self.in_fixed_orders()? {
+            self.find_with_vectors()?;
         }
+        self.release_reserved();
+        self.candidate()
+    }
+
+    /// Performs the later stages of [`find`](Search::find): guided walks, walks in random orders,
+    /// and the best-first search.
+    fn find_with_vectors(&mut self) -> Result<(), AllocError> {
         let potentials = missed_vectors(self.alloc, self.plan)?;
         self.find_with(&potentials)
     }
 
-    /// Performs the later stages of [`find`](Search::find): guided walks, walks in random orders,
-    /// and the best-first search. Each vector in `potentials` guides walks, and the first of them
-    /// are also measures of the best-first search.
-    fn find_with(
-        &mut self,
-        potentials: &[Potential],
-    ) -> Result<Option<CandidateWitness>, AllocError> {
-        if let Some(found) = self.search_guided(potentials)? {
-            return Ok(Some(found));
+    /// Performs the stages of [`find_with_vectors`](Search::find_with_vectors). Each vector in
+    /// `potentials` guides walks, and the first of them are also measures of the best-first search.
+    fn find_with(&mut self, potentials: &[Potential]) -> Result<(), AllocError> {
+        if !self.search_guided(potentials)? && !self.random_walks()? {
+            self.best_first(potentials)?;
         }
-        if let Some(found) = self.random_walks()? {
-            return Ok(Some(found));
-        }
-        if let Some(found) = self.best_first(potentials)? {
-            return Ok(Some(found));
-        }
-        self.stuck_now_result()
+        Ok(())
     }
 
     /// Reserves half of the remaining states for the later stages of the search.
@@ -152,100 +149,82 @@ impl Search<'_> {
         self.reserved = 0;
     }
 
-    /// Performs the walks in fixed orders, until one of them finds a permanent violation. The first
-    /// walk may visit all remaining states. The other walks together may visit half of the states
-    /// that then remain. But no walk visits more than [`longest_walk`] states.
-    fn in_fixed_orders(&mut self) -> Result<Option<CandidateWitness>, AllocError> {
+    /// Performs the walks in fixed orders, until one of them finds a permanent violation. Returns
+    /// whether one did. No walk visits more than [`longest_walk`] states. Within this limit, the
+    /// first walk may visit all remaining states, and the other walks together may visit half of
+    /// the states that then remain.
+    fn in_fixed_orders(&mut self) -> Result<bool, AllocError> {
         let first = self.fixed_rules(0)?;
-        if let Some(found) = self.walk_once(first, None)? {
-            return Ok(Some(found));
+        if self.walk_once(first, None)? {
+            return Ok(true);
         }
         self.reserve_half();
         for number in 1..FIXED_ORDERS {
             let rules = self.fixed_rules(number)?;
-            if let Some(found) = self.walk_once(rules, None)? {
-                return Ok(Some(found));
+            if self.walk_once(rules, None)? {
+                return Ok(true);
             }
         }
         self.release_reserved();
-        Ok(None)
+        Ok(false)
     }
 
     /// Performs guided walks for each vector in `potentials`, until a walk finds a permanent
-    /// violation. All these walks together may visit half of the remaining states.
-    fn search_guided(
-        &mut self,
-        potentials: &[Potential],
-    ) -> Result<Option<CandidateWitness>, AllocError> {
+    /// violation. Returns whether one did. All these walks together may visit half of the remaining
+    /// states.
+    fn search_guided(&mut self, potentials: &[Potential]) -> Result<bool, AllocError> {
         self.reserve_half();
         for potential in potentials {
             for number in 0..GUIDED_WALKS {
                 let rules = self.guided_rules(number)?;
-                if let Some(found) = self.walk_once(rules, Some(potential))? {
-                    return Ok(Some(found));
+                if self.walk_once(rules, Some(potential))? {
+                    return Ok(true);
                 }
             }
         }
         self.release_reserved();
-        Ok(None)
+        Ok(false)
     }
 
-    /// Performs the walks in random orders, until one of them finds a permanent violation. All
-    /// these walks together may visit half of the remaining states.
-    fn random_walks(&mut self) -> Result<Option<CandidateWitness>, AllocError> {
+    /// Performs the walks in random orders, until one of them finds a permanent violation. Returns
+    /// whether one did. All these walks together may visit half of the remaining states.
+    fn random_walks(&mut self) -> Result<bool, AllocError> {
         self.reserve_half();
         for number in 0..RANDOM_WALKS {
             let rules = self.random_rules(number)?;
-            if let Some(found) = self.walk_once(rules, None)? {
-                return Ok(Some(found));
+            if self.walk_once(rules, None)? {
+                return Ok(true);
             }
         }
         self.release_reserved();
-        Ok(None)
+        Ok(false)
     }
 
-    /// Performs the best-first search, which may visit all remaining states. Returns a probable
-    /// witness if the search finds a permanent violation. The search can also find a violation that
-    /// is not permanent. If `stuck_now` has no events yet, stores the events of this violation
-    /// there.
-    fn best_first(
-        &mut self,
-        potentials: &[Potential],
-    ) -> Result<Option<CandidateWitness>, AllocError> {
+    /// Performs the best-first search, which may visit all remaining states. Records the violation
+    /// that it finds, if any.
+    fn best_first(&mut self, potentials: &[Potential]) -> Result<(), AllocError> {
         if self.left == 0 {
-            return Ok(None);
+            return Ok(());
         }
         let best = best_first(self.alloc, self.plan, &self.choices, potentials, self.left)?;
-        let BestFirstResult {
-            found,
-            stuck_now,
-            left,
-        } = best;
-        self.left = left;
-        if self.stuck_now.is_none() {
-            self.stuck_now = stuck_now;
+        self.left = best.left;
+        if let Some((script, violation)) = best.found {
+            self.record(script, violation);
         }
-        match found {
-            Some((script, violation)) => Ok(Some(candidate_of(
-                self.alloc, self.plan, script, violation,
-            )?)),
-            None => Ok(None),
-        }
+        Ok(())
     }
 
     /// Performs a walk by these rules. If `potential` is given, this vector guides the walk.
-    /// Returns a probable witness if the walk finds a permanent violation. The walk can also find a
-    /// violation that is not permanent. If `stuck_now` has no events yet, stores the events of this
-    /// violation there.
+    /// Records the violation that the walk finds, if any, and returns whether it is permanent.
     fn walk_once(
         &mut self,
         rules: Rules,
         potential: Option<&Potential>,
-    ) -> Result<Option<CandidateWitness>, AllocError> {
+    ) -> Result<bool, AllocError> {
         let mut rules = rules;
         rules.max_states = rules.max_states.min(self.left);
         if rules.max_states == 0 {
-            return Ok(None);
+            return Ok(false);
         }
         let walk_result = perform_walk(
             self.alloc,
@@ -255,30 +234,34 @@ impl Search<'_> {
             potential,
             &mut self.rng,
         )?;
+        Ok(self.record_walk(walk_result))
+    }
+
+    /// Records the violation that the walk found, if any, and subtracts the visited states from
+    /// those that the search may still visit. Returns whether the violation is permanent.
+    fn record_walk(&mut self, walk_result: WalkResult) -> bool {
         self.left = self.left.saturating_sub(walk_result.states);
         match walk_result.violation {
-            Some(Violation::StuckNow) => {
-                if self.stuck_now.is_none() {
-                    self.stuck_now = Some(walk_result.script);
-                }
-                Ok(None)
-            }
-            Some(violation) => Ok(Some(candidate_of(
-                self.alloc,
-                self.plan,
-                walk_result.script,
-                violation,
-            )?)),
-            None => Ok(None),
+            Some(violation) => self.record(walk_result.script, violation),
+            None => false,
         }
     }
 
-    /// Returns the result of a search that found no permanent violation. The result is a probable
-    /// witness made from the events in `stuck_now`, or `None` if there are no such events.
-    fn stuck_now_result(&mut self) -> Result<Option<CandidateWitness>, AllocError> {
-        match self.stuck_now.take() {
-            Some(script) => {
-                let found = candidate_of(self.alloc, self.plan, script, Violation::StuckNow)?;
+    /// Stores the violation, with the events that lead to it, in `found`, and returns whether it is
+    /// permanent. If it is not permanent and `found` has a violation already, stores nothing.
+    fn record(&mut self, script: Script, violation: Violation) -> bool {
+        let is_permanent = violation != Violation::StuckNow;
+        if is_permanent || self.found.is_none() {
+            self.found = Some((script, violation));
+        }
+        is_permanent
+    }
+
+    /// Returns a probable witness for the violation in `found`, or `None` if there is none.
+    fn candidate(&mut self) -> Result<Option<CandidateWitness>, AllocError> {
+        match self.found.take() {
+            Some((script, violation)) => {
+                let found = candidate_of(self.alloc, self.plan, script, violation)?;
                 Ok(Some(found))
             }
             None => Ok(None),
