@@ -3,6 +3,9 @@
 use std::alloc::{AllocError, Global};
 use strsim::osa_distance;
 
+/// The maximum number of words in a list.
+const MAX_LISTED: usize = 12;
+
 /// Returns one of `words` that is similar to `written`, or `None` if there is none. A word is
 /// similar if it differs from `written` and one of these conditions holds:
 ///
@@ -17,21 +20,24 @@ pub(crate) fn nearest<'w>(
     words: &[&'w str],
 ) -> Result<Option<&'w str>, AllocError> {
     let mut best = None;
-    let mut least = (written.len() / 3).max(1);
-    for word in words.iter().copied() {
-        if written.len() > 2 && word.starts_with(written) && word != written {
-            return Ok(Some(word));
-        }
-        let distance = osa_distance(alloc, written, word)?;
-        if distance <= least && word != written {
-            best = Some(word);
-            least = distance.saturating_sub(1);
-            if distance == 1 {
-                return Ok(best);
-            }
+    let mut most = (written.len() / 3).max(1);
+    for word in words {
+        let distance = distance_of(alloc, written, *word)?;
+        if 0 < distance && distance <= most {
+            best = Some(*word);
+            most = distance - 1;
         }
     }
     Ok(best)
+}
+
+/// Returns the edit distance of the two words. If `word` is longer than `written` and starts with
+/// it, and `written` has at least 3 bytes, returns 1.
+fn distance_of(alloc: Global, written: &str, word: &str) -> Result<usize, AllocError> {
+    if 2 < written.len() && written.len() < word.len() && word.starts_with(written) {
+        return Ok(1);
+    }
+    osa_distance(alloc, written, word)
 }
 
 /// Returns a suggestion, such as `; did you mean rows?`, if one of `words` is similar to `written`
@@ -50,16 +56,9 @@ pub(crate) fn suggestion(
 
 /// Returns the first 12 words, separated by commas. If there are more than 12, `, ..` follows.
 pub(crate) fn comma_list(alloc: Global, words: &[&str]) -> Result<String, AllocError> {
-    let mut list = String::new(alloc);
-    for (number, word) in words.iter().copied().enumerate() {
-        if number == 12 {
-            list.push_str(", ..")?;
-            return Ok(list);
-        }
-        if number > 0 {
-            list.push_str(", ")?;
-        }
-        list.push_str(word)?;
+    if words.len() <= MAX_LISTED {
+        return words.join(alloc, ", ");
     }
-    Ok(list)
+    let first = words[..MAX_LISTED].join(alloc, ", ")?;
+    format!(in alloc; "{first}, ..")
 }
