@@ -92,12 +92,11 @@ fn parse_get(words: Words<'_>) -> Option<ParsedAction<'_>> {
 /// Returns whether the text is a valid length of a `work` action: a number from 1 to 1,000,000
 /// without a leading zero.
 fn is_length(text: &str) -> bool {
-    let bytes = text.as_bytes();
-    if bytes.first() == Some(&b'0') || !bytes.iter().all(|byte| byte.is_ascii_digit()) {
+    if !matches!(text.as_bytes().first(), Some(b'1'..=b'9')) {
         return false;
     }
     match text.parse::<u32>() {
-        Ok(units) => 1 <= units && u64::from(units) <= MAX_WORK,
+        Ok(units) => u64::from(units) <= MAX_WORK,
         Err(_) => false,
     }
 }
@@ -146,15 +145,7 @@ pub(crate) fn action_error(alloc: Global, text: &str) -> Result<String, AllocErr
 /// Returns whether the text has wrong spaces: a tab, two spaces in sequence, or a space at its
 /// start or end.
 fn is_spaced(text: &str) -> bool {
-    let bytes = text.as_bytes();
-    let mut last = b' ';
-    for byte in bytes.iter().copied() {
-        if byte == b'\t' || (byte == b' ' && last == b' ') {
-            return true;
-        }
-        last = byte;
-    }
-    !bytes.is_empty() && last == b' '
+    text.contains('\t') || text.contains("  ") || text.starts_with(' ') || text.ends_with(' ')
 }
 
 /// Returns whether the text looks like several actions, such as `work 1, work 2`. Such a text has
