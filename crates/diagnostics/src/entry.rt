@@ -4,7 +4,7 @@ use crate::collector::FaultCollector;
 use crate::diagnostic::{Diagnostic, NumberRange};
 use job_bodies::{Part, PlanFault};
 use plan_text::{Places, TextPlace};
-use std::alloc::{AllocError, Global};
+use std::alloc::AllocError;
 use toml::{Table, Value};
 
 /// The beginning of a text.
@@ -71,13 +71,13 @@ impl<'a> PlacedEntry<'a> {
         }
     }
 
-    /// Returns the kind and the name of the entry for messages, such as `pool db`. If the entry has
-    /// no name, returns `this` and the kind, such as `this pool`.
-    pub(crate) fn kind_and_name(&self, alloc: Global) -> Result<String, AllocError> {
+    /// Returns the two words with which messages name the entry: its kind and its name, such as
+    /// `pool` and `db`. If the entry has no name, returns `this` and the kind.
+    fn kind_and_name(&self) -> (&'static str, &'a str) {
         let list = list_of(self.part);
         match self.text("name") {
-            Some(name) => format!(in alloc; "{list} {name}"),
-            None => format!(in alloc; "this {list}"),
+            Some(name) => (list, name),
+            None => ("this", list),
         }
     }
 
@@ -135,8 +135,8 @@ impl<'a> PlacedEntry<'a> {
         words: &str,
         range: Option<NumberRange>,
     ) -> Result<(), AllocError> {
-        let who = self.kind_and_name(collector.alloc)?;
-        let what = format!(in collector.alloc; "{who}: {words}")?;
+        let (kind, name) = self.kind_and_name();
+        let what = format!(in collector.alloc; "{kind} {name}: {words}")?;
         let fault = PlanFault::at_entry(self.part, self.index, number);
         collector.push(Diagnostic {
             fault,
@@ -159,8 +159,10 @@ impl<'a> PlacedEntry<'a> {
         words: &str,
         range: Option<NumberRange>,
     ) -> Result<(), AllocError> {
-        let who = self.kind_and_name(collector.alloc)?;
-        let what = format!(in collector.alloc; "{who}, action {action} \"{text}\": {words}")?;
+        let (kind, name) = self.kind_and_name();
+        let what = format!(in collector.alloc;
+            "{kind} {name}, action {action} \"{text}\": {words}"
+        )?;
         let fault = PlanFault::at_action(self.part, self.index, action, number);
         collector.push(Diagnostic {
             fault,
