@@ -34,12 +34,12 @@ fn out_of_range(
     keys: &[&str],
 ) -> Result<bool, AllocError> {
     let mut any = false;
-    for key in keys.iter().copied() {
-        if let Some(number) = entry.number(key)
-            && !is_in_range(least(entry, key), number)
+    for key in keys {
+        if let Some(number) = entry.number(*key)
+            && !is_in_range(least(entry, *key), number)
         {
             any = true;
-            report_number(collector, entry, key, number)?;
+            report_number(collector, entry, *key, number)?;
         }
     }
     Ok(any)
