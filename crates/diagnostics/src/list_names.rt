@@ -44,7 +44,7 @@ impl<'a> ListNames<'a> {
     }
 
     pub(crate) fn contains(&self, name: &str) -> bool {
-        self.names.iter().any(|known| *known == name)
+        self.names.contains(&name)
     }
 
     /// Returns the message for a name that no entry has. If `self.names` has all names of the list,

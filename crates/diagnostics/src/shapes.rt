@@ -105,7 +105,7 @@ pub(crate) fn unknown_keys(
 
 /// Returns whether an entry of this kind can have this key.
 pub(crate) fn has_key(part: Part, key: &str) -> bool {
-    keys_of(part).iter().any(|rule| *rule == key)
+    keys_of(part).contains(&key)
 }
 
 fn unknown_key(
