@@ -141,8 +141,8 @@ pub(crate) fn values(
     collector: &mut FaultCollector,
     entry: &PlacedEntry<'_>,
 ) -> Result<(), AllocError> {
-    for key in keys_of(entry.part).iter().copied() {
-        if let Some(rule) = key_rule(key) {
+    for key in keys_of(entry.part) {
+        if let Some(rule) = key_rule(*key) {
             value(collector, entry, rule)?;
         }
     }
