@@ -14,7 +14,7 @@ use std::alloc::{AllocError, Global};
 
 /// Returns the lint's message: what was found in the plan, and what this means for the program's
 /// answer, such as SAFE. `place` is the lint's place in the plan's text. If the plan does not have
-/// the entry that the lint names, the message can be empty.
+/// the entry that the lint names, the message can be empty or lack a name.
 pub(crate) fn words_of(
     alloc: Global,
     text: &[u8],
@@ -234,20 +234,14 @@ fn pool_of_class(plan: &Plan, class: usize) -> &str {
 }
 
 fn words_of_last_thread(alloc: Global, plan: &Plan, number: usize) -> Result<String, AllocError> {
-    let Some(pool) = plan.pool_at(number) else {
-        return Ok(String::new(alloc));
-    };
-    let name = pool.name.as_str();
+    let name = plan.pool_name(number);
     format!(in alloc;
         "pool {name}: its last thread may wait for a job of this pool, since core threads may time out: do not allow it, or give the inner jobs a pool of their own"
     )
 }
 
 fn words_of_idle_pool(alloc: Global, plan: &Plan, number: usize) -> Result<String, AllocError> {
-    let Some(pool) = plan.pool_at(number) else {
-        return Ok(String::new(alloc));
-    };
-    let name = pool.name.as_str();
+    let name = plan.pool_name(number);
     format!(in alloc; "no job is ever submitted to pool {name}, so its sizes do not matter")
 }
 
@@ -285,44 +279,28 @@ fn words_of_key(
     number: usize,
     most: u64,
 ) -> Result<String, AllocError> {
-    let Some(pool) = plan.pool_at(number) else {
-        return Ok(String::new(alloc));
-    };
-    let name = pool.name.as_str();
-    if most == 1 {
-        return format!(in alloc;
-            "pool {name}: may_reject has no effect: at most 1 job waits in its queue at once"
-        );
-    }
+    let name = plan.pool_name(number);
+    let jobs = if most == 1 { "job waits" } else { "jobs wait" };
     format!(in alloc;
-        "pool {name}: may_reject has no effect: at most {most} jobs wait in its queue at once"
+        "pool {name}: may_reject has no effect: at most {most} {jobs} in its queue at once"
     )
 }
 
 fn words_of_unbounded(alloc: Global, plan: &Plan, number: usize) -> Result<String, AllocError> {
-    let Some(pool) = plan.pool_at(number) else {
-        return Ok(String::new(alloc));
-    };
-    let name = pool.name.as_str();
+    let name = plan.pool_name(number);
     format!(in alloc; "pool {name}: may_reject has no effect: its queue is unbounded")
 }
 
 fn words_of_handler(alloc: Global, plan: &Plan, number: usize) -> Result<String, AllocError> {
-    let Some(class) = plan.class_at(number) else {
-        return Ok(String::new(alloc));
-    };
-    let name = class.name.as_str();
-    let pool = plan.pool_name(class.pool);
+    let name = plan.class_name(number);
+    let pool = pool_of_class(plan, number);
     format!(in alloc;
         "class {name}: if the handler of pool {pool} runs it in the caller (CallerRunsPolicy), write its body in place"
     )
 }
 
 fn words_of_class(alloc: Global, plan: &Plan, number: usize) -> Result<String, AllocError> {
-    let Some(class) = plan.class_at(number) else {
-        return Ok(String::new(alloc));
-    };
-    let name = class.name.as_str();
+    let name = plan.class_name(number);
     format!(in alloc;
         "class {name} is never submitted, neither by a client nor by a job that a client causes"
     )
