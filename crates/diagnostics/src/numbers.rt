@@ -56,12 +56,24 @@ fn report_number(
     let words = format!(in collector.alloc;
         "{key} is {number}, but must be from {low} to {MOST}{hint}"
     )?;
+    report_range(collector, entry, key, low, &words)
+}
+
+/// Reports the number at the key, with the range of valid numbers. `low` is the low end of the
+/// range.
+fn report_range(
+    collector: &mut FaultCollector,
+    entry: &PlacedEntry<'_>,
+    key: &str,
+    low: u64,
+    words: &str,
+) -> Result<(), AllocError> {
     let range = NumberRange {
         low,
         high: MAX_SIZE,
     };
     let place = entry.value_place(key);
-    entry.report_with_range(collector, BAD_NUMBER, place, &words, Some(range))
+    entry.report_with_range(collector, BAD_NUMBER, place, words, Some(range))
 }
 
 /// Returns the end of the message for a number that is out of range. The end is empty if there is
@@ -124,12 +136,7 @@ fn unbounded_max(collector: &mut FaultCollector, pool: &PlacedEntry<'_>) -> Resu
     let words = format!(in collector.alloc;
         "max is \"unbounded\", but must be from {low} to {MOST}{hint}"
     )?;
-    let range = NumberRange {
-        low,
-        high: MAX_SIZE,
-    };
-    let place = pool.value_place("max");
-    pool.report_with_range(collector, BAD_NUMBER, place, &words, Some(range))
+    report_range(collector, pool, "max", low, &words)
 }
 
 /// Returns the least valid maximum of the pool. This is its core size, or 1 if the pool has no
@@ -151,17 +158,7 @@ fn max_below_core(
     let words = format!(in collector.alloc;
         "max {max} is less than core {core}, but must be from {core} to {MOST}{hint}"
     )?;
-    let range = NumberRange {
-        low: core.unsigned_abs(),
-        high: MAX_SIZE,
-    };
-    pool.report_with_range(
-        collector,
-        BAD_NUMBER,
-        pool.value_place("max"),
-        &words,
-        Some(range),
-    )
+    report_range(collector, pool, "max", core.unsigned_abs(), &words)
 }
 
 /// Reports the count of a client kind if it is out of range.
