@@ -139,9 +139,22 @@ fn unknown_list(
     }
     let right = list_suggestion(collector.alloc, key)?;
     let what = format!(in collector.alloc; "unknown key {key}{right}")?;
+    let fault = PlanFault::at_text(UNKNOWN_KEY);
+    report_at(collector, fault, key, places, what)
+}
+
+/// Reports a fault at this key at the top level. If the text does not have the key, the place of
+/// the fault is the beginning of the text.
+fn report_at(
+    collector: &mut FaultCollector,
+    fault: PlanFault,
+    key: &str,
+    places: &Places<'_>,
+    what: String,
+) -> Result<(), AllocError> {
     let place = places.top(key).unwrap_or(BEGINNING);
     collector.push(Diagnostic {
-        fault: PlanFault::at_text(UNKNOWN_KEY),
+        fault,
         place,
         what,
         range: None,
@@ -211,13 +224,8 @@ fn no_list(
     let what = format!(in collector.alloc;
         "write [[{list}]] with two brackets: {list} is an array of tables"
     )?;
-    let place = places.top(list).unwrap_or(BEGINNING);
-    collector.push(Diagnostic {
-        fault: PlanFault::at_text(WRONG_TYPE),
-        place,
-        what,
-        range: None,
-    })
+    let fault = PlanFault::at_text(WRONG_TYPE);
+    report_at(collector, fault, list, places, what)
 }
 
 /// Reports the faults in the keys and the name of an entry. `before` has the earlier entries of the
@@ -267,13 +275,8 @@ fn no_table(
     let what = format!(in collector.alloc;
         "{list} must be a table, not {an} {found}: write [[{list}]]"
     )?;
-    let place = places.top(list).unwrap_or(BEGINNING);
-    collector.push(Diagnostic {
-        fault: PlanFault::at_entry(part, index, WRONG_TYPE),
-        place,
-        what,
-        range: None,
-    })
+    let fault = PlanFault::at_entry(part, index, WRONG_TYPE);
+    report_at(collector, fault, list, places, what)
 }
 
 /// Returns the names of the entries of a list. `entries` has those entries that are tables.
