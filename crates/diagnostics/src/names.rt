@@ -65,11 +65,8 @@ fn well_formed_name(alloc: Global, name: &str) -> Result<String, AllocError> {
     let mut similar = String::new(alloc);
     for letter in name.chars() {
         let small = letter.to_ascii_lowercase();
-        if small.is_ascii_lowercase() || small.is_ascii_digit() {
-            similar.push(small)?;
-        } else {
-            similar.push('_')?;
-        }
+        let is_valid = small.is_ascii_lowercase() || small.is_ascii_digit();
+        similar.push(if is_valid { small } else { '_' })?;
     }
     Ok(similar)
 }
