@@ -66,7 +66,7 @@ impl<'a> PlacedEntry<'a> {
     /// Returns whether the value at the key is `true`.
     pub(crate) fn is_set(&self, key: &str) -> bool {
         match self.table.get(key) {
-            Some(value) => value.as_bool() == Some(true),
+            Some(value) => value.as_bool().unwrap_or(false),
             None => false,
         }
     }
