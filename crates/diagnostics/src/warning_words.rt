@@ -114,27 +114,25 @@ fn words_of_submit(
     number: usize,
     action: usize,
 ) -> Result<String, AllocError> {
-    let Some((kind, name, body)) = entry_of(plan, part, number) else {
-        return Ok(String::new(alloc));
-    };
+    let (kind, name, body) = entry_of(plan, part, number);
     let submit = submit_text(alloc, text, place, plan, body, action)?;
     format!(in alloc;
         "{kind} {name}, action {action} \"{submit}\": no get waits for this job, so the number of these jobs has no limit"
     )
 }
 
-/// Finds the client kind or class with this number. Returns the word `client` or `class`, the name,
-/// and the body. Returns `None` if there is no such client kind or class.
-fn entry_of(plan: &Plan, part: Part, number: usize) -> Option<(&'static str, &str, &[Action])> {
+/// Returns the word `client` or `class`, and the name and the body of the client kind or class with
+/// this number. If there is no such client kind or class, the name and the body are empty.
+fn entry_of(plan: &Plan, part: Part, number: usize) -> (&'static str, &str, &[Action]) {
     match part {
-        Part::Client => {
-            let client = plan.client_at(number)?;
-            Some(("client", client.name.as_str(), client.body.as_slice()))
-        }
-        _ => {
-            let class = plan.class_at(number)?;
-            Some(("class", class.name.as_str(), class.body.as_slice()))
-        }
+        Part::Client => match plan.client_at(number) {
+            Some(client) => ("client", client.name.as_str(), client.body.as_slice()),
+            None => ("client", "", &[]),
+        },
+        _ => match plan.class_at(number) {
+            Some(class) => ("class", class.name.as_str(), class.body.as_slice()),
+            None => ("class", "", &[]),
+        },
     }
 }
 
@@ -147,9 +145,7 @@ fn words_of_future(
     number: usize,
     action: usize,
 ) -> Result<String, AllocError> {
-    let Some((kind, name, body)) = entry_of(plan, part, number) else {
-        return Ok(String::new(alloc));
-    };
+    let (kind, name, body) = entry_of(plan, part, number);
     let submit = submit_text(alloc, text, place, plan, body, action)?;
     let open = open_class(plan, body, action);
     format!(in alloc;
@@ -164,9 +160,7 @@ fn words_of_growth(
     number: usize,
     action: usize,
 ) -> Result<String, AllocError> {
-    let Some((kind, name, body)) = entry_of(plan, part, number) else {
-        return Ok(String::new(alloc));
-    };
+    let (kind, name, body) = entry_of(plan, part, number);
     let class = submitted_name(plan, body, action);
     let pool = pool_submitted_to(plan, body, action);
     format!(in alloc;
