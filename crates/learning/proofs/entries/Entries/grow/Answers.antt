@@ -1,6 +1,6 @@
-use Rattle.std.proofs.Common.{◌≡◌, length, arith, ap, subst, sym, ◌∙◌}
+use Rattle.std.proofs.Common.{length, arith, ap, subst, sym, ◌∙◌}
 use Rattle.learning.specs.declared.entries.Entries.{Entries}
-use Rattle.learning.specs.LearningState.{AreEntriesOf, IsLearnError}
+use Rattle.learning.specs.LearningState.{AreEntriesOf}
 use Rattle.learning.proofs.entries.Entries.grow.Goals.{then-is_free+in_ok-assignment+in_default, else-is_free}
 use Rattle.learning.proofs.entries.Entries.grow.Goals as goal
 
