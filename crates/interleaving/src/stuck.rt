@@ -1,6 +1,6 @@
 //! Waiting sets: sets of jobs that wait only for each other.
 
-ghost use Rattle.std.specs.Prelude.{◌≡◌, ◌<◌, ◌↔◌, true, false, length, IsTrue};
+ghost use Rattle.std.specs.Prelude.{◌≡◌, ◌<◌, ◌↔◌, true, false, length, IsTrue, slice_get};
 ghost use Rattle.job_bodies.specs.WellFormed.{IsWellFormed};
 ghost use Rattle.written_machine.specs.declared.parent.Parent.TheVariants as parent;
 ghost use Rattle.written_machine.specs.State.{State};
@@ -8,7 +8,7 @@ ghost use Rattle.written_machine.specs.Reach.{IsReached};
 ghost use Rattle.written_machine.specs.Waiting.{is_none, is_some_member, IsWaitingSet, is_waiting_set};
 ghost use Rattle.interleaving.specs.LiveView.{live_view};
 ghost use Rattle.interleaving.specs.ViewStep.{pool_in, live_job, live_child, may_get_in};
-ghost use Rattle.interleaving.specs.Waiting.{is_waiting_set_in};
+ghost use Rattle.interleaving.specs.Waiting.{is_waiting_set_in, waits_at_in};
 ghost use Rattle.interleaving.specs.Stuck.{job_waits_unless_queued, unqueued_wait, QueuesWait};
 ghost use Rattle.interleaving.specs.PoolActivity.{pool_queue_waits};
 
@@ -78,11 +78,30 @@ impl World {
         };
         match job.phase {
             Phase::Queued => true,
-            Phase::At(position) => match body_of_class(plan.classes(), job.class).get(position) {
-                Some(Action::Get(submit)) => self.waits_for_member(members, number, *submit),
-                _ => false,
-            },
+            Phase::At(position) => {
+                let body = body_of_class(plan.classes(), job.class);
+                self.waits_at(members, number, body, position)
+            }
             Phase::Done => false,
+        }
+    }
+
+    // Returns `true` if the action at this position of the job's body is a get of a member.
+    fn waits_at(
+        &self,
+        members: &Members<'_>,
+        number: usize,
+        body: &[Action],
+        position: usize,
+    ) -> bool
+        requires { may_get_in self.now.view.jobs (parent.Job number) ≡ true }
+        ensures { result
+            ≡ waits_at_in self.now.view members.now (parent.Job number)
+            (slice_get body.now position) }
+    {
+        match body.get(position) {
+            Some(Action::Get(submit)) => self.waits_for_member(members, number, *submit),
+            _ => false,
         }
     }
 

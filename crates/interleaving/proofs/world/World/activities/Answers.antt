@@ -1,5 +1,5 @@
-use Rattle.std.proofs.Common.{◌≡◌, ℕ, ◌+◌, ◌≤◌, Bool, not, List, [], ◌∷◌, ◌++◌, length, take, set, get_or, Some, None, sym, ap, ap₂, subst, ◌∙◌, le_refl, arith, length-set}
-use Rattle.std.proofs.lemmas.List.{get_or-replicate, length-replicate, take_more}
+use Rattle.std.proofs.Common.{◌≡◌, ℕ, ◌+◌, ◌<◌, ◌≤◌, Bool, not, List, [], ◌∷◌, ◌++◌, length, take, set, get_or, Some, None, sym, ap, ap₂, subst, ◌∙◌, le_refl, arith, length-set}
+use Rattle.std.proofs.lemmas.List.{get_or-replicate, length-replicate, take_all, take_more}
 use Rattle.written_machine.specs.State.{pool_of}
 use Rattle.written_machine.specs.Waiting.{is_member}
 use Rattle.interleaving.specs.LiveView.{View}
@@ -63,3 +63,51 @@ loop-place-preserved c =
                 ),
           )
     ]
+
+pub bounds-activities-pool : goal.bounds-activities-pool
+bounds-activities-pool c =
+    let view : View = c.args.self.now.view in
+    let members : List ℕ = c.args.members.now in
+    let place : ℕ = c.loop-place.place in
+    let m = get_or members place 0 in
+    let number : get_or c.numbers-number-items.result.now place 0 ≡ m = ap (λ (ns : List ℕ). get_or ns place 0) c.numbers-number-items.ensures in
+    let jobs : c.self.inside.jobs.jobs ≡ view.jobs = ap (λ (w : WorldValue). w.view.jobs) c.self.view_is in
+    let seen : c.get.result ≡ live_job view.jobs m = c.get.ensures ∙ ap₂ live_job jobs number in
+    let in_plan = pool_of_live_job c.args.plan.now view m c.in-Some.job c.requires.of_plan c.requires.well_formed (sym seen ∙ c.in-Some.is) in
+    let few = c.requires.well_formed.few_pools in
+    let pool = c.pool_of-pool.ensures in
+    omega (arith, in_plan, few, pool)
+
+pub bounds-activities-pool-in-Some : goal.bounds-activities-pool-in-Some
+bounds-activities-pool-in-Some c =
+    let view : View = c.args.self.now.view in
+    let members : List ℕ = c.args.members.now in
+    let place : ℕ = c.loop-place.place in
+    let m = get_or members place 0 in
+    let number : get_or c.numbers-number-items.result.now place 0 ≡ m = ap (λ (ns : List ℕ). get_or ns place 0) c.numbers-number-items.ensures in
+    let jobs : c.self.inside.jobs.jobs ≡ view.jobs = ap (λ (w : WorldValue). w.view.jobs) c.self.view_is in
+    let seen : c.get.result ≡ live_job view.jobs m = c.get.ensures ∙ ap₂ live_job jobs number in
+    let in_plan = pool_of_live_job c.args.plan.now view m c.in-Some.job c.requires.of_plan c.requires.well_formed (sym seen ∙ c.in-Some.is) in
+    let few = c.requires.well_formed.few_pools in
+    let pool = c.pool_of-pool.ensures in
+    omega (arith, in_plan, few, pool)
+
+pub with-requires : goal.with-requires
+with-requires c =
+    let view : View = c.args.self.now.view in
+    let members : List ℕ = c.args.members.now in
+    let place : ℕ = c.loop-place.place in
+    let m = get_or members place 0 in
+    let number : get_or c.numbers-number-items.result.now place 0 ≡ m = ap (λ (ns : List ℕ). get_or ns place 0) c.numbers-number-items.ensures in
+    let jobs : c.self.inside.jobs.jobs ≡ view.jobs = ap (λ (w : WorldValue). w.view.jobs) c.self.view_is in
+    let seen : c.get.result ≡ live_job view.jobs m = c.get.ensures ∙ ap₂ live_job jobs number in
+    let in_plan = pool_of_live_job c.args.plan.now view m c.in-Some.job c.requires.of_plan c.requires.well_formed (sym seen ∙ c.in-Some.is) in
+    let few = c.requires.well_formed.few_pools in
+    let pool = c.pool_of-pool.ensures in
+    let inside : c.pool_of-pool.result < 64 = omega (arith, in_plan, few, pool) in
+    let low = (c.loop-place.invariant.1 c.pool_of-pool.result inside).1 in
+    omega (arith, low, c.loop-place-test.true)
+
+pub returns : goal.returns
+returns c = λ p inside.
+    (c.loop-place.invariant.1 p inside).0 ∙ ap (λ (those : List ℕ). activity_of c.args.plan.now c.args.self.now.view those p) (take_all c.loop-place.place c.args.members.now (let e = ap length c.numbers-number-items.ensures in let past = c.loop-place-test.false in omega (arith, e, past)))
