@@ -96,7 +96,7 @@ impl Round<'_> {
     }
 
     /// Returns whether a job with this body has the same counted gets as in the previous round. The
-    /// job's pool must not have a rank.
+    /// job's pool must not have a rank yet.
     fn body_counts_same_gets(&self, body: &[Action]) -> bool {
         let rank_before = self.rank.saturating_sub(1);
         for action in body {

@@ -164,7 +164,7 @@ fn push_mismatches(
     push_described(findings, alloc, plan, &first, classless, mismatches)
 }
 
-// Returns a condition for each line that the descriptions of these actors look up.
+// Returns a query for each line that the descriptions of these actors look up.
 fn queries_of(alloc: Global, mismatches: &[ClassifiedActor]) -> Result<Vec<LineQuery>, AllocError> {
     let mut queries = Vec::new(alloc);
     for reported in mismatches {

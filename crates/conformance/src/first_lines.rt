@@ -1,4 +1,4 @@
-//! For each of several conditions, the first line of a recording that meets it. One pass over the
+//! For each of several queries, the first line of a recording that matches it. One pass over the
 //! text finds all these lines.
 
 ghost use Rattle.std.specs.Prelude.{◌≡◌, ◌+◌, ◌++◌, ◌∷◌, [], List, OnOk, IfOk, length, string_bytes};
@@ -18,7 +18,7 @@ use std::alloc::{AllocError, Global};
 use std::collections::HashMap;
 use std::marker::Model;
 
-/// A line that meets a condition.
+/// A line that matches a query.
 #[derive(Drop)]
 pub(crate) struct FoundLine {
     /// The number of the line, from 1.
@@ -29,13 +29,13 @@ pub(crate) struct FoundLine {
     pool: String,
 }
 
-/// A map from each condition to the first line that meets it. The value is `None` if no line meets
-/// the condition.
+/// A map from each query to the first line that matches it. The value is `None` if no line matches
+/// the query.
 pub(crate) type LineTable = HashMap<LineQuery, Option<FoundLine>>;
 
 /// The text of a recording, with two results of reading it:
 ///
-/// - for each of several conditions, the first line that meets the condition;
+/// - for each of several queries, the first line that matches the query;
 /// - for each actor and each job, the number of times that a get of the job by the actor timed out
 ///   or was interrupted.
 ///
@@ -62,8 +62,8 @@ impl<'a> Model for FirstLines<'a> {
 }
 
 impl<'a> FirstLines<'a> {
-    /// Finds, for each condition of `queries`, the first line of the text that meets this
-    /// condition. Also counts the gets that timed out or were interrupted.
+    /// Finds, for each of the queries, the first line of the text that matches it. Also counts the
+    /// gets that timed out or were interrupted.
     ///
     /// # Errors
     ///
@@ -88,7 +88,7 @@ impl<'a> FirstLines<'a> {
         })
     }
 
-    /// Returns the first line that meets the condition, or `None` if no line does. If the condition
+    /// Returns the first line that matches the query, or `None` if no line does. If the query
     /// was passed to [`new`](FirstLines::new), this is only a look-up. Otherwise this call searches
     /// the text.
     ///
@@ -134,7 +134,7 @@ impl<'a> FirstLines<'a> {
     }
 }
 
-/// Adds the condition to the table, with `None` as its line.
+/// Adds the query to the table, with `None` as its line.
 fn seek(table: &mut LineTable, query: LineQuery) -> Result<(), AllocError>
     ensures { spec.AreFirst [] table.old → OnOk result (spec.AreFirst [] table.new) }
 {
@@ -142,8 +142,8 @@ fn seek(table: &mut LineTable, query: LineQuery) -> Result<(), AllocError>
     Ok(())
 }
 
-/// Stores, for each condition of the table, the first line of the text that meets this condition.
-/// Reads the lines only if the table has a condition.
+/// Stores, for each query of the table, the first line of the text that matches this query. Reads
+/// the lines only if the table has a query.
 fn note_lines(alloc: Global, text: &[u8], table: &mut LineTable) -> Result<(), AllocError>
     ensures { spec.AreFirst [] table.old → OnOk result (spec.AreFirst (lines_of text.now) table.new) }
 {
@@ -159,8 +159,8 @@ fn note_lines(alloc: Global, text: &[u8], table: &mut LineTable) -> Result<(), A
     Ok(())
 }
 
-/// Stores line `number` for the condition that the line meets. Does nothing if the line meets no
-/// condition of the table, or if the table already has a line for the condition.
+/// Stores line `number` for the query that the line matches. Does nothing if the line matches no
+/// query of the table, or if the table already has a line for the query.
 fn note_line(
     alloc: Global,
     number: usize,
@@ -194,7 +194,7 @@ fn note_match(
     Ok(())
 }
 
-/// Returns true if the table has the condition, but no line for it yet.
+/// Returns true if the table has the query, but no line for it yet.
 fn is_sought(table: &LineTable, query: LineQuery) -> bool
     ensures { result ≡ spec.is_sought table.now query }
 {

@@ -1,4 +1,4 @@
-//! A search for the first line of a recording that meets a condition.
+//! A search for the first line of a recording that matches a query.
 
 ghost use Rattle.std.specs.Prelude.{◌≡◌};
 ghost use Rattle.recordings.specs.RecordingLine.{line_view};
@@ -8,7 +8,7 @@ ghost use Rattle.conformance.specs.LineQuery as spec;
 use crate::well_formed_lines::WellFormedLines;
 use recordings::{Line, RecordedActor};
 
-/// A condition on a line of a recording.
+/// A query for a line of a recording: what the line reports.
 #[derive(Clone, Copy, PartialEq, Eq, Hash)]
 pub(crate) enum LineQuery {
     /// The line that submits this job.
@@ -26,7 +26,7 @@ pub(crate) enum LineQuery {
 }
 
 impl LineQuery {
-    /// Returns the condition for the line that gives the actor its label.
+    /// Returns the query for the line that gives the actor its label.
     pub(crate) fn label_of(actor: RecordedActor) -> LineQuery
         ensures { result ≡ spec.label_line actor }
     {
@@ -62,8 +62,8 @@ impl LineQuery {
     }
 }
 
-/// Returns the condition that the line meets, or `None` if the line meets none. A line meets at
-/// most one condition.
+/// Returns the query that the line matches, or `None` if the line matches none. A line matches at
+/// most one query.
 pub(crate) fn query_of(line: &Line<'_>) -> Option<LineQuery>
     ensures { result ≡ spec.query_of (line_view line.now) }
 {
@@ -91,8 +91,8 @@ fn is_same_actor(one: RecordedActor, other: RecordedActor) -> bool
     }
 }
 
-/// Returns the first line of the text that meets the condition, with the number of the line, from
-/// 1. Skips malformed lines and does not count them. Returns `None` if no line meets the condition.
+/// Returns the first line of the text that matches the query, with the number of the line, from
+/// 1. Skips malformed lines and does not count them. Returns `None` if no line matches the query.
 pub(crate) fn first_line(text: &[u8], line_query: LineQuery) -> Option<(usize, Line<'_>)>
     ensures { spec.IsFirstLine (lines_of text.now) line_query (spec.found_seen result) }
 {

@@ -17,8 +17,8 @@ pub enum PathStep {
 /// of these jobs it may get.
 #[derive(Clone, Copy)]
 pub enum ActorKind {
-    /// A job. At each index of its body, it may get only jobs of classes that the body gets there
-    /// or later.
+    /// A job. At each index of its body, it may get only jobs of classes that the body gets at this
+    /// index or later.
     Job,
     /// A round, which is one pass of a client through its body. A round may get any job that it
     /// submitted, even if the body has no get for this job.

@@ -97,7 +97,7 @@ pub(crate) struct ActorSurvey {
 }
 
 impl ActorSurvey {
-    /// Creates the facts about a recording of which no actor has been classified yet.
+    /// Creates the facts before any actor of a recording is classified.
     pub(crate) fn new(alloc: Global) -> ActorSurvey
         ensures { (plan : plans.Plan)
             → AreResultsOfPrefix plan [] []

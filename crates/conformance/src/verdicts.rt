@@ -42,9 +42,9 @@ impl Verdicts {
         }
     }
 
-    /// If the plan has the actor's label, records the actor in two cases: its path matches no body,
-    /// or the match is undecided. If the actor is a job with a path that matches no body, also adds
-    /// the job to `classless`, even if the plan lacks the job's label.
+    /// Records the actor if the plan has its label, and its path matches no body or the match is
+    /// undecided. Adds a job whose path matches no body to `classless`, even if the plan lacks the
+    /// job's label.
     ///
     /// # Errors
     ///

@@ -73,8 +73,7 @@ pub(crate) struct Walk<'a> {
     pub(crate) ready: Vec<Vec<Parent>>,
     /// For each client kind, the number of its clients that have started their bodies.
     pub(crate) begun: Vec<u64>,
-    /// The choices that ended in a rejected submit. A choice with any other outcome clears this
-    /// list.
+    /// The choices that ended in a rejected submit, since the last choice with another outcome.
     pub(crate) rejected: Vec<usize>,
     /// Whether an actor has stopped since this flag was last cleared. An actor stops at a get that
     /// must wait, and a client that does not repeat also stops at the end of its body. After a
@@ -197,9 +196,9 @@ impl<'a> Walk<'a> {
         }
     }
 
-    /// Removes one of the actors that are ready for this choice, and returns it. `newer` selects
-    /// the actor: 0 for the one that became ready last, 1 for the one before, and so on. Returns
-    /// `None` if there is no such actor.
+    /// Removes one of the actors that are ready for the choice with the index `place`, and returns
+    /// it. `newer` selects the actor: 0 for the one that became ready last, 1 for the one before,
+    /// and so on. Returns `None` if there is no such actor.
     fn take_ready(&mut self, place: usize, newer: usize) -> Option<Parent> {
         let ready = self.ready.get_mut(place)?;
         let at = ready.len().checked_sub(1)?.checked_sub(newer)?;

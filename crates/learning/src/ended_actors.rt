@@ -21,7 +21,7 @@ impl EndedActors {
         }
     }
 
-    /// Adds the actor that ends with the line. Does nothing if no actor ends with the line.
+    /// Adds the actor that ends at this line. Does nothing if no actor ends at it.
     ///
     /// # Errors
     ///

@@ -95,10 +95,9 @@ fn push_from(jobs: &mut Vec<PathJob>, more: &[PathJob], index: usize) -> Result<
 /// Returns true if the merged list can continue with the next job of the first list and still
 /// become a shortest common supersequence. The next jobs of the two lists must differ.
 ///
-/// The more of the remaining jobs the two lists have in common, in the same order, the shorter the
-/// merged list becomes. So the result is true if the longest common subsequence of the remaining
-/// jobs is at least as long after taking the first list's job as after taking the second list's
-/// job.
+/// The longer the common subsequence of the remaining jobs, the shorter the merged list. So the
+/// result is true if the longest common subsequence of the remaining jobs is at least as long after
+/// taking the first list's job as after taking the second list's job.
 ///
 /// - `left` is the number of jobs that remain in the first list, and `other_left` the number that
 ///   remain in the second list.
