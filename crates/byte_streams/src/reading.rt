@@ -28,7 +28,7 @@ pub trait Source {
 }
 
 /// The error of reading an input.
-#[derive(Clone, Copy, Debug)]
+#[derive(Clone, Copy, Debug, PartialEq, Eq)]
 pub enum InputError {
     /// Out of memory.
     Memory,

@@ -17,7 +17,7 @@ pub struct EventLines<'a> {
 }
 
 /// The error for a malformed line.
-#[derive(Clone, Copy)]
+#[derive(Clone, Copy, PartialEq, Eq)]
 pub struct BadEventLine;
 
 impl<'a> Model for EventLines<'a> {

@@ -10,7 +10,7 @@ use support::{Counter, push_number};
 use written_machine::Outcome;
 
 /// The reply to an event line.
-#[derive(Clone, Copy)]
+#[derive(Clone, Copy, PartialEq, Eq)]
 pub enum Reply {
     /// The event was performed, with this outcome.
     Performed(Outcome),
