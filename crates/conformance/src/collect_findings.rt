@@ -10,7 +10,7 @@ ghost use Rattle.conformance.specs.Lines.{lines_of};
 ghost use Rattle.conformance.specs.declared.finding.Finding.TheVariants as kinds;
 
 use crate::actor_label::{ActorLabel, label_of, pool_of_first};
-use crate::describe_mismatch::{describe_mismatch, push_queries};
+use crate::describe_mismatch::{describe_mismatch, queries_of};
 use crate::finding::Finding;
 use crate::first_lines::FirstLines;
 use crate::job_set::JobSet;
@@ -24,7 +24,6 @@ use recordings::{InvalidatingEvent, Invalidation, RecordedActor, RecordedNotes};
 use std::alloc::{AllocError, Global};
 
 /// Returns all findings of a comparison. The list is not sorted. Fails if memory runs out.
-///
 /// `excesses` has the client kinds with more rounds than the plan allows. `refusals` is `None` if
 /// no pool of the plan may reject jobs.
 pub(crate) fn collect_findings(
@@ -75,8 +74,7 @@ fn push_plan_differences(
     push_labels(findings, &mut line_survey.unplanned.found)
 }
 
-// Appends the actors whose path matches no body, and moves those for which this is undecided to the
-// findings.
+// Appends the actors whose path matches no body, and moves the undecided ones to the findings.
 fn push_actor_survey(
     findings: &mut Vec<Finding>,
     alloc: Global,
@@ -162,15 +160,6 @@ fn push_mismatches(
     let queries = queries_of(alloc, mismatches)?;
     let first = FirstLines::new(alloc, recording, &queries)?;
     push_described(findings, alloc, plan, &first, classless, mismatches)
-}
-
-// Returns a query for each line that the descriptions of these actors look up.
-fn queries_of(alloc: Global, mismatches: &[ClassifiedActor]) -> Result<Vec<LineQuery>, AllocError> {
-    let mut queries = Vec::new(alloc);
-    for reported in mismatches {
-        push_queries(&mut queries, reported)?;
-    }
-    Ok(queries)
 }
 
 fn push_described(

@@ -75,8 +75,24 @@ fn number_of(found: &Option<FoundLine>) -> Option<usize>
     }
 }
 
-/// Appends a condition for each line that [`describe_mismatch`] looks up for this actor. With these
-/// conditions, [`FirstLines::new`] finds all of these lines in one pass.
+/// Returns a query for each line that the descriptions of these actors look up.
+///
+/// # Errors
+///
+/// Returns `AllocError` if memory runs out.
+pub(crate) fn queries_of(
+    alloc: Global,
+    mismatches: &[ClassifiedActor],
+) -> Result<Vec<LineQuery>, AllocError> {
+    let mut queries = Vec::new(alloc);
+    for reported in mismatches {
+        push_queries(&mut queries, reported)?;
+    }
+    Ok(queries)
+}
+
+/// Appends a query for each line that [`describe_mismatch`] looks up for this actor. With these
+/// queries, [`FirstLines::new`] finds all of these lines in one pass.
 ///
 /// No contract states which conditions are appended. If a condition is missing, the description is
 /// the same, but the look-up takes longer, because it then searches the text for the line.
@@ -84,7 +100,7 @@ fn number_of(found: &Option<FoundLine>) -> Option<usize>
 /// # Errors
 ///
 /// Returns `AllocError` if memory runs out.
-pub(crate) fn push_queries(
+fn push_queries(
     queries: &mut Vec<LineQuery>,
     reported: &ClassifiedActor,
 ) -> Result<(), AllocError> {

@@ -20,11 +20,8 @@ use size_search::{Cause, cause_of, submitted_by_clients, submitted_repeatedly};
 use std::alloc::{AllocError, Global};
 
 /// Returns the lints of the plan: the parts of the plan that are probably mistakes.
-///
-/// - `needed` has, for each pool, a bound on the number of jobs in its queue at once, or `None` if
-///   no bound is known.
-/// - `is_safe_at_core` says whether a certificate accepts the plan that [`at_core`](crate::at_core)
-///   returns, which has lowered maximums.
+/// `is_safe_at_core` says whether a certificate accepts the plan that [`at_core`](crate::at_core)
+/// returns, which has lowered maximums.
 pub(crate) fn lints_of(
     alloc: Global,
     plan: &Plan,
@@ -52,7 +49,6 @@ pub(crate) fn lints_of(
 ///
 /// - `cause` is a reason why no certificate accepts the plan, whatever sizes the plan has. `cause`
 ///   is `None` if there is no such reason.
-/// - `marks` has, for each class, whether clients submit it, directly or through other jobs.
 /// - `repeated` has, for each class, whether repeating clients submit it, directly or through other
 ///   jobs.
 fn lints_with(
