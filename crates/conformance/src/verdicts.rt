@@ -31,7 +31,7 @@ pub(crate) struct Verdicts {
 }
 
 impl Verdicts {
-    /// Creates the result for no actors.
+    /// Creates an empty result, to which no actor has been added yet.
     pub(crate) fn new(alloc: Global) -> Verdicts
         ensures { (plan : plans.Plan) → spec.IsVerdictsOf plan [] result }
     {

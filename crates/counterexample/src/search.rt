@@ -340,9 +340,9 @@ fn candidate_of(
     candidate_after(alloc, plan, &mut replay, violation)
 }
 
-/// Returns the events of the replay as a probable witness. The replay ends in `violation` or in a
-/// refused submit. If idle threads must end before jobs wait only for each other, first ends these
-/// threads in the replay.
+/// Returns the events of the replay as a probable witness. The last event of the replay is a
+/// refused submit, or it completes `violation`. If jobs wait only for each other as soon as some
+/// idle threads have ended, the witness also contains the ends of these threads, as its last events.
 fn candidate_after(
     alloc: Global,
     plan: &Plan,

@@ -13,8 +13,9 @@ pub(crate) const CANDIDATES: usize = 8;
 /// The options of [`candidate`]. Different options can result in different bodies.
 #[derive(Clone, Copy)]
 pub(crate) struct Choices {
-    /// True if a job that its path gets and a job that its path never gets must be matched with
-    /// different submits of the candidate. If it is false, one submit may be matched with both.
+    /// True if each submit of the candidate is matched either only with jobs that are got later in
+    /// the recorded path, or only with jobs that are never got there. If it is false, one submit
+    /// may be matched with jobs of both sorts.
     pub(crate) marks_gets: bool,
     /// True if the submits of the paths are merged from the last path to the first. If it is false,
     /// they are merged from the first path to the last.

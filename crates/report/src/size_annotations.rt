@@ -1,6 +1,6 @@
 //! Annotations about sizes: one for each size to change, or one with the reason if no sizes were
-//! found. `rule` is the rule of these annotations. `declared` is a pool of the plan, and `fit` is
-//! the same pool with the sizes that were found.
+//! found. In these functions, `rule` is the kind of the annotations, for example [`Rule::NotSafe`].
+//! `declared` is a pool of the plan, and `fit` is the same pool with the sizes that were found.
 
 ghost use Rattle.std.specs.Prelude.{◌≡◌, IfOk, decimal, option_map, string_bytes};
 ghost use Rattle.report.specs.Annotations.{Adds};

@@ -76,7 +76,8 @@ fn taken_name(plan: &Plan, taken: Option<usize>) -> &str
     }
 }
 
-/// Returns whether the actor is a thread of a pool whose core threads may time out.
+/// Returns whether the actor is an idle thread of a pool, neither a client nor a job, and the core
+/// threads of this pool may time out.
 pub(crate) fn may_time_out(plan: &Plan, actor: Actor) -> bool
     ensures { result ≡ spec.may_time_out plan.now actor }
 {

@@ -118,8 +118,8 @@ pub fn accepted_plans_java_drain()
 {}
 
 /// States that a well-formed plan refuses no submit in Java's steps if each pool has a valid bound
-/// or needs none. The conditions and the facts are those of [`bounded_plans_refuse_nothing`], but a
-/// submit takes the separate steps of Java's `execute`.
+/// or needs none. The premises and the conclusions are those of [`bounded_plans_refuse_nothing`],
+/// but a submit takes the separate steps of Java's `execute`.
 pub fn bounded_plans_java_refuse_nothing()
     ensures { BoundedPlansJavaRefuseNothing }
 {}
