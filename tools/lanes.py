@@ -83,5 +83,5 @@ def chains(tasks):
 
 
 def is_of_mutants(key):
-    """Returns whether a task tries a mutant, or prepares a crate for that."""
-    return key[1] in ("edits", "seed")
+    """Returns whether a task tries mutants, prepares a crate for that, or follows such tasks."""
+    return key[1] in ("seed", "batch", "edits", "sound", "again")
