@@ -84,4 +84,4 @@ def chains(tasks):
 
 def is_of_mutants(key):
     """Returns whether a task tries mutants, prepares a crate for that, or follows such tasks."""
-    return key[1] in ("seed", "batch", "edits", "sound", "again")
+    return key[1] in ("seed", "batch", "edits", "sound", "again", "end")
