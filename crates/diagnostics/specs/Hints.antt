@@ -41,12 +41,14 @@ max_hint is_unbounded = if is_unbounded then codes "; with queue = \"unbounded\"
 abbrev pub article : List ℕ → List ℕ
 article found = if bytes_eq found (codes "integer") || bytes_eq found (codes "array") then codes "an" else codes "a"
 
--- the hint if the first line of a text is that of a recording or of a certificate
+-- the hint if the first line of a text is that of a recording, of a certificate, of XML or HTML, or of YAML
 abbrev pub kind_hint : List ℕ → Option (List ℕ)
 kind_hint line =
     if bytes_eq line (codes "recording 1") then Some (codes "this is a recording, not a plan: `sizing learn` derives a plan from it")
     else (if starts_with nat_eq line (123 ∷ []) then Some (codes "this is JSON, not a plan: a certificate comes after its plan")
-    else None)
+    else (if starts_with nat_eq line (60 ∷ []) then Some (codes "this is XML or HTML, not a plan: a plan begins with [[pool]]")
+    else (if bytes_eq line (codes "---") || ends_with nat_eq line (58 ∷ []) then Some (codes "this is YAML, not a plan: a plan is TOML, and begins with [[pool]]")
+    else None)))
 
 -- the hint for a word without quotes as the value of this key
 abbrev pub word_hint : List ℕ → Option (List ℕ)

@@ -12,6 +12,9 @@ is_one_of letters words = list_any (bytes_eq letters) words
 abbrev pub keep_alive_hint : List ℕ
 keep_alive_hint = codes "; leave it out: times do not change the answer (for core threads that time out: core_timeout = true)"
 
+abbrev pub handler_hint : List ℕ
+handler_hint = codes "; leave it out for AbortPolicy, or write may_reject = true if jobs may be rejected"
+
 -- the hint for a key at the top level
 abbrev pub list_key_hint : List ℕ → Option (List ℕ)
 list_key_hint letters =
@@ -20,6 +23,17 @@ list_key_hint letters =
     then Some (codes "; use [[class]]")
     else (if is_one_of letters (codes "clients" ∷ []) then Some (codes "; use [[client]]")
     else None))
+
+-- the hint for a key of Java or Spring that concerns the rules of a pool and not its sizes
+abbrev pub rule_key_hint : List ℕ → Option (List ℕ)
+rule_key_hint letters =
+    if is_one_of letters (codes "prestartallcorethreads" ∷ []) then Some (codes "; use prestart")
+    else (if is_one_of letters (codes "allowcorethreadtimeout" ∷ []) then Some (codes "; use core_timeout")
+    else (if is_one_of letters (codes "keepalive" ∷ codes "keepalivetime" ∷ codes "keepaliveseconds" ∷ [])
+    then Some keep_alive_hint
+    else (if is_one_of letters (codes "handler" ∷ codes "rejectedexecutionhandler" ∷ codes "rejectionpolicy" ∷ [])
+    then Some handler_hint
+    else None)))
 
 -- the hint for a key of a pool
 abbrev pub pool_key_hint : List ℕ → Option (List ℕ)
@@ -30,11 +44,7 @@ pool_key_hint letters =
     then Some (codes "; use max")
     else (if is_one_of letters (codes "queuecapacity" ∷ codes "queuesize" ∷ codes "capacity" ∷ codes "workqueue" ∷ [])
     then Some (codes "; use queue")
-    else (if is_one_of letters (codes "prestartallcorethreads" ∷ []) then Some (codes "; use prestart")
-    else (if is_one_of letters (codes "allowcorethreadtimeout" ∷ []) then Some (codes "; use core_timeout")
-    else (if is_one_of letters (codes "keepalive" ∷ codes "keepalivetime" ∷ codes "keepaliveseconds" ∷ [])
-    then Some keep_alive_hint
-    else None)))))
+    else rule_key_hint letters))
 
 -- the hint for a key of a class
 abbrev pub class_key_hint : List ℕ → Option (List ℕ)

@@ -222,7 +222,10 @@ fn verb_error(alloc: Global, verb: &str, first: &str) -> Result<String, AllocErr
     match verb {
         "execute" | "invoke" | "start" | "schedule" => submit_form(alloc, first),
         "wait" | "join" | "await" => wait_form(alloc, first),
-        "sleep" | "run" | "compute" => String::from_str(alloc, "write work 5"),
+        "sleep" | "run" | "compute" => String::from_str(
+            alloc,
+            "leave it out, or write work 1: how long a job runs does not change the answer",
+        ),
         _ => unknown_verb(alloc, verb),
     }
 }

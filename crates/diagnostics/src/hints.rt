@@ -93,8 +93,8 @@ pub(crate) fn article(found: &str) -> &'static str
 }
 
 /// Returns a hint if `line`, the first line of a text, shows that the text is not a plan. The hint
-/// says what the text is instead: a recording, or JSON such as a certificate. Otherwise returns
-/// `None`.
+/// says what the text is instead: a recording, JSON such as a certificate, XML or HTML, or YAML.
+/// Otherwise returns `None`.
 pub(crate) fn kind_hint(line: &str) -> Option<&'static str>
     ensures { option_map (λ hint. hint.now) result ≡ spec.kind_hint line.now }
 {
@@ -103,6 +103,12 @@ pub(crate) fn kind_hint(line: &str) -> Option<&'static str>
     }
     if line.as_bytes().starts_with(b"{") {
         return Some("this is JSON, not a plan: a certificate comes after its plan");
+    }
+    if line.as_bytes().starts_with(b"<") {
+        return Some("this is XML or HTML, not a plan: a plan begins with [[pool]]");
+    }
+    if line == "---" || line.as_bytes().ends_with(b":") {
+        return Some("this is YAML, not a plan: a plan is TOML, and begins with [[pool]]");
     }
     None
 }

@@ -39,10 +39,22 @@ fn pool_key_hint(letters: &str) -> Option<&'static str>
         "corepoolsize" | "coresize" | "poolsize" | "threads" | "size" => Some("; use core"),
         "maximumpoolsize" | "maxpoolsize" | "maxsize" | "maximum" => Some("; use max"),
         "queuecapacity" | "queuesize" | "capacity" | "workqueue" => Some("; use queue"),
+        _ => rule_key_hint(letters),
+    }
+}
+
+/// Returns the hint for a key of Java or Spring that concerns the rules of a pool and not its sizes.
+fn rule_key_hint(letters: &str) -> Option<&'static str>
+    ensures { option_map (λ hint. hint.now) result ≡ spec.rule_key_hint letters.now }
+{
+    match letters {
         "prestartallcorethreads" => Some("; use prestart"),
         "allowcorethreadtimeout" => Some("; use core_timeout"),
         "keepalive" | "keepalivetime" | "keepaliveseconds" => Some(
             "; leave it out: times do not change the answer (for core threads that time out: core_timeout = true)",
+        ),
+        "handler" | "rejectedexecutionhandler" | "rejectionpolicy" => Some(
+            "; leave it out for AbortPolicy, or write may_reject = true if jobs may be rejected",
         ),
         _ => None,
     }

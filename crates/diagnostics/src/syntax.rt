@@ -234,13 +234,17 @@ fn value_hint(line: &str) -> Option<&'static str> {
     }
 }
 
-/// Returns whether the value looks like a word without quotes. Such a word has only ASCII letters,
-/// digits, `_` and `-`, has at least one letter, and is not `true` or `false`. Ignores a comment
-/// after the value.
+/// Returns whether the value looks like words without quotes, such as `Integer.MAX_VALUE` or
+/// `5 threads`: it has only ASCII letters, digits, spaces and the characters `_-.()<>`, has at least
+/// one letter, and is not `true` or `false`. Ignores a comment after the value.
 fn is_word(value: &str) -> bool {
-    let word = value.split('#').next().unwrap_or("").trim();
-    word.bytes().any(|byte| byte.is_ascii_alphabetic())
-        && word.bytes().all(|byte| byte.is_ascii_alphanumeric() || byte == b'_' || byte == b'-')
-        && word != "true"
-        && word != "false"
+    let words = value.split('#').next().unwrap_or("").trim();
+    words.bytes().any(|byte| byte.is_ascii_alphabetic())
+        && words.bytes().all(|byte| byte.is_ascii_alphanumeric() || is_between_words(byte))
+        && words != "true"
+        && words != "false"
+}
+
+fn is_between_words(byte: u8) -> bool {
+    matches!(byte, b' ' | b'_' | b'-' | b'.' | b'(' | b')' | b'<' | b'>')
 }

@@ -117,7 +117,7 @@ fn words_of_submit(
     let (kind, name, body) = entry_of(plan, part, number);
     let submit = submit_text(alloc, text, place, plan, body, action)?;
     format!(in alloc;
-        "{kind} {name}, action {action} \"{submit}\": no get waits for this job, so the number of these jobs has no limit"
+        "{kind} {name}, action {action} \"{submit}\": no get waits for this job, so no certificate bounds the number of these jobs"
     )
 }
 

@@ -51,15 +51,6 @@ head plan witness clients = (ending_text plan witness.ending ++ codes ", after "
 abbrev pub has_timeouts : Plan → Bool
 has_timeouts plan = list_any (λ (pool : Pool). pool.core_timeout) plan.pools
 
--- the words for a pool that starts no thread although it has fewer than its maximum. If core threads may time out, the pool can
--- start a thread below core. It can also start one above core in place of one that timed out
-unfoldable pub at_core_words : Bool → List ℕ
-at_core_words timeouts = if timeouts then codes "at least core threads and a queue that is never full" else codes "never starts one above core"
-
--- the last line, if jobs wait permanently in the queue of a pool that starts no thread although it has fewer than its maximum
-abbrev pub at_core_line : Bool → List ℕ
-at_core_line timeouts = codes "forever: each pool with one of them in its queue has all its threads, or " ++ (at_core_words timeouts ++ 10 ∷ [])
-
 -- the words for the thread whose start may end a wait. If core threads may time out, this can be a core thread
 abbrev pub started_words : Bool → List ℕ
 started_words timeouts = if timeouts then codes "another thread" else codes "a thread above core"
@@ -72,7 +63,7 @@ until_line timeouts = codes "until a pool with one of them in its queue starts "
 abbrev pub why_text : Plan → Ending → List ℕ
 why_text plan (Refused p) = []
 why_text plan (StuckForever members PoolsAreFull) = codes "forever: each pool with one of them in its queue has all its threads" ++ 10 ∷ []
-why_text plan (StuckForever members PoolsStayAtCore) = at_core_line (has_timeouts plan)
+why_text plan (StuckForever members PoolsStayAtCore) = codes "forever: no pool with one of them in its queue ever starts another thread" ++ 10 ∷ []
 why_text plan (StuckNow members) = until_line (has_timeouts plan)
 
 -- the text is the first line, the story, and the last line

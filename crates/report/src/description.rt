@@ -96,30 +96,12 @@ fn push_why(text: &mut String, plan: &Plan, ending: &Ending) -> Result<(), Alloc
             text.push_str("forever: each pool with one of them in its queue has all its threads\n")
         }
         Ending::StuckForever(_, Reason::PoolsStayAtCore) => {
-            push_at_core(text, has_timeouts(plan))
+            text.push_str(
+                "forever: no pool with one of them in its queue ever starts another thread\n",
+            )
         }
         Ending::StuckNow(_) => push_until(text, has_timeouts(plan)),
     }
-}
-
-fn push_at_core(text: &mut String, timeouts: bool) -> Result<(), AllocError>
-    ensures { Pushes result text.old text.new (spec.at_core_line timeouts) }
-{
-    let why = at_core_words(timeouts);
-    push_two_parts(
-        text,
-        "forever: each pool with one of them in its queue has all its threads, or ",
-        why,
-    )
-}
-
-/// Appends a line that consists of `front` and `rest`.
-fn push_two_parts(text: &mut String, front: &str, rest: &str) -> Result<(), AllocError>
-    ensures { Pushes result text.old text.new (front.now ++ (rest.now ++ 10 ∷ [])) }
-{
-    text.push_str(front)?;
-    text.push_str(rest)?;
-    text.push('\n')
 }
 
 fn push_until(text: &mut String, timeouts: bool) -> Result<(), AllocError>
@@ -137,23 +119,6 @@ fn has_timeouts(plan: &Plan) -> bool
     ensures { result ≡ spec.has_timeouts plan.now }
 {
     plan.pools().iter().any(|pool| pool.core_timeout)
-}
-
-/// Returns the words that say why a pool with fewer threads than its maximum starts no thread.
-/// `timeouts` says whether core threads of some pool may time out.
-///
-/// - If not, the words say that the pool never starts a thread above its core size.
-/// - If so, the words say that the pool has at least as many threads as its core size, and that its
-///   queue is never full.
-#[tactic(auto, unfolding(crate::specs::Description::at_core_words))]
-fn at_core_words(timeouts: bool) -> &'static str
-    ensures { result.now ≡ spec.at_core_words timeouts }
-{
-    if timeouts {
-        "at least core threads and a queue that is never full"
-    } else {
-        "never starts one above core"
-    }
 }
 
 /// Returns the words for a new thread that may end the wait of jobs that wait only for each other.
