@@ -110,8 +110,12 @@ class Batches:
     starts when `is_late` returns true."""
 
     def __init__(self, rt, is_late):
-        self.rt, self.is_late, self.refused, self.must_fail = rt, is_late, {}, rt.must_fail
+        self.rt, self.is_late, self.refused, self.paths, self.must_fail = rt, is_late, {}, {}, rt.must_fail
         rt.must_fail = self.result
+
+    def is_refused(self, key):
+        """Returns whether a check of several mutants refused the mutant that the task with this key tries."""
+        return self.paths.get(key) in self.refused
 
     def result(self, crate, mutant, flags, kept=None):
         """Returns what a try of this mutant came to, and a text. Tries the mutant alone if no check with others refused it."""
@@ -127,10 +131,14 @@ class Batches:
         alone, start, seed = {}, f"{crate.folder}/out/incremental", (crate.name, "seed")
         results, known = self.rt.add_edits(alone, crate, mutants, own, [*own, *keys], is_well, kept, start, in_ci=False)
         tasks[seed] = alone.pop(seed)
+        # the last check counts as work, so that a crate ends before others begin
+        waits, _, needed, call = alone[crate.name, "sound"]
+        alone[crate.name, "sound"] = waits, crate.count(rb"\n"), needed, call
         for key, batch in zip(keys, batches):
             call = lambda given, jobs, batch=batch: self.try_unknown(crate, batch, given[seed], {mutants[it] for it in known()})
             tasks[key] = ([*own, seed], crate.count(rb"\n"), OVER * self.rt.need(crate), call)
         tasks.update(alone)
+        self.paths.update({(crate.name, "edits", number): mutant for number, mutant in enumerate(mutants)})
         return results
 
     def try_unknown(self, crate, batch, room, known):
