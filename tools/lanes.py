@@ -32,10 +32,12 @@ def realistic_need(rt):
 
 def in_lanes(rt, tasks):
     """Runs tasks in parallel and returns what each gave. A task is the keys of those that it waits for, its work, its memory, and a
-    call that takes what was given and a number of jobs. Those with the longest chain of work after them start first."""
+    call that takes what was given and a number of jobs. Those with the longest chain of work after them start first; mutants come last,
+    one crate after the other, so that an interrupted run has finished some crates."""
     lanes, memory = rt.processors(), 0.85 * rt.free()
     after = chains(tasks)
-    waiting = sorted(tasks, key=lambda key: (is_of_mutants(key), -after[key]))
+    turns = {crate: turn for turn, crate in enumerate(dict.fromkeys(key[0] for key in tasks))}
+    waiting = sorted(tasks, key=lambda key: (turns[key[0]] + 1 if is_of_mutants(key) else 0, -after[key]))
     running, given = {}, {}
     with rt.ending(), ThreadPoolExecutor(lanes) as pool:
         while waiting or running:

@@ -131,9 +131,6 @@ class Batches:
         alone, start, seed = {}, f"{crate.folder}/out/incremental", (crate.name, "seed")
         results, known = self.rt.add_edits(alone, crate, mutants, own, [*own, *keys], is_well, kept, start, in_ci=False)
         tasks[seed] = alone.pop(seed)
-        # the last check counts as work, so that a crate ends before others begin
-        waits, _, needed, call = alone[crate.name, "sound"]
-        alone[crate.name, "sound"] = waits, crate.count(rb"\n"), needed, call
         for key, batch in zip(keys, batches):
             call = lambda given, jobs, batch=batch: self.try_unknown(crate, batch, given[seed], {mutants[it] for it in known()})
             tasks[key] = ([*own, seed], crate.count(rb"\n"), OVER * self.rt.need(crate), call)
