@@ -30,7 +30,7 @@ pub mod Annotations
 pub mod Remarks
 pub mod Github
 pub mod Sarif
-pub mod Page
+pub mod HtmlReport
 pub mod Story
 pub mod StorySeen
 pub mod SubmitsTo

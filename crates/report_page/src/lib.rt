@@ -1,7 +1,7 @@
 //! The answer of `ask` as an HTML page.
 #![tactic(auto)]
 
-mod page;
+mod html_page;
 mod page_template;
 
-pub use page::page_of;
+pub use html_page::page_of;

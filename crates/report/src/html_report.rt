@@ -2,7 +2,7 @@
 //! browser.
 
 ghost use Rattle.std.specs.Prelude.{IfOk, string_bytes};
-ghost use Rattle.report.specs.Page as spec;
+ghost use Rattle.report.specs.HtmlReport as spec;
 
 use crate::{PlanFinding, fault_json, faults_json, finding_json};
 use diagnostics::{Faults, PlanPlaces, Warning};
