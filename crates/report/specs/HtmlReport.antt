@@ -4,7 +4,7 @@ use Rattle.job_bodies.specs.Plan.{Plan}
 use Rattle.diagnostics.specs.declared.diagnostic.Faults.{Faults}
 use Rattle.diagnostics.specs.declared.entry_places.PlanPlaces.{PlanPlaces}
 use Rattle.diagnostics.specs.declared.warnings.Warning.{Warning}
-use Rattle.report_page.specs.HtmlPage.{page_of}
+use Rattle.report.specs.HtmlPage.{page_of}
 use Rattle.report.specs.declared.finding.PlanFinding.{PlanFinding}
 use Rattle.report.specs.Json as json
 

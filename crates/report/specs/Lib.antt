@@ -1,3 +1,4 @@
+pub mod HtmlPage
 pub mod Sizes
 pub mod Cause
 pub mod Finding

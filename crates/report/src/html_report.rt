@@ -4,10 +4,9 @@
 ghost use Rattle.std.specs.Prelude.{IfOk, string_bytes};
 ghost use Rattle.report.specs.HtmlReport as spec;
 
-use crate::{PlanFinding, fault_json, faults_json, finding_json};
+use crate::{PlanFinding, fault_json, faults_json, finding_json, page_of};
 use diagnostics::{Faults, PlanPlaces, Warning};
 use job_bodies::Plan;
-use report_page::page_of;
 use std::alloc::{AllocError, Global};
 
 /// Returns the HTML page of an answer: the finding about a plan, and the plan's warnings. `file` is

@@ -3,7 +3,7 @@ use Rattle.std.specs.Prelude.{ℕ, ◌==◌, if◌then◌else◌, List, [], ◌+
 use Rattle.std.specs.List.{flat_map}
 use Rattle.std.specs.Char.{encode_utf8}
 use Rattle.std.specs.Str.{chars}
-use Rattle.report_page.specs.declared.page_template.TheConstants.{BEFORE, AFTER}
+use Rattle.report.specs.declared.page_template.TheConstants.{BEFORE, AFTER}
 
 -- a character of a JSON text, escaped for a script element. `<` becomes an escape, so that no tag begins in the text. A newline
 -- is omitted

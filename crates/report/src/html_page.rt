@@ -3,7 +3,7 @@
 
 ghost use Rattle.std.specs.Prelude.{◌≡◌, ◌++◌, IfOk, string_bytes};
 ghost use Rattle.support.specs.Pushed.{Pushes};
-ghost use Rattle.report_page.specs.HtmlPage as spec;
+ghost use Rattle.report.specs.HtmlPage as spec;
 
 use crate::page_template::{AFTER, BEFORE};
 use std::alloc::{AllocError, Global};
