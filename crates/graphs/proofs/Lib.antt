@@ -1,3 +1,3 @@
 pub mod Growth
 pub mod Following
-pub mod Depths
+pub mod GraphDepths

@@ -6,7 +6,7 @@
 
 mod circles;
 mod graph;
-mod levels;
+mod graph_levels;
 mod node_set;
 mod reached;
 

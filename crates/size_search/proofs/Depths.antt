@@ -6,7 +6,7 @@ use Rattle.job_bodies.specs.declared.action.Action.TheVariants.{Submit}
 use Rattle.job_bodies.specs.Plan.{Class, Plan, class_at}
 use Rattle.job_bodies.proofs.Bodies.{HasValidBodies}
 use Rattle.graphs.specs.Graph.{successors, IsOnCircle}
-use Rattle.graphs.proofs.Depths as of_graph
+use Rattle.graphs.proofs.GraphDepths as of_graph
 use Rattle.size_search.specs.Submitted.{NoCircle}
 use Rattle.size_search.specs.JobGraphs.{submits_of, submit_graph}
 use Rattle.size_search.specs.Steady.{steady_levels}

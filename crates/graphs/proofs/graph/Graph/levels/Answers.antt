@@ -1,5 +1,5 @@
 use Rattle.std.proofs.Common.{ℕ, List, get_or, ap, ◌∙◌, arith}
-use Rattle.graphs.proofs.Depths.{level-le}
+use Rattle.graphs.proofs.GraphDepths.{level-le}
 use Rattle.graphs.proofs.graph.Graph.levels.Goals as goal
 
 pub next_levels-requires : goal.next_levels-requires
