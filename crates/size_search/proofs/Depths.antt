@@ -5,8 +5,8 @@ use Rattle.support.specs.In.{In}
 use Rattle.job_bodies.specs.declared.action.Action.TheVariants.{Submit}
 use Rattle.job_bodies.specs.Plan.{Class, Plan, class_at}
 use Rattle.job_bodies.proofs.Bodies.{HasValidBodies}
-use Rattle.graphs.specs.Graph.{successors, IsOnCircle}
-use Rattle.graphs.proofs.GraphDepths as of_graph
+use Rattle.size_search.specs.Graph.{successors, IsOnCircle}
+use Rattle.size_search.proofs.GraphDepths as of_graph
 use Rattle.size_search.specs.Submitted.{NoCircle}
 use Rattle.size_search.specs.JobGraphs.{submits_of, submit_graph}
 use Rattle.size_search.specs.Steady.{steady_levels}

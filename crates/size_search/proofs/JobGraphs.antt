@@ -12,9 +12,9 @@ use Rattle.job_bodies.specs.Plan.{Pool, Class, Client, Plan, no_pool, no_class, 
 use Rattle.job_bodies.specs.WellFormed.{IsWellFormed}
 use Rattle.job_bodies.specs.ValidBody.{IsValidBody}
 use Rattle.job_bodies.proofs.Bodies.{HasValidBodies, ordered}
-use Rattle.graphs.specs.Graph.{successors, IsReached, at_start, by_edge, AreNodes, IsClosed}
-use Rattle.graphs.specs.Marks.{MarksReached}
-use Rattle.graphs.proofs.Following.{node_inside}
+use Rattle.size_search.specs.Graph.{successors, IsReached, at_start, by_edge, AreNodes, IsClosed}
+use Rattle.size_search.specs.Marks.{MarksReached}
+use Rattle.size_search.proofs.Following.{node_inside}
 use Rattle.size_search.specs.Submitted.{IsSubmitted, begins, follows, repeated_bodies}
 use Rattle.size_search.specs.ByClients.{client_bodies, MarksSubmitted, MarksRepeated}
 use Rattle.size_search.specs.Waiting.{GetsClass}

@@ -1,3 +1,6 @@
+pub mod Growth
+pub mod Following
+pub mod GraphDepths
 mod Sums
 mod Opened
 mod Balance

@@ -4,7 +4,7 @@ use Rattle.std.specs.List.{list_any, enumerate_from}
 use Rattle.std.proofs.lemmas.Bool.{cases_lt}
 use Rattle.std.proofs.lemmas.List.{length-map, get_or-map, get_or_past}
 use Rattle.job_bodies.specs.declared.limits.TheConstants.{MAX_SIZE}
-use Rattle.graphs.specs.Levels.{levels_of}
+use Rattle.size_search.specs.Levels.{levels_of}
 use Rattle.job_bodies.specs.Plan.{Pool, Plan, no_pool, pool_at, needs_no_bound}
 use Rattle.job_bodies.specs.WellFormed.{IsWellFormed}
 use Rattle.weights.specs.Vector.{Vector, has_small_numbers, total}

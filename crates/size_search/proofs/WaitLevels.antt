@@ -6,8 +6,8 @@ use Rattle.support.specs.In.{In, here, there}
 use Rattle.support.proofs.Members.{In-get_or, list_any_at_In}
 use Rattle.job_bodies.specs.Plan.{Pool, Plan, no_pool, class_at}
 use Rattle.job_bodies.proofs.Bodies.{HasValidBodies}
-use Rattle.graphs.specs.Graph.{successors}
-use Rattle.graphs.proofs.GraphDepths.{level-le, length-levels_of, levels_sink}
+use Rattle.size_search.specs.Graph.{successors}
+use Rattle.size_search.proofs.GraphDepths.{level-le, length-levels_of, levels_sink}
 use Rattle.size_search.specs.Waiting.{GetsClass, MayLoseThreads, IsSteady}
 use Rattle.size_search.specs.JobGraphs.{pool_node, wait_graph, all_marks}
 use Rattle.size_search.specs.Steady.{has_core_timeouts, levels_of_waits, wait_levels, steady_ranks}

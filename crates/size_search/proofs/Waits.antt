@@ -4,8 +4,8 @@ use Rattle.support.specs.In.{In, here, there}
 use Rattle.support.proofs.Members.{In-cons_cases}
 use Rattle.job_bodies.specs.Plan.{Plan, pool_at, class_at}
 use Rattle.job_bodies.proofs.Bodies.{HasValidBodies}
-use Rattle.graphs.specs.Graph.{successors, IsReached, at_start, by_edge, IsOnCircle}
-use Rattle.graphs.proofs.Following.{node_inside, reached_further, no_circle_past}
+use Rattle.size_search.specs.Graph.{successors, IsReached, at_start, by_edge, IsOnCircle}
+use Rattle.size_search.proofs.Following.{node_inside, reached_further, no_circle_past}
 use Rattle.size_search.specs.Submitted.{IsSubmitted, begins, follows, NoCircle}
 use Rattle.size_search.specs.ByClients.{client_bodies, MarksSubmitted}
 use Rattle.size_search.specs.Waiting.{GetsClass, MayLoseThreads, HoldsLastThread, WaitsFor, at_get, by_job, by_thread, WaitsForItself, NoneWaitsForItself}

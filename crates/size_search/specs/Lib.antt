@@ -1,3 +1,6 @@
+pub mod Graph
+pub mod Levels
+pub mod Marks
 pub mod Submitted
 pub mod ByClients
 pub mod Waiting

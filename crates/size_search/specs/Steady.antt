@@ -17,7 +17,7 @@ use Rattle.weights.specs.declared.bound.Bound.TheVariants.{Standing}
 use Rattle.weights.specs.Vector.{Vector, queued_weight, done_weight, total, has_small_numbers}
 use Rattle.weights.specs.Ranks.{Ranks}
 use Rattle.cert_text.specs.Cert.{PoolCert, Cert}
-use Rattle.graphs.specs.Levels.{levels_of}
+use Rattle.size_search.specs.Levels.{levels_of}
 use Rattle.size_search.specs.JobGraphs.{submit_graph, all_marks, wait_graph}
 
 -- ---- open jobs of a body

@@ -11,10 +11,10 @@ ghost use Rattle.std.specs.Prelude.{◌≡◌, ◌<◌, ◌++◌, [], OnOk, IfOk
 ghost use Rattle.std.specs.List.{enumerate_from, flat_map};
 ghost use Rattle.job_bodies.specs.Plan.{class_at, pool_at};
 ghost use Rattle.job_bodies.specs.WellFormed.{IsWellFormed};
-ghost use Rattle.graphs.specs.Graph.{AreNodes, IsClosed};
+ghost use Rattle.size_search.specs.Graph.{AreNodes, IsClosed};
 ghost use Rattle.size_search.specs.JobGraphs as spec;
 
-use graphs::Graph;
+use crate::Graph;
 use job_bodies::{Action, Plan};
 use std::alloc::{AllocError, Global};
 use weights::submitted_class;

@@ -1,6 +1,6 @@
 use Rattle.std.proofs.Common.{◌≡◌, ℕ, ◌≤◌, List, [], ◌∷◌, subst, sym, arith, rules}
 use Rattle.job_bodies.specs.Plan.{class_at}
-use Rattle.graphs.specs.Graph.{successors, IsOnCircle}
+use Rattle.size_search.specs.Graph.{successors, IsOnCircle}
 use Rattle.size_search.specs.JobGraphs.{submit_graph}
 use Rattle.size_search.proofs.JobGraphs.{submitted_where_reached, reached_where_submitted, are_of_class}
 use Rattle.size_search.proofs.causes.circle.Goals as goal

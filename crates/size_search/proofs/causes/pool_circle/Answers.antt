@@ -1,7 +1,7 @@
 use Rattle.std.proofs.Common.{◌≡◌, ℕ, ◌-◌, ◌<◌, ◌≤◌, List, length, ap, subst, sym, arith, rules}
 use Rattle.job_bodies.specs.Plan.{Class}
 use Rattle.job_bodies.proofs.Bodies.{ordered}
-use Rattle.graphs.specs.Graph.{IsOnCircle}
+use Rattle.size_search.specs.Graph.{IsOnCircle}
 use Rattle.size_search.specs.ByClients.{MarksSubmitted}
 use Rattle.size_search.specs.Waiting.{WaitsForItself}
 use Rattle.size_search.specs.JobGraphs.{pool_node, wait_graph}

@@ -2,7 +2,7 @@ use Rattle.std.proofs.Common.{◌≡◌, List, ℕ, length, map, sym, ap, subst,
 use Rattle.std.proofs.lemmas.List.{take_all}
 use Rattle.job_bodies.specs.Plan.{Class}
 use Rattle.job_bodies.proofs.Bodies.{ordered}
-use Rattle.graphs.specs.Graph.{IsClosed}
+use Rattle.size_search.specs.Graph.{IsClosed}
 use Rattle.size_search.specs.JobGraphs.{submits_of, submit_graph}
 use Rattle.size_search.proofs.JobGraphs.{submit_closed}
 use Rattle.size_search.proofs.job_graphs.submit_graph.Goals as goal

@@ -1,6 +1,6 @@
 use Rattle.std.proofs.Common.{◌≡◌, List, ℕ, sym, subst, rules}
 use Rattle.job_bodies.proofs.Bodies.{ordered}
-use Rattle.graphs.specs.Graph.{IsClosed}
+use Rattle.size_search.specs.Graph.{IsClosed}
 use Rattle.size_search.specs.JobGraphs.{wait_graph}
 use Rattle.size_search.proofs.JobGraphs.{wait_closed}
 use Rattle.size_search.proofs.job_graphs.wait_graph.Goals as goal

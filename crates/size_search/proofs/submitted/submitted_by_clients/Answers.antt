@@ -1,6 +1,6 @@
 use Rattle.std.proofs.Common.{◌≡◌, false, List, ℕ, sym, subst, rules}
-use Rattle.graphs.specs.Graph.{AreNodes}
-use Rattle.graphs.specs.Marks.{MarksReached}
+use Rattle.size_search.specs.Graph.{AreNodes}
+use Rattle.size_search.specs.Marks.{MarksReached}
 use Rattle.size_search.specs.JobGraphs.{client_submits, submit_graph}
 use Rattle.size_search.proofs.JobGraphs.{clients_valid, marks_submitted}
 use Rattle.size_search.proofs.submitted.submitted_by_clients.Goals as goal

@@ -1,6 +1,0 @@
--- The set is that after this number of rounds.
-use Rattle.graphs.proofs.Following.{IsFollowed}
-use Rattle.graphs.proofs.node_set.NodeSet.add_all.Given as goal
-
-abbrev pub invariant-loop-round : goal.invariant-loop-round
-invariant-loop-round l = IsFollowed l.graph l.initial.self l.self l._round
