@@ -14,7 +14,7 @@ mod numbers;
 mod reached;
 mod relief;
 mod resized_plan;
-mod rows;
+mod complete_vector;
 mod sketch;
 mod sketch_cache;
 mod submitted;

@@ -11,7 +11,7 @@ ghost use Rattle.weights.specs.Vector.{vector_fits};
 use crate::Levels;
 use crate::numbers::{number_at, put_at};
 use crate::relief::relieving_loan;
-use crate::rows::vector_of;
+use crate::complete_vector::vector_of;
 use crate::sketch::{Sketch, TOO_HEAVY};
 use crate::sketch_cache::SketchCache;
 use crate::target::Target;

@@ -11,7 +11,7 @@ ghost use Rattle.weights.specs.Vector.{vector_fits};
 
 use crate::Levels;
 use crate::minimize_total::{Loans, minimize_total};
-use crate::rows::vector_of;
+use crate::complete_vector::vector_of;
 use crate::sketch::{Sketch, TOO_HEAVY};
 use crate::target::{Lenders, Target};
 use job_bodies::Plan;
