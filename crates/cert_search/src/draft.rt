@@ -5,9 +5,8 @@
 use crate::round::PoolVectors;
 use cert_text::{Cert, PoolCert};
 use job_bodies::Plan;
-use least_vectors::{Levels, reach};
+use weights::{Bound, Levels, Ranks, Vector, reach};
 use std::alloc::{AllocError, Global};
-use weights::{Bound, Ranks, Vector};
 
 /// The parts of a certificate that are known for one pool.
 #[derive(Drop)]

@@ -13,7 +13,7 @@ use crate::workers::search_pools;
 use cert_check::{PoolGate, accepts};
 use cert_text::Cert;
 use job_bodies::Plan;
-use least_vectors::{Levels, reach};
+use weights::{Levels, reach};
 use std::alloc::{AllocError, Global};
 use std::sync::Wait;
 use std::thread::Threads;

@@ -5,9 +5,8 @@ use crate::found::{AttemptError, Obstacle};
 use crate::pool_threads::PoolThreads;
 use crate::vector_cache::VectorCache;
 use job_bodies::Pool;
-use least_vectors::Kind;
+use weights::{Bound, Kind};
 use std::alloc::Global;
-use weights::Bound;
 
 /// Returns the vector that bounds the pool's queue:
 ///

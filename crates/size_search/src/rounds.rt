@@ -7,7 +7,7 @@ use crate::found::{AttemptError, Obstacle};
 use crate::pool_threads::{PoolThreads, maxes_of};
 use crate::vector_cache::{CacheHit, VectorCache};
 use job_bodies::MAX_SIZE;
-use least_vectors::{Kind, reach};
+use weights::{Kind, reach};
 use std::alloc::{AllocError, Global};
 
 /// The cores, maximums and ranks of the pools after some rounds.

@@ -19,7 +19,7 @@ use crate::vector_cache::VectorCache;
 use cert_check::accepts;
 use cert_text::Cert;
 use job_bodies::{MAX_POOLS, Plan};
-use least_vectors::Levels;
+use weights::Levels;
 use std::alloc::{AllocError, Global};
 
 /// The maximum number of attempts that start with the declared sizes, in addition to the first

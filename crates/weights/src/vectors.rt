@@ -14,12 +14,11 @@ ghost use Rattle.std.specs.Prelude.{◌<◌, IfOk, IfSome, IsTrue, length};
 ghost use Rattle.weights.specs.Vector.{vector_fits};
 ghost use Rattle.weights.specs.Bound.{bound_vector};
 
-use crate::Levels;
+use crate::{Bound, Levels, Vector};
 use crate::minimize_total::{least_vector, lightest_vector};
 use crate::target::Target;
 use job_bodies::{Plan, Pool};
 use std::alloc::{AllocError, Global};
-use weights::{Bound, Vector};
 
 /// Returns the bound of the pool's queue, or `None` if the search finds no bound. The plan must
 /// have a pool with the index `pool`. Whether the pool may reject jobs has no effect on the search.

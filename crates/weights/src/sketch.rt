@@ -1,13 +1,12 @@
 //! Sketches of vectors. A sketch has the weights of queued jobs, of done jobs, and of clients at
 //! the start of their bodies. It is computed in one pass over the bodies.
 
-use crate::Levels;
+use crate::{Levels, submitted_class};
 use crate::numbers::{number_at, put_at};
 use crate::target::Target;
 use crate::weight::Weight;
 use job_bodies::{Action, Class, Client, MAX_WEIGHT, Plan};
 use std::alloc::{AllocError, Global};
-use weights::submitted_class;
 
 /// The total of a sketch if there is no vector with the given worker weights, or if the total
 /// overflows. There is no vector in two cases: the weight of a job or a client would be above

@@ -7,7 +7,7 @@
 
 use crate::numbers::number_at;
 use job_bodies::{Action, Class, Plan, Pool};
-use weights::submitted_class;
+use crate::submitted_class;
 
 /// The requirement of a vector: the points at which each job of the target's pool must weigh at
 /// least 1.

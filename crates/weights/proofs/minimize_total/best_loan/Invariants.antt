@@ -1,5 +1,5 @@
 use Rattle.std.proofs.Common.{◌≡◌, ◌<◌, ◌≤◌, IfSome, length, vec_len}
-use Rattle.least_vectors.proofs.minimize_total.best_loan.Given as goal
+use Rattle.weights.proofs.minimize_total.best_loan.Given as goal
 
 abbrev pub invariant-loop-number : goal.invariant-loop-number
 invariant-loop-number l =

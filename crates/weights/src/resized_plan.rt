@@ -9,14 +9,13 @@
 ghost use Rattle.std.specs.Prelude.{◌≡◌, ◌<◌, length, IfOk, IfSome, IsTrue, vec_len};
 ghost use Rattle.weights.specs.Vector.{vector_fits};
 
-use crate::Levels;
+use crate::{Levels, Vector};
 use crate::minimize_total::{Loans, minimize_total};
 use crate::complete_vector::vector_of;
 use crate::sketch::{Sketch, TOO_HEAVY};
 use crate::target::{Lenders, Target};
 use job_bodies::Plan;
 use std::alloc::{AllocError, Global};
-use weights::Vector;
 
 /// The summary of a vector: the weights of workers and the total of the vector, without the weights
 /// of jobs and clients.

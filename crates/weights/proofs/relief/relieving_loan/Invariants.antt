@@ -1,5 +1,5 @@
 use Rattle.std.proofs.Common.{◌≡◌, ◌<◌, ◌≤◌, IfSome, length, vec_len}
-use Rattle.least_vectors.proofs.relief.relieving_loan.Given as goal
+use Rattle.weights.proofs.relief.relieving_loan.Given as goal
 
 abbrev pub invariant-loop-pool : goal.invariant-loop-pool
 invariant-loop-pool l =

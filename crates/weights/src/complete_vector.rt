@@ -10,7 +10,7 @@ use crate::target::Target;
 use crate::weight::Weight;
 use job_bodies::{Class, Client, Plan};
 use std::alloc::{AllocError, Global};
-use weights::Vector;
+use crate::Vector;
 
 /// Returns the complete vector of a sketch, with the worker weights `workers`. Returns `None` if
 /// the vector has a number above `MAX_WEIGHT`, or if `workers` does not have one weight for each

@@ -8,7 +8,7 @@
 ghost use Rattle.std.specs.Prelude.{◌≡◌, ◌<◌, ◌≤◌, length, IfOk, IfSome, IsTrue, vec_len};
 ghost use Rattle.weights.specs.Vector.{vector_fits};
 
-use crate::Levels;
+use crate::{Levels, Vector};
 use crate::numbers::{number_at, put_at};
 use crate::relief::relieving_loan;
 use crate::complete_vector::vector_of;
@@ -17,7 +17,6 @@ use crate::sketch_cache::SketchCache;
 use crate::target::Target;
 use job_bodies::Plan;
 use std::alloc::{AllocError, Global};
-use weights::Vector;
 
 /// The maximum number of loans in one search. A loan changes the weight of the workers of one pool.
 /// This limit bounds the time of a search.

@@ -6,11 +6,10 @@
 
 ghost use Rattle.std.specs.Prelude.{◌≡◌, IfOk, length, vec_len};
 
-use crate::Levels;
+use crate::{Levels, submitted_class};
 use crate::numbers::{number_at, put_at};
 use job_bodies::{Action, Class, Plan};
 use std::alloc::{AllocError, Global};
-use weights::submitted_class;
 
 /// Returns the reach of each class, given the ranks of the pools. A job depends on its own pool,
 /// and on the pools of all jobs that it gets, directly or through other jobs. The reach of a class

@@ -1,5 +1,5 @@
 use Rattle.std.proofs.Common.{◌≡◌, ◌<◌, vec_len}
-use Rattle.least_vectors.proofs.minimize_total.minimize_total.Given as goal
+use Rattle.weights.proofs.minimize_total.minimize_total.Given as goal
 
 abbrev pub invariant-loop : goal.invariant-loop
 invariant-loop l =
