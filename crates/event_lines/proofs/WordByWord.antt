@@ -3,7 +3,7 @@ use Rattle.std.proofs.Common.{◌≡◌, ℕ, true, false, List, [], ◌∷◌, 
 use Rattle.std.proofs.lemmas.Bool.{true≢false}
 use Rattle.std.proofs.lemmas.Option.{none-some, same_Some}
 use Rattle.line_words.specs.Pieces.{split_space}
-use Rattle.line_words.specs.Number.{number_of}
+use Rattle.line_words.specs.LineNumber.{number_of}
 use Rattle.event_lines.specs.Words.{all_of, unwrap_or_empty, members_in}
 use Rattle.line_words.proofs.FirstSpace.{words_more, words_end}
 

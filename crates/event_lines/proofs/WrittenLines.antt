@@ -11,7 +11,7 @@ use Rattle.job_bodies.specs.WellFormed.{are_distinct}
 use Rattle.written_machine.specs.declared.event.Event.{Event}
 use Rattle.written_machine.specs.declared.event.Event.TheVariants.{Client, Job, Take, Retire}
 use Rattle.line_words.specs.Pieces.{is_space, split_space, words_of}
-use Rattle.line_words.specs.Number.{number_of, is_valid_number}
+use Rattle.line_words.specs.LineNumber.{number_of, is_valid_number}
 use Rattle.event_lines.specs.EventLine.{Line, Perform, Stuck, pool_named, event_of, stuck_of, line_of_verb, line_of}
 use Rattle.event_lines.specs.Words.{all_of}
 use Rattle.event_lines.specs.LineText.{event_text, line_text, is_valid_event, is_valid_line}

@@ -1,7 +1,7 @@
 //! The content of an event line.
 
 ghost use Rattle.std.specs.Prelude.{◌≡◌, ◌≢◌, ◌++◌, ℕ, List, codes, option_map, MatchOption};
-ghost use Rattle.line_words.specs.Number.{split_number_line};
+ghost use Rattle.line_words.specs.LineNumber.{split_number_line};
 ghost use Rattle.event_lines.specs.EventLine.{line_seen};
 ghost use Rattle.event_lines.specs.EventLine as spec;
 

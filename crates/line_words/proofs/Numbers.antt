@@ -12,7 +12,7 @@ use Rattle.std.proofs.lemmas.Int.Digits.{digits_value_more}
 use Rattle.std.proofs.lemmas.Str.Parse.{digits_value-take-le}
 use Rattle.job_bodies.specs.declared.limits.TheConstants.{MAX_LINE_NUMBER}
 use Rattle.line_words.specs.Pieces.{is_newline, first_line, after_line}
-use Rattle.line_words.specs.Number.{has_leading_zero, is_whole_number, number_of, digit_count, leading_number, split_number_line}
+use Rattle.line_words.specs.LineNumber.{has_leading_zero, is_whole_number, number_of, digit_count, leading_number, split_number_line}
 use Rattle.line_words.proofs.FirstPieces.{place, no_more_before}
 use Rattle.line_words.proofs.Partial.{map_some, map_none}
 

@@ -5,7 +5,7 @@ use Rattle.std.proofs.lemmas.Bool.{cond-true}
 use Rattle.std.proofs.lemmas.Slice.Eq.{bytes_eq-Decides}
 use Rattle.job_bodies.specs.WellFormed.{is_valid_name}
 use Rattle.line_words.specs.Pieces.{split_space}
-use Rattle.line_words.specs.Number.{number_of, is_valid_number}
+use Rattle.line_words.specs.LineNumber.{number_of, is_valid_number}
 use Rattle.line_words.proofs.FirstSpace.{splits, split_parts}
 use Rattle.line_words.proofs.Splits.{has_no}
 use Rattle.line_words.proofs.WrittenNumbers.{number_read, number_written, decimal_has_no}

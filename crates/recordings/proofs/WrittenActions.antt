@@ -4,7 +4,7 @@ use Rattle.std.specs.List.{join_with_byte}
 use Rattle.std.proofs.lemmas.Bool.{and_from}
 use Rattle.std.proofs.lemmas.Option.{none-some, same_Some}
 use Rattle.line_words.specs.Pieces.{split_space}
-use Rattle.line_words.specs.Number.{number_of, is_valid_number}
+use Rattle.line_words.specs.LineNumber.{number_of, is_valid_number}
 use Rattle.line_words.proofs.FirstSpace.{split_parts}
 use Rattle.line_words.proofs.WrittenNumbers.{number_read}
 use Rattle.recordings.specs.declared.recording_line.RecordedActor.{RecordedActor}

@@ -2,7 +2,7 @@
 use Rattle.std.specs.Prelude.{ℕ, if◌then◌else◌, List, map, codes, Option, Some, None, Result, Ok, Err}
 use Rattle.std.specs.Str.{bytes_eq}
 use Rattle.line_words.specs.Pieces.{split_space}
-use Rattle.line_words.specs.Number.{number_of}
+use Rattle.line_words.specs.LineNumber.{number_of}
 use Rattle.recordings.specs.declared.recording_line.RecordedActor.{RecordedActor}
 use Rattle.recordings.specs.declared.recording_line.RecordedActor.TheVariants as actor
 use Rattle.recordings.specs.declared.recording_line.Line.{Line}
