@@ -6,8 +6,8 @@ use Rattle.std.proofs.lemmas.Bool.{and_parts, and_from, leb-true, le-leb, eqb-tr
 use Rattle.std.proofs.lemmas.List.{take-append-drop, take_at, drop_at}
 use Rattle.std.proofs.lemmas.Slice.Eq.{bytes_eq-Decides}
 use Rattle.job_bodies.specs.declared.limits.TheConstants.{MAX_LINE_NUMBER}
-use Rattle.line_words.specs.LineNumber.{number_of}
-use Rattle.line_words.proofs.WrittenNumbers.{number_read, number_written}
+use Rattle.support.specs.LineNumber.{number_of}
+use Rattle.support.proofs.WrittenNumbers.{number_read, number_written}
 use Rattle.conformance.specs.Family.{is_family_end, is_of_family, IsOfFamily}
 
 -- Digits that are read as a number from 2 on are the decimal form of this number.

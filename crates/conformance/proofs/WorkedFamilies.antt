@@ -1,7 +1,7 @@
 -- Examples of families of small plans, computed from the definitions.
 use Rattle.std.proofs.Common.{◌≡◌, ℕ, true, false, List, [], ◌∷◌, refl}
 use Rattle.std.specs.Prelude.{codes}
-use Rattle.line_words.specs.LineNumber.{is_whole_number, number_of}
+use Rattle.support.specs.LineNumber.{is_whole_number, number_of}
 use Rattle.job_bodies.specs.Plan.{Pool, Class, Client, Plan}
 use Rattle.conformance.specs.Family.{is_of_family, class_family, client_family}
 

@@ -6,7 +6,7 @@ ghost use Rattle.job_bodies.specs.Plan.{pool_at, class_at};
 ghost use Rattle.conformance.specs.Family as spec;
 
 use job_bodies::Plan;
-use line_words::number_of;
+use support::number_of;
 use std::alloc::{AllocError, Global};
 
 /// Returns true if a class or a client kind with the name `name` belongs to the family of `label`.

@@ -3,10 +3,10 @@ use Rattle.std.proofs.Common.{◌≡◌, ℕ, zero, suc, ◌+◌, ◌<◌, ◌�
 use Rattle.std.proofs.lemmas.List.{length-map, nil_from_length}
 use Rattle.support.specs.Reading.{read_each}
 use Rattle.job_bodies.specs.Plan.{Plan}
-use Rattle.line_words.specs.Pieces.{lines_of, first_line, after_line}
+use Rattle.support.specs.Pieces.{lines_of, first_line, after_line}
 use Rattle.event_lines.specs.EventLine.{Line, line_of, line_at, event_lines, split_event_line, lines_read, all_from}
-use Rattle.line_words.proofs.FirstPieces.{no_lines, lines_first, after_shorter}
-use Rattle.line_words.proofs.Partial.{map_some, map_none}
+use Rattle.support.proofs.FirstPieces.{no_lines, lines_first, after_shorter}
+use Rattle.support.proofs.Partial.{map_some, map_none}
 
 -- ---- one line
 lines_more : (plan : Plan) (text rest : List ℕ) (line : Option Line) → 0 < length text → line_of plan (first_line text) ≡ line → after_line text ≡ rest → lines_read plan text ≡ line ∷ lines_read plan rest

@@ -3,13 +3,13 @@ use Rattle.std.proofs.Common.{◌≡◌, ◌≢◌, ℕ, true, List, [], ◌∷�
 use Rattle.job_bodies.specs.Plan.{Plan}
 use Rattle.written_machine.specs.declared.event.Event.{Event}
 use Rattle.written_machine.specs.declared.event.Event.TheVariants.{Client, Job, Take, Retire}
-use Rattle.line_words.specs.Pieces.{first_line, after_line}
-use Rattle.line_words.specs.LineNumber.{number_of, split_number_line}
+use Rattle.support.specs.Pieces.{first_line, after_line}
+use Rattle.support.specs.LineNumber.{number_of, split_number_line}
 use Rattle.event_lines.specs.Words.{members_in}
 use Rattle.event_lines.specs.EventLine.{Line, Perform, Stuck, pool_named, event_of, stuck_of, line_of_verb, line_of, split_event_line}
 use Rattle.event_lines.specs.LineText.{line_text}
-use Rattle.line_words.proofs.Splits.{has_no}
-use Rattle.line_words.proofs.FirstPieces.{place, first_after, first_and_more}
+use Rattle.support.proofs.Splits.{has_no}
+use Rattle.support.proofs.FirstPieces.{place, first_after, first_and_more}
 use Rattle.event_lines.proofs.WrittenLines.{by_verb, read_line_is_text}
 
 -- ---- a whole line

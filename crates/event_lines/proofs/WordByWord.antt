@@ -2,10 +2,10 @@
 use Rattle.std.proofs.Common.{◌≡◌, ℕ, true, false, List, [], ◌∷◌, ◌++◌, Option, Some, None, is_some, option_map, refl, sym, ap, ◌∙◌, append_assoc}
 use Rattle.std.proofs.lemmas.Bool.{true≢false}
 use Rattle.std.proofs.lemmas.Option.{none-some, same_Some}
-use Rattle.line_words.specs.Pieces.{split_space}
-use Rattle.line_words.specs.LineNumber.{number_of}
+use Rattle.support.specs.Pieces.{split_space}
+use Rattle.support.specs.LineNumber.{number_of}
 use Rattle.event_lines.specs.Words.{all_of, unwrap_or_empty, members_in}
-use Rattle.line_words.proofs.FirstSpace.{words_more, words_end}
+use Rattle.support.proofs.FirstSpace.{words_more, words_end}
 
 -- ---- the numbers of the first word and of the others
 members_more : (text word rest : List ℕ) (n : ℕ) → Some (word, rest) ≡ split_space text → number_of word ≡ Some n → members_in text ≡ option_map (λ ns. n ∷ ns) (members_in rest)

@@ -10,15 +10,15 @@ use Rattle.job_bodies.specs.Plan.{Pool, Plan, no_pool, pool_at, pool_names}
 use Rattle.job_bodies.specs.WellFormed.{are_distinct}
 use Rattle.written_machine.specs.declared.event.Event.{Event}
 use Rattle.written_machine.specs.declared.event.Event.TheVariants.{Client, Job, Take, Retire}
-use Rattle.line_words.specs.Pieces.{is_space, split_space, words_of}
-use Rattle.line_words.specs.LineNumber.{number_of, is_valid_number}
+use Rattle.support.specs.Pieces.{is_space, split_space, words_of}
+use Rattle.support.specs.LineNumber.{number_of, is_valid_number}
 use Rattle.event_lines.specs.EventLine.{Line, Perform, Stuck, pool_named, event_of, stuck_of, line_of_verb, line_of}
 use Rattle.event_lines.specs.Words.{all_of}
 use Rattle.event_lines.specs.LineText.{event_text, line_text, is_valid_event, is_valid_line}
-use Rattle.line_words.proofs.Splits.{has_no, has_no-append, cut_at, cut_joined, joined_after, flat_map-map, is_piece}
-use Rattle.line_words.proofs.FirstSpace.{splits, split_parts}
-use Rattle.line_words.proofs.Partial.{map_some}
-use Rattle.line_words.proofs.WrittenNumbers.{number_read, number_written, decimal_has_no}
+use Rattle.support.proofs.Splits.{has_no, has_no-append, cut_at, cut_joined, joined_after, flat_map-map, is_piece}
+use Rattle.support.proofs.FirstSpace.{splits, split_parts}
+use Rattle.support.proofs.Partial.{map_some}
+use Rattle.support.proofs.WrittenNumbers.{number_read, number_written, decimal_has_no}
 
 -- if a conditional is `Some z`, its condition is true and its first branch is `Some z`, or its second branch is `Some z`
 choose : {Y : Type 0} (b : Bool) (x y : Option Y) (z : Y) → cond b x y ≡ Some z → ((b ≡ true) × (x ≡ Some z)) ⊎ (y ≡ Some z)

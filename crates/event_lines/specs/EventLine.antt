@@ -8,8 +8,8 @@ use Rattle.written_machine.specs.declared.event.Event.TheVariants as event
 use Rattle.event_lines.specs.declared.event_line.EventLine.{EventLine}
 use Rattle.event_lines.specs.declared.event_line.EventLine.TheVariants as code
 use Rattle.event_lines.specs.declared.lines.BadEventLine.{BadEventLine}
-use Rattle.line_words.specs.Pieces.{lines_of, split_space, first_line, after_line}
-use Rattle.line_words.specs.LineNumber.{number_of}
+use Rattle.support.specs.Pieces.{lines_of, split_space, first_line, after_line}
+use Rattle.support.specs.LineNumber.{number_of}
 use Rattle.event_lines.specs.Words.{members_in}
 
 pub data Line : Type 0 where

@@ -1,7 +1,7 @@
 -- The canonical text of event lines, and which lines are valid.
 use Rattle.std.specs.Prelude.{ℕ, Bool, ◌&&◌, nat_lt, nat_le, List, [], ◌∷◌, ◌++◌, length, codes, decimal, flat_map}
 use Rattle.std.specs.List.{list_all}
-use Rattle.line_words.specs.LineNumber.{is_valid_number}
+use Rattle.support.specs.LineNumber.{is_valid_number}
 use Rattle.job_bodies.specs.Plan.{Plan, pool_at}
 use Rattle.written_machine.specs.declared.event.Event.{Event}
 use Rattle.written_machine.specs.declared.event.Event.TheVariants.{Client, Job, Take, Retire}

@@ -1,7 +1,7 @@
 -- The numbers in a text of words.
 use Rattle.std.specs.Prelude.{ℕ, List, [], ◌∷◌, Option, Some, None, option_map, option_and_then}
-use Rattle.line_words.specs.Pieces.{words_of}
-use Rattle.line_words.specs.LineNumber.{number_of}
+use Rattle.support.specs.Pieces.{words_of}
+use Rattle.support.specs.LineNumber.{number_of}
 
 -- the values of f for all elements, or None if f gives None for one of them
 abbrev pub all_of : {X Y : Type 0} → (X → Option Y) → List X → Option (List Y)

@@ -1,13 +1,13 @@
 //! The content of an event line.
 
 ghost use Rattle.std.specs.Prelude.{◌≡◌, ◌≢◌, ◌++◌, ℕ, List, codes, option_map, MatchOption};
-ghost use Rattle.line_words.specs.LineNumber.{split_number_line};
+ghost use Rattle.support.specs.LineNumber.{split_number_line};
 ghost use Rattle.event_lines.specs.EventLine.{line_seen};
 ghost use Rattle.event_lines.specs.EventLine as spec;
 
 use crate::named_jobs::NamedJobs;
 use job_bodies::Plan;
-use line_words::{leading_number, split_line};
+use support::{leading_number, split_line};
 use written_machine::Event;
 
 /// The content of an event line: an event, or the question whether some jobs wait only for each

@@ -5,7 +5,7 @@ ghost use Rattle.event_lines.specs.EventLine.{line_read, lines_read};
 
 use crate::event_line::{EventLine, split_event_line};
 use job_bodies::Plan;
-use line_words::split_line;
+use support::split_line;
 use std::marker::Model;
 
 /// A parser of the event lines of a text. Each call of [`next`](EventLines::next) parses one line.

@@ -3,7 +3,7 @@
 ghost use Rattle.std.specs.Prelude.{◌≡◌, IfOk};
 ghost use Rattle.event_lines.specs.Words.{members_in};
 
-use line_words::{number_of, split_space};
+use support::{number_of, split_space};
 use std::alloc::{AllocError, Global};
 use std::marker::Model;
 

@@ -6,9 +6,9 @@ use Rattle.std.specs.Str.Parse.{digits_value}
 use Rattle.std.proofs.lemmas.Bool.{and_parts}
 use Rattle.std.proofs.lemmas.Option.{cond_some, none-some, same_Some}
 use Rattle.job_bodies.specs.declared.limits.TheConstants.{MAX_LINE_NUMBER}
-use Rattle.line_words.specs.LineNumber.{has_leading_zero, is_whole_number, number_of, digit_count, leading_number, is_valid_number}
-use Rattle.line_words.proofs.Numbers.{prefix_read}
-use Rattle.line_words.proofs.WrittenNumbers.{number_read, number_written}
+use Rattle.support.specs.LineNumber.{has_leading_zero, is_whole_number, number_of, digit_count, leading_number, is_valid_number}
+use Rattle.support.proofs.Numbers.{prefix_read}
+use Rattle.support.proofs.WrittenNumbers.{number_read, number_written}
 use Rattle.recordings.specs.Words.{parse_number}
 use Rattle.recordings.proofs.WordByWord.{number_then_read, number_then_written}
 

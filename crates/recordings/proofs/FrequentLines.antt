@@ -10,9 +10,9 @@ use Rattle.std.proofs.lemmas.List.{get_or-take, length-take-le, take_rest}
 use Rattle.std.proofs.lemmas.Slice.Eq.{HasBytesAt}
 use Rattle.job_bodies.specs.WellFormed.{is_name_byte, is_valid_name}
 use Rattle.job_bodies.specs.declared.limits.TheConstants.{MAX_LINE_NUMBER, MAX_NAME_BYTES}
-use Rattle.line_words.specs.LineNumber.{is_valid_number, is_whole_number, number_of}
-use Rattle.line_words.proofs.Splits.{has_no, has_no-append}
-use Rattle.line_words.proofs.WrittenNumbers.{number_read, decimal_has_no}
+use Rattle.support.specs.LineNumber.{is_valid_number, is_whole_number, number_of}
+use Rattle.support.proofs.Splits.{has_no, has_no-append}
+use Rattle.support.proofs.WrittenNumbers.{number_read, decimal_has_no}
 use Rattle.recordings.specs.declared.recording_line.RecordedActor.{RecordedActor}
 use Rattle.recordings.specs.declared.recording_line.RecordedActor.TheVariants.{Job, Round}
 use Rattle.recordings.specs.RecordingLine.{RecordedLine, RoundBegins, RoundEnds, Submits, JobStarts, JobEnds, Got, line_of, lines_read}

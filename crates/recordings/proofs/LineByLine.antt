@@ -7,9 +7,9 @@ use Rattle.std.proofs.lemmas.List.Splits.{slice_split_none, slice_split_first, l
 use Rattle.std.proofs.lemmas.List.Sums.{fails_before_first, position_or_len_is, count_by-le-length}
 use Rattle.std.proofs.lemmas.Option.{cond_some, none-some}
 use Rattle.memchr.specs.Find.{IsFirstByte, is_byte}
-use Rattle.line_words.specs.Pieces.{is_newline, first_line, after_line}
-use Rattle.line_words.proofs.FirstPieces.{place, first_there, after_there}
-use Rattle.line_words.proofs.Splits.{has_no, cut_first}
+use Rattle.support.specs.Pieces.{is_newline, first_line, after_line}
+use Rattle.support.proofs.FirstPieces.{place, first_there, after_there}
+use Rattle.support.proofs.Splits.{has_no, cut_first}
 use Rattle.recordings.specs.WholeLines.{whole_lines}
 use Rattle.recordings.specs.RecordingLine.{line_of, lines_read}
 

@@ -6,7 +6,7 @@ use Rattle.std.proofs.lemmas.Bool.{and_parts, and_from, cases_Bool, cond-false}
 use Rattle.std.proofs.lemmas.Bool.Decides.{nat_tests}
 use Rattle.std.proofs.lemmas.Str.{IsUtf8-from_ascii}
 use Rattle.job_bodies.specs.WellFormed.{is_name_byte, is_valid_name}
-use Rattle.line_words.proofs.Splits.{has_no}
+use Rattle.support.proofs.Splits.{has_no}
 use Rattle.recordings.specs.Words.{name_of}
 
 -- a name byte is never below the digits

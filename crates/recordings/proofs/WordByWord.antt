@@ -4,11 +4,11 @@ use Rattle.std.proofs.lemmas.Option.{none-some, same_Some, cond_some}
 use Rattle.std.proofs.lemmas.Bool.{cond-true}
 use Rattle.std.proofs.lemmas.Slice.Eq.{bytes_eq-Decides}
 use Rattle.job_bodies.specs.WellFormed.{is_valid_name}
-use Rattle.line_words.specs.Pieces.{split_space}
-use Rattle.line_words.specs.LineNumber.{number_of, is_valid_number}
-use Rattle.line_words.proofs.FirstSpace.{splits, split_parts}
-use Rattle.line_words.proofs.Splits.{has_no}
-use Rattle.line_words.proofs.WrittenNumbers.{number_read, number_written, decimal_has_no}
+use Rattle.support.specs.Pieces.{split_space}
+use Rattle.support.specs.LineNumber.{number_of, is_valid_number}
+use Rattle.support.proofs.FirstSpace.{splits, split_parts}
+use Rattle.support.proofs.Splits.{has_no}
+use Rattle.support.proofs.WrittenNumbers.{number_read, number_written, decimal_has_no}
 use Rattle.recordings.specs.Words.{◌>>=◌, name_of, parse_number, parse_name, strip_word, parse_word_and_number}
 use Rattle.recordings.proofs.Names.{name_has_no}
 

@@ -3,10 +3,10 @@ use Rattle.std.proofs.Common.{◌≡◌, ℕ, true, List, [], ◌∷◌, ◌++�
 use Rattle.std.specs.List.{join_with_byte}
 use Rattle.std.proofs.lemmas.Bool.{and_from}
 use Rattle.std.proofs.lemmas.Option.{none-some, same_Some}
-use Rattle.line_words.specs.Pieces.{split_space}
-use Rattle.line_words.specs.LineNumber.{number_of, is_valid_number}
-use Rattle.line_words.proofs.FirstSpace.{split_parts}
-use Rattle.line_words.proofs.WrittenNumbers.{number_read}
+use Rattle.support.specs.Pieces.{split_space}
+use Rattle.support.specs.LineNumber.{number_of, is_valid_number}
+use Rattle.support.proofs.FirstSpace.{split_parts}
+use Rattle.support.proofs.WrittenNumbers.{number_read}
 use Rattle.recordings.specs.declared.recording_line.RecordedActor.{RecordedActor}
 use Rattle.recordings.specs.declared.recording_line.RecordedActor.TheVariants.{Job, Round}
 use Rattle.recordings.specs.Words.{◌>>=◌, name_of}

@@ -4,11 +4,11 @@ use Rattle.std.specs.List.{join_with_byte}
 use Rattle.std.proofs.lemmas.Bool.{and_parts, and_from}
 use Rattle.std.proofs.lemmas.Option.{none-some, same_Some}
 use Rattle.job_bodies.specs.WellFormed.{is_valid_name}
-use Rattle.line_words.specs.Pieces.{split_space}
-use Rattle.line_words.specs.LineNumber.{number_of, is_valid_number}
-use Rattle.line_words.proofs.FirstSpace.{splits, split_parts}
-use Rattle.line_words.proofs.Splits.{has_no}
-use Rattle.line_words.proofs.WrittenNumbers.{number_read, number_written}
+use Rattle.support.specs.Pieces.{split_space}
+use Rattle.support.specs.LineNumber.{number_of, is_valid_number}
+use Rattle.support.proofs.FirstSpace.{splits, split_parts}
+use Rattle.support.proofs.Splits.{has_no}
+use Rattle.support.proofs.WrittenNumbers.{number_read, number_written}
 use Rattle.recordings.specs.declared.recording_line.RecordedActor.{RecordedActor}
 use Rattle.recordings.specs.declared.recording_line.RecordedActor.TheVariants.{Job, Round}
 use Rattle.recordings.specs.Words.{◌>>=◌, name_of, parse_number, parse_name}

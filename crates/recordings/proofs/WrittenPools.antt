@@ -3,10 +3,10 @@ use Rattle.std.proofs.Common.{◌≡◌, ◌&&◌, ℕ, Bool, true, false, List,
 use Rattle.std.specs.List.{join_with_byte}
 use Rattle.std.proofs.lemmas.Bool.{and_parts, and_from}
 use Rattle.std.proofs.lemmas.Option.{none-some, same_Some}
-use Rattle.line_words.specs.Pieces.{split_space}
-use Rattle.line_words.specs.LineNumber.{is_valid_number}
-use Rattle.line_words.proofs.FirstSpace.{splits, split_parts}
-use Rattle.line_words.proofs.Splits.{has_no}
+use Rattle.support.specs.Pieces.{split_space}
+use Rattle.support.specs.LineNumber.{is_valid_number}
+use Rattle.support.proofs.FirstSpace.{splits, split_parts}
+use Rattle.support.proofs.Splits.{has_no}
 use Rattle.recordings.specs.declared.pool_sizes.PoolSizes.{PoolSizes}
 use Rattle.recordings.specs.declared.pool_sizes.QueueKind.{QueueKind}
 use Rattle.recordings.specs.declared.pool_sizes.QueueKind.TheVariants as queue

@@ -2,7 +2,7 @@
 use Rattle.std.specs.Prelude.{ℕ, Bool, true, false, ◌&&◌, List, [], ◌∷◌, ◌++◌, codes, decimal}
 use Rattle.std.specs.List.{join_with_byte}
 use Rattle.job_bodies.specs.WellFormed.{is_valid_name}
-use Rattle.line_words.specs.LineNumber.{is_valid_number}
+use Rattle.support.specs.LineNumber.{is_valid_number}
 use Rattle.recordings.specs.declared.recording_line.RecordedActor.{RecordedActor}
 use Rattle.recordings.specs.declared.recording_line.RecordedActor.TheVariants.{Job, Round}
 use Rattle.recordings.specs.declared.pool_sizes.PoolSizes.{PoolSizes}

@@ -1,7 +1,7 @@
 -- The settings of a pool in a `pool` line: its sizes, its queue and its handler.
 use Rattle.std.specs.Prelude.{ℕ, Bool, true, false, ◌==◌, ◌&&◌, if◌then◌else◌, List, Option, Some, None, codes}
 use Rattle.std.specs.Str.{bytes_eq}
-use Rattle.line_words.specs.Pieces.{split_space}
+use Rattle.support.specs.Pieces.{split_space}
 use Rattle.recordings.specs.declared.pool_sizes.TheConstants.{UNBOUNDED_CAPACITY}
 use Rattle.recordings.specs.declared.pool_sizes.PoolSizes.{PoolSizes}
 use Rattle.recordings.specs.declared.pool_sizes.QueueKind.{QueueKind}

@@ -1,8 +1,8 @@
 -- The parsed lines of a recording.
 use Rattle.std.specs.Prelude.{ℕ, if◌then◌else◌, List, map, codes, Option, Some, None, Result, Ok, Err}
 use Rattle.std.specs.Str.{bytes_eq}
-use Rattle.line_words.specs.Pieces.{split_space}
-use Rattle.line_words.specs.LineNumber.{number_of}
+use Rattle.support.specs.Pieces.{split_space}
+use Rattle.support.specs.LineNumber.{number_of}
 use Rattle.recordings.specs.declared.recording_line.RecordedActor.{RecordedActor}
 use Rattle.recordings.specs.declared.recording_line.RecordedActor.TheVariants as actor
 use Rattle.recordings.specs.declared.recording_line.Line.{Line}

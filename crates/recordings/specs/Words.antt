@@ -2,8 +2,8 @@
 use Rattle.std.specs.Prelude.{ℕ, if◌then◌else◌, List, Option, Some, None}
 use Rattle.std.specs.Str.{bytes_eq}
 use Rattle.job_bodies.specs.WellFormed.{is_valid_name}
-use Rattle.line_words.specs.Pieces.{split_space}
-use Rattle.line_words.specs.LineNumber.{number_of}
+use Rattle.support.specs.Pieces.{split_space}
+use Rattle.support.specs.LineNumber.{number_of}
 
 -- the second parser applied to the result of the first; None if the first has no result
 infixl 10 ◌>>=◌

@@ -13,7 +13,7 @@
 ghost use Rattle.std.specs.Prelude.{◌≡◌, ◌≤◌, ◌<◌, ◌+◌, ◌++◌, ◌∷◌, true, length, take, codes, decimal, Some, IfSome};
 ghost use Rattle.std.specs.List.{list_all};
 ghost use Rattle.job_bodies.specs.WellFormed.{is_name_byte, is_valid_name};
-ghost use Rattle.line_words.specs.LineNumber.{is_valid_number};
+ghost use Rattle.support.specs.LineNumber.{is_valid_number};
 ghost use Rattle.recordings.specs.RecordingLine.{line_view, lines_read};
 ghost use Rattle.recordings.specs.LineText.{after_actor, is_valid_actor};
 ghost use Rattle.recordings.specs.declared.recording_line.RecordedActor.TheVariants.{Job, Round};

@@ -8,7 +8,7 @@ ghost use Rattle.recordings.specs.RecordingLine as spec;
 use crate::pool_sizes::pool_sizes_of;
 use crate::recording_line::{Line, RecordedActor};
 use crate::words::{is_word, name_of, parse_name, parse_number};
-use line_words::{number_of, split_space};
+use support::{number_of, split_space};
 
 /// Parses a line of any form, without its newline. The caller passes only lines that
 /// [`split_frequent_line`](crate::frequent_lines) does not parse.

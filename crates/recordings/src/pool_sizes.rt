@@ -6,7 +6,7 @@ ghost use Rattle.recordings.specs.PoolSizes as spec;
 
 use crate::words::{is_word, parse_number, parse_word_and_number, strip_word};
 use job_bodies::MAX_LINE_NUMBER;
-use line_words::split_space;
+use support::split_space;
 
 /// The capacity of an unbounded queue in a `pool` line. A `LinkedBlockingQueue` with this capacity
 /// counts as unbounded.

@@ -6,7 +6,7 @@ ghost use Rattle.std.specs.Str.{bytes_eq};
 ghost use Rattle.recordings.specs.Words as spec;
 
 use job_bodies::is_valid_name;
-use line_words::{leading_number, split_space};
+use support::{leading_number, split_space};
 
 /// Returns true if the text is exactly this word.
 pub(crate) fn is_word(text: &[u8], word: &str) -> bool

@@ -11,3 +11,10 @@ pub mod Loops
 pub mod ReadingEach
 pub mod ReadElements
 pub mod Counting
+pub mod FirstPieces
+pub mod FirstSpace
+pub mod LastNewline
+pub mod Numbers
+pub mod Partial
+pub mod Splits
+pub mod WrittenNumbers

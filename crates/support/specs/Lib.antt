@@ -12,3 +12,5 @@ pub mod Name
 pub mod Number
 pub mod Pushed
 pub mod Tens
+pub mod Pieces
+pub mod LineNumber

@@ -2,7 +2,7 @@ use Rattle.std.proofs.Common.{◌∷◌, [], Some, None, sym}
 use Rattle.std.proofs.lemmas.Bool.{eqb-true}
 use Rattle.std.proofs.lemmas.Bool.Decides.{Decides-eqb}
 use Rattle.std.proofs.lemmas.Slice.Eq.{strip_prefix_is}
-use Rattle.line_words.proofs.Numbers.{not_zero, line_none, line_last, line_newline, line_more}
+use Rattle.support.proofs.Numbers.{not_zero, line_none, line_last, line_newline, line_more}
 use Rattle.event_lines.proofs.event_line.split_number_line.Goals as goal
 
 pub returns-in_err-number : goal.returns-in_err-number

@@ -1,7 +1,7 @@
 use Rattle.std.proofs.Common.{◌≡◌, ◌+◌, ◌*◌, ◌<◌, ◌≤◌, false, ◌==◌, length, get_or, sym, ap, ◌∙◌, arith}
 use Rattle.std.proofs.lemmas.List.{take_rest}
 use Rattle.std.proofs.lemmas.Bool.Decides.{nat_tests}
-use Rattle.line_words.proofs.Numbers.{digits_more, more_digits}
+use Rattle.support.proofs.Numbers.{digits_more, more_digits}
 use Rattle.recordings.proofs.FrequentLines.{one_digit, power_more, number_there}
 use Rattle.recordings.proofs.frequent_lines.split_number.Goals as goal
 

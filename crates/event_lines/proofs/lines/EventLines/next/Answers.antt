@@ -1,7 +1,7 @@
 use Rattle.std.proofs.Common.{sym, ◌∙◌}
 use Rattle.std.proofs.lemmas.Bool.{eqb-true}
 use Rattle.event_lines.specs.EventLine.{line_seen}
-use Rattle.line_words.proofs.Numbers.{not_zero}
+use Rattle.support.proofs.Numbers.{not_zero}
 use Rattle.event_lines.proofs.LineByLine.{next_good, next_bad, none_left}
 use Rattle.event_lines.proofs.lines.EventLines.next.Goals as goal
 

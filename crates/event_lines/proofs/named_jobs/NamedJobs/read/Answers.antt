@@ -1,5 +1,5 @@
 use Rattle.std.proofs.Common.{sym}
-use Rattle.line_words.proofs.FirstSpace.{rest_shorter}
+use Rattle.support.proofs.FirstSpace.{rest_shorter}
 use Rattle.event_lines.proofs.WordByWord.{read_more, read_bad, read_last_bad, all_numbers, whole_members}
 use Rattle.event_lines.proofs.named_jobs.NamedJobs.read.Goals as goal
 

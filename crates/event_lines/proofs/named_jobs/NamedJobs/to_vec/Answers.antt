@@ -1,5 +1,5 @@
 use Rattle.std.proofs.Common.{sym}
-use Rattle.line_words.proofs.FirstSpace.{rest_shorter}
+use Rattle.support.proofs.FirstSpace.{rest_shorter}
 use Rattle.event_lines.proofs.WordByWord.{front_begin, front_more, front_bad, front_last, front_last_bad}
 use Rattle.event_lines.proofs.named_jobs.NamedJobs.to_vec.Goals as goal
 use Rattle.event_lines.proofs.named_jobs.NamedJobs.to_vec.Goals.{in-Some-number_of-2+in_ok-push-2, in_default-number_of-2}

@@ -1,8 +1,8 @@
 use Rattle.std.proofs.Common.{◌≡◌, ◌+◌, ◌*◌, ◌<◌, false, length, get_or, sym, ◌∙◌, arith}
 use Rattle.std.specs.Char.{is_ascii_digit}
-use Rattle.line_words.proofs.Numbers.{digits_more, more_digits, counted, none_past, none_begun, some_read}
-use Rattle.line_words.proofs.line_number.leading_number.Goals as goal
-use Rattle.line_words.proofs.line_number.leading_number.Goals.{then-loop-count-test+else-is_ascii_digit, else-loop-count-test}
+use Rattle.support.proofs.Numbers.{digits_more, more_digits, counted, none_past, none_begun, some_read}
+use Rattle.support.proofs.line_number.leading_number.Goals as goal
+use Rattle.support.proofs.line_number.leading_number.Goals.{then-loop-count-test+else-is_ascii_digit, else-loop-count-test}
 
 pub returns-then-value-gt-MAX_LINE_NUMBER : goal.returns-then-value-gt-MAX_LINE_NUMBER
 returns-then-value-gt-MAX_LINE_NUMBER c =

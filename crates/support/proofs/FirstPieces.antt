@@ -7,9 +7,9 @@ use Rattle.std.proofs.lemmas.List.{drop_all, take_all, length-take-le, get_or-ta
 use Rattle.std.proofs.lemmas.List.Sums.{split_at_first, passes_at_first, fails_before_first, prefix_len-le-length}
 use Rattle.std.proofs.lemmas.List.Splits.{slice_split_none, slice_split_at}
 use Rattle.std.proofs.lemmas.Option.{cond_some, none-some}
-use Rattle.line_words.specs.Pieces.{is_newline, without_last_newline, lines_of, first_line, after_line}
-use Rattle.line_words.proofs.Splits.{has_no, cut_at}
-use Rattle.line_words.proofs.LastNewline.{lines_of_some, cut_off, stays}
+use Rattle.support.specs.Pieces.{is_newline, without_last_newline, lines_of, first_line, after_line}
+use Rattle.support.proofs.Splits.{has_no, cut_at}
+use Rattle.support.proofs.LastNewline.{lines_of_some, cut_off, stays}
 
 -- the part of the text before its first byte c; the whole text if it has none
 abbrev pub before : ℕ → List ℕ → List ℕ

@@ -11,10 +11,10 @@ use Rattle.std.proofs.lemmas.List.Sums.{prefix_len_passes, prefix_len_stops, pre
 use Rattle.std.proofs.lemmas.Int.Digits.{digits_value_more}
 use Rattle.std.proofs.lemmas.Str.Parse.{digits_value-take-le}
 use Rattle.job_bodies.specs.declared.limits.TheConstants.{MAX_LINE_NUMBER}
-use Rattle.line_words.specs.Pieces.{is_newline, first_line, after_line}
-use Rattle.line_words.specs.LineNumber.{has_leading_zero, is_whole_number, number_of, digit_count, leading_number, split_number_line}
-use Rattle.line_words.proofs.FirstPieces.{place, no_more_before}
-use Rattle.line_words.proofs.Partial.{map_some, map_none}
+use Rattle.support.specs.Pieces.{is_newline, first_line, after_line}
+use Rattle.support.specs.LineNumber.{has_leading_zero, is_whole_number, number_of, digit_count, leading_number, split_number_line}
+use Rattle.support.proofs.FirstPieces.{place, no_more_before}
+use Rattle.support.proofs.Partial.{map_some, map_none}
 
 digit_of_all : (xs : List ℕ) (i : ℕ) → list_all is_ascii_digit xs ≡ true → i < length xs → is_ascii_digit (get_or xs i 0) ≡ true
 digit_of_all [] i all inside = absurd (omega arith)

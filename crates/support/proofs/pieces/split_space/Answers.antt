@@ -1,9 +1,9 @@
 use Rattle.std.proofs.Common.{◌≡◌, position, refl, sym, ◌∙◌, rules, tests}
 use Rattle.std.proofs.lemmas.Iterator.{YieldsList-from_slice}
 use Rattle.std.proofs.lemmas.Iterator.Search.{position_from_yields_List}
-use Rattle.line_words.specs.Pieces.{is_space}
-use Rattle.line_words.proofs.FirstSpace.{split_nowhere, split_at}
-use Rattle.line_words.proofs.pieces.split_space.Goals as goal
+use Rattle.support.specs.Pieces.{is_space}
+use Rattle.support.proofs.FirstSpace.{split_nowhere, split_at}
+use Rattle.support.proofs.pieces.split_space.Goals as goal
 
 pub returns-in_err-place : goal.returns-in_err-place
 returns-in_err-place c =

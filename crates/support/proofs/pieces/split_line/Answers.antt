@@ -2,9 +2,9 @@ use Rattle.std.proofs.Common.{◌≡◌, ◌+◌, position, sym, ◌∙◌, rule
 use Rattle.std.proofs.lemmas.Iterator.{YieldsList-from_slice}
 use Rattle.std.proofs.lemmas.Iterator.Search.{position_from_yields_List}
 use Rattle.std.proofs.lemmas.List.{take_rest}
-use Rattle.line_words.specs.Pieces.{is_newline}
-use Rattle.line_words.proofs.FirstPieces.{first_there, after_there, first_nowhere, after_nowhere}
-use Rattle.line_words.proofs.pieces.split_line.Goals as goal
+use Rattle.support.specs.Pieces.{is_newline}
+use Rattle.support.proofs.FirstPieces.{first_there, after_there, first_nowhere, after_nowhere}
+use Rattle.support.proofs.pieces.split_line.Goals as goal
 
 pub returns-in-Some-clause-line : goal.returns-in-Some-clause-line
 returns-in-Some-clause-line c =

@@ -1,7 +1,7 @@
 //! Unsigned integers in a text.
 
 ghost use Rattle.std.specs.Prelude.{◌≡◌, ◌==◌, ◌&&◌, not, length, option_map};
-ghost use Rattle.line_words.specs.LineNumber as spec;
+ghost use Rattle.support.specs.LineNumber as spec;
 
 use job_bodies::MAX_LINE_NUMBER;
 

@@ -9,8 +9,8 @@ use Rattle.std.proofs.lemmas.Option.{cond_some}
 use Rattle.std.proofs.lemmas.Str.Parse.{IsNumeralModel, numerals_by_value}
 use Rattle.std.proofs.lemmas.Fmt.{decimal_nonempty, first_decimal, digits_decimal, digits_value-decimal, decimal_digit, decimal-digits_value}
 use Rattle.job_bodies.specs.declared.limits.TheConstants.{MAX_LINE_NUMBER}
-use Rattle.line_words.specs.LineNumber.{has_leading_zero, is_whole_number, number_of, is_valid_number}
-use Rattle.line_words.proofs.Splits.{has_no}
+use Rattle.support.specs.LineNumber.{has_leading_zero, is_whole_number, number_of, is_valid_number}
+use Rattle.support.proofs.Splits.{has_no}
 
 digits_are : IsNumeralModel (λ digits. list_all is_ascii_digit digits ≡ true) (digits_value 10)
 digits_are = numerals_by_value _ (search rules)

@@ -1,7 +1,7 @@
 //! Splits a text into lines, and a line into words.
 
 ghost use Rattle.std.specs.Prelude.{◌≡◌, option_map};
-ghost use Rattle.line_words.specs.Pieces as spec;
+ghost use Rattle.support.specs.Pieces as spec;
 
 /// Returns the first line of a text without its newline, and the text after this newline. If the
 /// text has no newline, returns the whole text and an empty text.

@@ -1,7 +1,7 @@
 use Rattle.std.proofs.Common.{sym}
 use Rattle.std.proofs.lemmas.Bool.{eqb-true}
-use Rattle.line_words.proofs.Numbers.{not_zero, whole_read, whole_none, whole_more}
-use Rattle.line_words.proofs.line_number.number_of.Goals as goal
+use Rattle.support.proofs.Numbers.{not_zero, whole_read, whole_none, whole_more}
+use Rattle.support.proofs.line_number.number_of.Goals as goal
 
 pub returns-in_err-number : goal.returns-in_err-number
 returns-in_err-number c = rw c.from_residual.ensures (whole_none c.args.text.now (rw c.in_err-number.was at c.leading_number.ensures))

@@ -2,8 +2,8 @@
 use Rattle.std.proofs.Common.{◌≡◌, ◌⊎◌, inl, inr, ℕ, suc, ◌-◌, ◌<◌, false, ◌==◌, List, [], ◌∷◌, ◌++◌, length, take, get_or, refl, sym, ap, ◌∙◌, arith, get_or-append-add, take_at, take_all, take-suc}
 use Rattle.std.proofs.lemmas.Bool.{eqb-true, eq-eqb, ne_eqb, cond-true, cond-false, cases_Bool}
 use Rattle.std.proofs.lemmas.List.{length_push}
-use Rattle.line_words.specs.Pieces.{without_last_newline, lines_of}
-use Rattle.line_words.proofs.Splits.{cut_at}
+use Rattle.support.specs.Pieces.{without_last_newline, lines_of}
+use Rattle.support.proofs.Splits.{cut_at}
 
 -- the text is its part without the final newline, followed by a newline or by nothing
 pub last_newline : (text : List ℕ) → 0 < length text → (text ≡ without_last_newline text ++ 10 ∷ []) ⊎ (text ≡ without_last_newline text)

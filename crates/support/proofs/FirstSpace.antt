@@ -6,9 +6,9 @@ use Rattle.std.proofs.lemmas.List.{length_push, take_rest}
 use Rattle.std.proofs.lemmas.List.Splits.{slice_split_none, slice_split_first}
 use Rattle.std.proofs.lemmas.List.Sums.{fails_before_first, passes_at_first, split_at_first}
 use Rattle.std.proofs.lemmas.Option.{cond_some, none-some}
-use Rattle.line_words.specs.Pieces.{split_space, words_of, is_space}
-use Rattle.line_words.proofs.Partial.{map_some, map_none}
-use Rattle.line_words.proofs.Splits.{has_no}
+use Rattle.support.specs.Pieces.{split_space, words_of, is_space}
+use Rattle.support.proofs.Partial.{map_some, map_none}
+use Rattle.support.proofs.Splits.{has_no}
 
 -- `split_space` of a text without a space is None
 pub split_nowhere : (text : List ℕ) → position is_space text ≡ None → split_space text ≡ None
