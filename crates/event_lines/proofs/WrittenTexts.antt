@@ -11,7 +11,7 @@ use Rattle.job_bodies.specs.WellFormed.{is_name_byte, is_valid_name, is_valid_po
 use Rattle.support.specs.Pieces.{is_newline, without_last_newline, lines_of}
 use Rattle.event_lines.specs.EventLine.{Line, line_of, line_at, event_lines}
 use Rattle.event_lines.specs.LineText.{line_text, lines_text, is_valid_line}
-use Rattle.event_lines.specs.Laws.{EventLinesAreCanonical}
+use Rattle.event_lines.specs.LineLaws.{EventLinesAreCanonical}
 use Rattle.support.proofs.LastNewline.{last_newline, cut_off, stays, lines_of_some}
 use Rattle.support.proofs.Splits.{has_no, cut_at, cut_joined, joined_before, flat_map-map, is_piece, joined_ends}
 use Rattle.event_lines.proofs.WrittenLines.{read_line_is_text, text_reads_as_line, has_plain_name, line_on_one_line}

@@ -2,4 +2,4 @@ pub mod Words
 pub mod EventLine
 pub mod LineText
 pub mod Reply
-pub mod Laws
+pub mod LineLaws

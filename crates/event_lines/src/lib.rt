@@ -8,13 +8,13 @@
 #![tactic(auto)]
 
 mod event_line;
-mod laws;
+mod line_laws;
 mod lines;
 mod named_jobs;
 mod reply;
 
 pub use event_line::EventLine;
-pub use laws::event_lines_are_canonical;
+pub use line_laws::event_lines_are_canonical;
 pub use lines::{BadEventLine, EventLines};
 pub use named_jobs::NamedJobs;
 pub use reply::{Reply, push_reply, push_summary};

@@ -1,6 +1,6 @@
 //! A law of event lines. The law is the contract of a function with an empty body.
 
-ghost use Rattle.event_lines.specs.Laws.{EventLinesAreCanonical};
+ghost use Rattle.event_lines.specs.LineLaws.{EventLinesAreCanonical};
 
 /// States that each event line has exactly one spelling. Consider a well-formed plan, a text and a
 /// list of lines. The text parses as this list if and only if both of these conditions hold:
