@@ -2,7 +2,7 @@
 
 ghost use Rattle.std.specs.Prelude.{◌≡◌, ◌++◌, ◌∷◌, [], flat_map, decimal};
 ghost use Rattle.support.specs.Pushed.{Pushes};
-ghost use Rattle.event_lines.specs.LineText.{event_text, lines_text};
+ghost use Rattle.interleaving.specs.LineText.{event_text, lines_text};
 ghost use Rattle.counterexample.specs.EventLines as spec;
 
 use crate::{Ending, Witness};

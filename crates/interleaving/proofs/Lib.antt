@@ -38,3 +38,8 @@ pub mod PlacesUsedAgain
 pub mod Membership
 pub mod MembersAtWork
 pub mod WaitingSets
+pub mod LineByLine
+pub mod Verbs
+pub mod WordByWord
+pub mod WrittenLines
+pub mod WrittenTexts

@@ -17,3 +17,8 @@ pub mod Answers
 pub mod NextAction
 pub mod Stuck
 pub mod PoolActivity
+pub mod Words
+pub mod EventLine
+pub mod LineText
+pub mod Reply
+pub mod LineLaws

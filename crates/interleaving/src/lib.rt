@@ -8,6 +8,7 @@
 
 mod activities;
 mod clients;
+mod event_line;
 mod finish;
 mod get;
 mod job_ring;
@@ -15,13 +16,17 @@ mod job_table;
 mod job_view;
 mod latest_jobs;
 mod laws;
+mod line_laws;
+mod lines;
 mod live_jobs;
 mod members;
 mod moved_clients;
 mod moves;
+mod named_jobs;
 mod next_action;
 mod plans;
 mod pools;
+mod reply;
 mod step;
 mod stuck;
 mod submit;
@@ -29,11 +34,16 @@ mod submit_map;
 mod world;
 
 pub use clients::Clients;
+pub use event_line::EventLine;
 pub use job_view::{JobView, Phase};
 pub use laws::{
     dead_jobs_stay_dead, start_is_seen, steps_commute, unfinished_jobs_are_live,
     waiting_sets_are_seen,
 };
+pub use line_laws::event_lines_are_canonical;
+pub use lines::{BadEventLine, EventLines};
 pub use live_jobs::LiveJobs;
+pub use named_jobs::NamedJobs;
+pub use reply::{Reply, push_reply, push_summary};
 pub use world::World;
 pub use written_machine::{ClientState, Event, Outcome, Parent};

@@ -3,8 +3,8 @@ use Rattle.std.specs.Prelude.{map, codes}
 use Rattle.serde_json.specs.Data.{Data, string, object, member, no_members}
 use Rattle.job_bodies.specs.Plan.{Plan}
 use Rattle.diagnostics.specs.declared.entry_places.PlanPlaces.{PlanPlaces}
-use Rattle.event_lines.specs.EventLine.{Line}
-use Rattle.event_lines.specs.LineText.{line_text}
+use Rattle.interleaving.specs.EventLine.{Line}
+use Rattle.interleaving.specs.LineText.{line_text}
 use Rattle.counterexample.specs.declared.witness.Witness.{Witness}
 use Rattle.counterexample.specs.EventLines.{witness_lines}
 use Rattle.report.specs.EventRows.{state_at_end}

@@ -5,8 +5,8 @@
 ghost use Rattle.std.specs.Prelude.{◌≡◌, ◌++◌, ◌∷◌, map, flat_map, codes, decimal, string_bytes, IfOk, OnOk};
 ghost use Rattle.serde_json.specs.View.{view};
 ghost use Rattle.support.specs.Pushed.{Pushes};
-ghost use Rattle.event_lines.specs.EventLine.{Perform};
-ghost use Rattle.event_lines.specs.LineText.{event_text};
+ghost use Rattle.interleaving.specs.EventLine.{Perform};
+ghost use Rattle.interleaving.specs.LineText.{event_text};
 ghost use Rattle.counterexample.specs.EventLines as lines;
 ghost use Rattle.report.specs.JsonWitness as spec;
 

@@ -9,9 +9,9 @@ use Rattle.written_machine.specs.Step.{step}
 use Rattle.written_machine.specs.Reach.{start, replay, state_after, IsReached}
 use Rattle.interleaving.specs.LiveView.{View, live_view}
 use Rattle.interleaving.specs.ViewAnswers.{AnswersAs}
-use Rattle.event_lines.specs.declared.reply.Reply.{Reply}
-use Rattle.event_lines.specs.declared.reply.Reply.TheVariants as reply
-use Rattle.event_lines.specs.EventLine.{Line, all_from}
+use Rattle.interleaving.specs.declared.reply.Reply.{Reply}
+use Rattle.interleaving.specs.declared.reply.Reply.TheVariants as reply
+use Rattle.interleaving.specs.EventLine.{Line, all_from}
 use Rattle.sizing_cli.specs.declared.status.Status.{Status}
 use Rattle.sizing_cli.specs.declared.status.Status.TheVariants.{Done, Refused, BadText, Undecided}
 use Rattle.sizing_cli.specs.Answer.{Answer, then_status, followed_by, bad_event}

@@ -5,8 +5,8 @@ use Rattle.job_bodies.specs.Plan.{Plan}
 use Rattle.written_machine.specs.State.{State}
 use Rattle.written_machine.specs.Reach.{IsReached}
 use Rattle.interleaving.specs.LiveView.{View, live_view}
-use Rattle.event_lines.specs.declared.reply.Reply.{Reply}
-use Rattle.event_lines.specs.EventLine.{Line, all_from}
+use Rattle.interleaving.specs.declared.reply.Reply.{Reply}
+use Rattle.interleaving.specs.EventLine.{Line, all_from}
 use Rattle.sizing_cli.specs.Answer.{Answer, followed_by, bad_event}
 use Rattle.sizing_cli.specs.Report.{replay_of_lines}
 use Rattle.sizing_cli.specs.Transcript.{ending, reply_to}

@@ -8,7 +8,7 @@ use Rattle.job_bodies.specs.declared.fault.PlanFault.{PlanFault}
 use Rattle.plan_text.specs.PlanOf.{plan_of}
 use Rattle.cert_text.specs.Cert.{Cert}
 use Rattle.soundness.specs.Accepted.{accepted}
-use Rattle.event_lines.specs.LineText.{lines_text}
+use Rattle.interleaving.specs.LineText.{lines_text}
 use Rattle.counterexample.specs.declared.witness.Witness.{Witness}
 use Rattle.counterexample.specs.Witness.{IsWitness}
 use Rattle.counterexample.specs.EventLines.{witness_lines}

@@ -20,7 +20,7 @@ use Rattle.locked_runner.specs.RunNumbers.{jobs, units}
 use Rattle.locked_runner.specs.declared.limits.RunLimit.{RunLimit}
 use Rattle.locked_runner.specs.declared.limits.RunLimit.TheVariants.{Rejections, Clients, Threads, Events}
 use Rattle.locked_runner.specs.Limits.{is_too_large, limit_of}
-use Rattle.event_lines.specs.EventLine.{Line, event_lines}
+use Rattle.interleaving.specs.EventLine.{Line, event_lines}
 use Rattle.command_line.specs.declared.command.ReviewCommand.{ReviewCommand}
 use Rattle.command_line.specs.declared.command.ReviewCommand.TheVariants.{Replay, Check, Explain}
 use Rattle.job_bodies.specs.declared.limits.TheConstants.{MAX_INPUT_BYTES, MAX_EVENT_BYTES}

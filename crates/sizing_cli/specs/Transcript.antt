@@ -6,10 +6,10 @@ use Rattle.written_machine.specs.declared.event.Outcome.TheVariants as outcome
 use Rattle.written_machine.specs.State.{State, is_unfinished}
 use Rattle.written_machine.specs.Step.{step}
 use Rattle.written_machine.specs.Waiting.{is_waiting_set}
-use Rattle.event_lines.specs.declared.reply.Reply.{Reply}
-use Rattle.event_lines.specs.declared.reply.Reply.TheVariants as reply
-use Rattle.event_lines.specs.EventLine.{Line, Perform, Stuck}
-use Rattle.event_lines.specs.Reply.{reply_text, numbered, summary}
+use Rattle.interleaving.specs.declared.reply.Reply.{Reply}
+use Rattle.interleaving.specs.declared.reply.Reply.TheVariants as reply
+use Rattle.interleaving.specs.EventLine.{Line, Perform, Stuck}
+use Rattle.interleaving.specs.Reply.{reply_text, numbered, summary}
 use Rattle.locked_runner.specs.Limits.{may_reject}
 use Rattle.sizing_cli.specs.declared.status.Status.TheVariants.{Done, Refused}
 use Rattle.sizing_cli.specs.Answer.{Answer, followed_by}

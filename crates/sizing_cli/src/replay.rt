@@ -5,7 +5,7 @@ ghost use Rattle.sizing_cli.specs.Report as spec;
 
 use crate::answer::{Answer, input_too_long};
 use crate::transcript::replay_lines;
-use event_lines::EventLines;
+use interleaving::EventLines;
 use job_bodies::{MAX_EVENT_BYTES, Plan};
 use std::alloc::{AllocError, Global};
 

@@ -3,7 +3,7 @@
 ghost use Rattle.std.specs.Prelude.{◌≡◌, ◌<◌, ◌^◌, [], length, IfOk, OnOk};
 ghost use Rattle.written_machine.specs.Reach.{start};
 ghost use Rattle.interleaving.specs.LiveView.{live_view};
-ghost use Rattle.event_lines.specs.EventLine.{all_from, line_seen};
+ghost use Rattle.interleaving.specs.EventLine.{all_from, line_seen};
 ghost use Rattle.interleaving.specs.OfPlan.{IsReachableView};
 ghost use Rattle.sizing_cli.specs.Report.{replay_of_lines};
 ghost use Rattle.sizing_cli.specs.PartialTranscript.{IsWithEnding, IsTranscribed, RepliesToLine};
@@ -11,8 +11,7 @@ ghost use Rattle.sizing_cli.specs.declared.status.Status.TheVariants as statuses
 ghost use Rattle.sizing_cli.specs.Transcript as spec;
 
 use crate::answer::{Answer, bad_event};
-use event_lines::{EventLine, EventLines, Reply, push_summary};
-use interleaving::{Outcome, World};
+use interleaving::{EventLine, EventLines, Outcome, Reply, World, push_summary};
 use job_bodies::Plan;
 use locked_runner::may_reject;
 use std::alloc::{AllocError, Global};

@@ -1,6 +1,6 @@
 //! Tests of the parser for lines of events, and of the lines that answer them.
 
-use event_lines::{BadEventLine, EventLine, EventLines, Reply, push_reply, push_summary};
+use interleaving::{BadEventLine, EventLine, EventLines, Reply, push_reply, push_summary};
 use job_bodies::{Plan, Pool};
 use std::alloc::Global;
 use std::test::Fail;

@@ -1,7 +1,7 @@
 -- The text so far, followed by the remaining lines, is the whole text.
 use Rattle.std.proofs.Common.{◌≡◌, ◌++◌, length}
 use Rattle.std.specs.Prelude.{string_bytes}
-use Rattle.event_lines.specs.LineText.{lines_text}
+use Rattle.interleaving.specs.LineText.{lines_text}
 use Rattle.counterexample.specs.EventLines.{lines_of}
 use Rattle.counterexample.proofs.event_texts.push_lines.Given as goal
 

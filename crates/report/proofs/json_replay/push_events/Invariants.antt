@@ -1,7 +1,7 @@
 -- The lines so far, followed by those of the remaining events, are all lines.
 use Rattle.std.proofs.Common.{◌≡◌, ◌++◌, map, length}
 use Rattle.serde_json.specs.View.{view}
-use Rattle.event_lines.specs.EventLine.{Perform}
+use Rattle.interleaving.specs.EventLine.{Perform}
 use Rattle.report.specs.JsonWitness.{replay_line}
 use Rattle.report.proofs.json_replay.push_events.Given as goal
 

@@ -1,7 +1,7 @@
 use Rattle.std.proofs.Common.{◌≡◌, ◌++◌, ◌∙◌, ap, List, ℕ, map}
 use Rattle.serde_json.specs.View.{view}
 use Rattle.written_machine.specs.declared.event.Event.{Event}
-use Rattle.event_lines.specs.EventLine.{Perform}
+use Rattle.interleaving.specs.EventLine.{Perform}
 use Rattle.counterexample.specs.EventLines.{stuck_members, question}
 use Rattle.report.specs.JsonEvents.{list_data}
 use Rattle.report.specs.JsonWitness.{replay_line}

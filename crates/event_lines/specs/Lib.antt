@@ -1,5 +1,0 @@
-pub mod Words
-pub mod EventLine
-pub mod LineText
-pub mod Reply
-pub mod LineLaws
