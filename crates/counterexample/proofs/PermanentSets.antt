@@ -7,7 +7,7 @@ use Rattle.support.proofs.Members.{list_any_at_In, In-from_list_any}
 use Rattle.job_bodies.specs.Plan.{Plan, pool_at}
 use Rattle.job_bodies.specs.WellFormed.{IsWellFormed}
 use Rattle.job_bodies.proofs.Bodies.{HasValidBodies, ordered}
-use Rattle.pool_machine.proofs.Events.{started_below}
+use Rattle.pool_machine.proofs.PoolEvents.{started_below}
 use Rattle.written_machine.specs.State.{Stage, State, job_at, pool_of, pool_seen, is_queued, is_queued_in, threads}
 use Rattle.written_machine.specs.Reach.{IsReached}
 use Rattle.written_machine.specs.Waiting.{IsMember}

@@ -5,9 +5,9 @@ use Rattle.std.specs.Prelude.{IsTrue}
 use Rattle.job_bodies.specs.Plan.{Pool}
 use Rattle.job_bodies.specs.WellFormed.{has_valid_sizes}
 use Rattle.pool_machine.specs.PoolState.{PoolView, IsSound, new_pool, least_threads, answer, offered, taken, finished, retired}
-use Rattle.pool_machine.specs.Laws.{IsInvariant, HasSizesOf, QueuesHaveThreads, load, LoadIsOffered}
+use Rattle.pool_machine.specs.PoolLaws.{IsInvariant, HasSizesOf, QueuesHaveThreads, load, LoadIsOffered}
 use Rattle.pool_machine.specs.declared.offer.Offer.TheVariants.{Refused}
-use Rattle.pool_machine.proofs.Events.{HasSpareThread, refused_when_full, taken_takes, retired_retires}
+use Rattle.pool_machine.proofs.PoolEvents.{HasSpareThread, refused_when_full, taken_takes, retired_retires}
 use Rattle.pool_machine.proofs.QueueLimits.{still_within}
 
 sizes_by_offer : (first pool : PoolView) (job : ℕ) → HasSizesOf first pool → HasSizesOf first (offered pool job)

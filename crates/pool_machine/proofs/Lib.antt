@@ -1,3 +1,3 @@
-pub mod Events
+pub mod PoolEvents
 pub mod Invariance
 pub mod QueueLimits

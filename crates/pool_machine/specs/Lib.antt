@@ -1,2 +1,2 @@
 pub mod PoolState
-pub mod Laws
+pub mod PoolLaws

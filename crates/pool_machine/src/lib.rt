@@ -2,11 +2,11 @@
 //! `SynchronousQueue` or an unbounded queue, and with `AbortPolicy`.
 #![tactic(auto)]
 
-mod laws;
+mod pool_laws;
 mod offer;
 mod pool_state;
 
-pub use laws::{
+pub use pool_laws::{
     failure_conditions, load_is_offered, pools_stay_sound, queues_have_threads, sizes_stay,
 };
 pub use offer::Offer;

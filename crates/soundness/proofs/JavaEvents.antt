@@ -8,7 +8,7 @@ use Rattle.job_bodies.specs.declared.action.Action.TheVariants as action
 use Rattle.job_bodies.specs.Plan.{Plan, pool_at}
 use Rattle.job_bodies.proofs.Bodies.{HasValidBodies}
 use Rattle.pool_machine.specs.PoolState.{PoolView, room_limit, has_spare_worker}
-use Rattle.pool_machine.proofs.Events.{spare_worker_means}
+use Rattle.pool_machine.proofs.PoolEvents.{spare_worker_means}
 use Rattle.pool_machine.proofs.QueueLimits.{no_room_means}
 use Rattle.pool_machine.specs.declared.offer.Offer.TheVariants as offer
 use Rattle.written_machine.specs.declared.parent.Parent.{Parent}

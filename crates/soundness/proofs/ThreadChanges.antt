@@ -4,7 +4,7 @@ use Rattle.std.proofs.Common.{◌≡◌, ℕ, inl, inr, false, ◌+◌, ◌<◌,
 use Rattle.std.proofs.lemmas.Bool.{false≢true}
 use Rattle.job_bodies.specs.declared.action.Action.{Action}
 use Rattle.job_bodies.specs.Plan.{Plan, pool_at}
-use Rattle.pool_machine.proofs.Events.{HasSpareThread}
+use Rattle.pool_machine.proofs.PoolEvents.{HasSpareThread}
 use Rattle.written_machine.specs.declared.parent.Parent.{Parent}
 use Rattle.written_machine.specs.declared.parent.Parent.TheVariants as parent
 use Rattle.written_machine.specs.declared.event.Event.{Event}

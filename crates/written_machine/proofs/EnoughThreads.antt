@@ -3,7 +3,7 @@ use Rattle.std.proofs.Common.{◌≡◌, ℕ, suc, ◌+◌, ◌<◌, ◌≤◌, 
 use Rattle.job_bodies.specs.declared.action.Action.{Action}
 use Rattle.job_bodies.specs.Plan.{Plan, Pool, pool_at, least_threads}
 use Rattle.job_bodies.proofs.Bodies.{HasValidBodies}
-use Rattle.pool_machine.proofs.Events.{HasSpareThread}
+use Rattle.pool_machine.proofs.PoolEvents.{HasSpareThread}
 use Rattle.written_machine.specs.declared.parent.Parent.{Parent}
 use Rattle.written_machine.specs.declared.parent.Parent.TheVariants as parent
 use Rattle.written_machine.specs.declared.event.Event.{Event}

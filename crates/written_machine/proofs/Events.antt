@@ -9,7 +9,7 @@ use Rattle.job_bodies.specs.Plan.{Plan, pool_at, client_at}
 use Rattle.pool_machine.specs.declared.offer.Offer.{Offer}
 use Rattle.pool_machine.specs.declared.offer.Offer.TheVariants as offer
 use Rattle.pool_machine.specs.PoolState.{PoolView, room_limit, answer, taken, retired}
-use Rattle.pool_machine.proofs.Events.{HasSpareThread, started_below, queued_at_core, refused_when_full, taken_takes, retired_retires}
+use Rattle.pool_machine.proofs.PoolEvents.{HasSpareThread, started_below, queued_at_core, refused_when_full, taken_takes, retired_retires}
 use Rattle.written_machine.specs.declared.client_state.ClientState.{ClientState}
 use Rattle.written_machine.specs.declared.parent.Parent.{Parent}
 use Rattle.written_machine.specs.declared.parent.Parent.TheVariants as parent

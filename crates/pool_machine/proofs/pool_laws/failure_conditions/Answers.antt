@@ -1,7 +1,7 @@
 use Rattle.std.proofs.Common.{arith}
 use Rattle.std.proofs.lemmas.Grind.{common_steps}
-use Rattle.pool_machine.proofs.Events.{full_refuses, refused_exactly}
-use Rattle.pool_machine.proofs.laws.failure_conditions.Goals as goal
+use Rattle.pool_machine.proofs.PoolEvents.{full_refuses, refused_exactly}
+use Rattle.pool_machine.proofs.pool_laws.failure_conditions.Goals as goal
 
 pub returns : goal.returns
 returns c = λ pool sound. record {

@@ -4,7 +4,7 @@ ghost use Rattle.std.specs.Prelude.{IsTrue};
 ghost use Rattle.job_bodies.specs.Plan.{Pool};
 ghost use Rattle.job_bodies.specs.WellFormed.{has_valid_sizes};
 ghost use Rattle.pool_machine.specs.PoolState.{PoolView, IsSound, new_pool};
-ghost use Rattle.pool_machine.specs.Laws.{IsInvariant, HasSizesOf, QueuesHaveThreads, LoadIsOffered, FailureConditions};
+ghost use Rattle.pool_machine.specs.PoolLaws.{IsInvariant, HasSizesOf, QueuesHaveThreads, LoadIsOffered, FailureConditions};
 
 /// Proves that no event changes these properties of a pool:
 ///
