@@ -7,7 +7,7 @@ use Rattle.support.proofs.Members.{In-enumerate_from, list_all_at_In}
 use Rattle.job_bodies.specs.Plan.{Plan, no_pool, pool_at}
 use Rattle.job_bodies.specs.WellFormed.{IsWellFormed}
 use Rattle.job_bodies.proofs.Bodies.{HasValidBodies, ordered}
-use Rattle.written_machine.specs.State.{pool_of}
+use Rattle.pool_machine.specs.State.{pool_of}
 use Rattle.weights.specs.declared.row.Row.{Row}
 use Rattle.weights.specs.declared.bound.Bound.{Bound}
 use Rattle.weights.specs.declared.bound.Bound.TheVariants.{Standing, Lifetime}

@@ -10,10 +10,10 @@ use Rattle.job_bodies.specs.declared.action.Action.{Action}
 use Rattle.job_bodies.specs.declared.action.Action.TheVariants as action
 use Rattle.job_bodies.specs.Plan.{Plan, submitted_class}
 use Rattle.job_bodies.proofs.Bodies.{HasValidBodies}
-use Rattle.written_machine.specs.declared.parent.Parent.{Parent}
-use Rattle.written_machine.specs.State.{Stage, CreatedJob, no_job, is_made_by}
-use Rattle.written_machine.proofs.Positions.{valid_point}
-use Rattle.written_machine.proofs.Children.{maker_of, child_is, one_child}
+use Rattle.pool_machine.specs.declared.parent.Parent.{Parent}
+use Rattle.pool_machine.specs.State.{Stage, CreatedJob, no_job, is_made_by}
+use Rattle.pool_machine.proofs.Positions.{valid_point}
+use Rattle.pool_machine.proofs.Children.{maker_of, child_is, one_child}
 use Rattle.cert_text.specs.Cert.{Cert}
 use Rattle.soundness.specs.Execute.{JavaState}
 use Rattle.soundness.proofs.CertLaws.{CertLaws}

@@ -11,15 +11,15 @@ use Rattle.job_bodies.specs.Plan.{Plan, pool_at}
 use Rattle.job_bodies.proofs.Bodies.{HasValidBodies, ordered}
 use Rattle.pool_machine.specs.PoolState.{room_limit}
 use Rattle.pool_machine.specs.declared.offer.Offer.TheVariants as offer
-use Rattle.written_machine.specs.declared.parent.Parent.{Parent}
-use Rattle.written_machine.specs.declared.event.Outcome.{Outcome}
-use Rattle.written_machine.specs.declared.event.Outcome.TheVariants as outcome
-use Rattle.written_machine.specs.State.{Stage, State, CreatedJob, no_job, pool_of, pool_part, threads}
-use Rattle.written_machine.specs.Step.{moved_jobs, moved_clients, with_position, with_job, new_job, skipped}
-use Rattle.written_machine.specs.Reach.{start}
-use Rattle.written_machine.proofs.Stages.{length-moved}
-use Rattle.written_machine.proofs.Actors.{point_same}
-use Rattle.written_machine.proofs.Children.{same_actor_refl}
+use Rattle.pool_machine.specs.declared.parent.Parent.{Parent}
+use Rattle.pool_machine.specs.declared.event.Outcome.{Outcome}
+use Rattle.pool_machine.specs.declared.event.Outcome.TheVariants as outcome
+use Rattle.pool_machine.specs.State.{Stage, State, CreatedJob, no_job, pool_of, pool_part, threads}
+use Rattle.pool_machine.specs.Step.{moved_jobs, moved_clients, with_position, with_job, new_job, skipped}
+use Rattle.pool_machine.specs.Reach.{start}
+use Rattle.pool_machine.proofs.Stages.{length-moved}
+use Rattle.pool_machine.proofs.Actors.{point_same}
+use Rattle.pool_machine.proofs.Children.{same_actor_refl}
 use Rattle.cert_text.specs.Cert.{Cert}
 use Rattle.soundness.specs.Execute.{Call, JavaState, is_calling, without_calls, without_calls_of, submission_at, submission_of, answers, checks_core, offers_job, requests_thread, executes, java_stepped}
 use Rattle.soundness.specs.Skipping.{choice_step, event_of_actor}

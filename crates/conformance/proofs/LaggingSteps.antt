@@ -11,15 +11,15 @@ use Rattle.job_bodies.specs.declared.action.Action.{Action}
 use Rattle.job_bodies.specs.declared.action.Action.TheVariants as action
 use Rattle.job_bodies.specs.Plan.{Plan, class_of_submit, submitted_class}
 use Rattle.job_bodies.proofs.Bodies.{HasValidBodies}
-use Rattle.written_machine.specs.declared.parent.Parent.{Parent}
-use Rattle.written_machine.specs.declared.parent.Parent.TheVariants as parent
-use Rattle.written_machine.specs.declared.event.Outcome.{Outcome}
-use Rattle.written_machine.specs.declared.event.Outcome.TheVariants as outcome
-use Rattle.written_machine.specs.State.{Stage, State, CreatedJob, no_job, is_made_by, job_at, pool_of}
-use Rattle.written_machine.specs.Step.{point, moved_jobs, with_position, with_stage, new_job, skipped, got, got_child, step_action, step_at_point, step}
-use Rattle.written_machine.proofs.Stages.{staged, length-staged, get_or-staged_other, child-stage, child-moved}
-use Rattle.written_machine.proofs.Positions.{valid_point}
-use Rattle.written_machine.proofs.Children.{one_child, made_by_maker, not_at_slot}
+use Rattle.pool_machine.specs.declared.parent.Parent.{Parent}
+use Rattle.pool_machine.specs.declared.parent.Parent.TheVariants as parent
+use Rattle.pool_machine.specs.declared.event.Outcome.{Outcome}
+use Rattle.pool_machine.specs.declared.event.Outcome.TheVariants as outcome
+use Rattle.pool_machine.specs.State.{Stage, State, CreatedJob, no_job, is_made_by, job_at, pool_of}
+use Rattle.pool_machine.specs.Step.{point, moved_jobs, with_position, with_stage, new_job, skipped, got, got_child, step_action, step_at_point, step}
+use Rattle.pool_machine.proofs.Stages.{staged, length-staged, get_or-staged_other, child-stage, child-moved}
+use Rattle.pool_machine.proofs.Positions.{valid_point}
+use Rattle.pool_machine.proofs.Children.{one_child, made_by_maker, not_at_slot}
 use Rattle.cert_text.specs.Cert.{Cert}
 use Rattle.soundness.specs.Execute.{JavaState, is_calling, submission_at, submission_of, submission, as_atomic, java_stepped}
 use Rattle.soundness.specs.Exchange.{exchanged_job, after_exchange, is_claimed, are_alike, both_alike, can_exchange}

@@ -5,18 +5,18 @@ use Rattle.std.proofs.lemmas.List.{length-map}
 use Rattle.job_bodies.specs.declared.action.Action.{Action}
 use Rattle.job_bodies.specs.Plan.{Plan}
 use Rattle.job_bodies.proofs.Bodies.{HasValidBodies}
-use Rattle.written_machine.specs.declared.parent.Parent.{Parent}
-use Rattle.written_machine.specs.declared.parent.Parent.TheVariants as parent
-use Rattle.written_machine.specs.declared.event.Event.{Event}
-use Rattle.written_machine.specs.declared.event.Outcome.{Outcome}
-use Rattle.written_machine.specs.State.{Stage, State, no_job, same_parent, job_at, pool_of, child}
-use Rattle.written_machine.specs.Step.{moved_jobs, with_position, with_stage, with_job, new_job, finished_job}
-use Rattle.written_machine.proofs.Events.{event_of, queued_state, with_part, Happens, works, starts, queues, is_refused, is_rejected, gets, finishes, loops, takes, retires}
-use Rattle.written_machine.proofs.StateInvariant.{StateInvariant}
-use Rattle.written_machine.proofs.Stages.{staged}
-use Rattle.written_machine.proofs.Actors.{point_same}
-use Rattle.written_machine.proofs.Queues.{head_of_queue}
-use Rattle.written_machine.proofs.Children.{same_actor_refl, maker_of, child_is, not_by_other}
+use Rattle.pool_machine.specs.declared.parent.Parent.{Parent}
+use Rattle.pool_machine.specs.declared.parent.Parent.TheVariants as parent
+use Rattle.pool_machine.specs.declared.event.Event.{Event}
+use Rattle.pool_machine.specs.declared.event.Outcome.{Outcome}
+use Rattle.pool_machine.specs.State.{Stage, State, no_job, same_parent, job_at, pool_of, child}
+use Rattle.pool_machine.specs.Step.{moved_jobs, with_position, with_stage, with_job, new_job, finished_job}
+use Rattle.pool_machine.proofs.Events.{event_of, queued_state, with_part, Happens, works, starts, queues, is_refused, is_rejected, gets, finishes, loops, takes, retires}
+use Rattle.pool_machine.proofs.StateInvariant.{StateInvariant}
+use Rattle.pool_machine.proofs.Stages.{staged}
+use Rattle.pool_machine.proofs.Actors.{point_same}
+use Rattle.pool_machine.proofs.Queues.{head_of_queue}
+use Rattle.pool_machine.proofs.Children.{same_actor_refl, maker_of, child_is, not_by_other}
 use Rattle.cert_text.specs.Cert.{Cert}
 use Rattle.soundness.specs.Execute.{Call, JavaState, JavaEvent, is_calling, without_calls_of}
 use Rattle.soundness.specs.Exchange.{exchanged_job, after_exchange}

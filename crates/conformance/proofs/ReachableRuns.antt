@@ -3,8 +3,8 @@ use Rattle.std.proofs.Common.{◌≡◌, ℕ, List, [], ◌∷◌, ◌++◌, Opt
 use Rattle.std.proofs.lemmas.Option.{none-some, same_Some}
 use Rattle.job_bodies.specs.declared.action.Action.{Action}
 use Rattle.job_bodies.specs.Plan.{Plan}
-use Rattle.written_machine.specs.declared.parent.Parent.{Parent}
-use Rattle.written_machine.specs.Reach.{start}
+use Rattle.pool_machine.specs.declared.parent.Parent.{Parent}
+use Rattle.pool_machine.specs.Reach.{start}
 use Rattle.soundness.specs.Execute.{JavaState, without_calls}
 use Rattle.soundness.specs.Skipping.{Choice, choice_step, choices_replay, event_of_actor}
 use Rattle.soundness.specs.Skipping.Choice.{Acts, Skips, Exchanges}

@@ -8,14 +8,14 @@ use Rattle.job_bodies.specs.Plan.{Plan, pool_at}
 use Rattle.job_bodies.proofs.Bodies.{HasValidBodies}
 use Rattle.pool_machine.specs.PoolState.{room_limit}
 use Rattle.pool_machine.specs.declared.offer.Offer.TheVariants as offer
-use Rattle.written_machine.specs.declared.event.Event.{Event}
-use Rattle.written_machine.specs.declared.parent.Parent.{Parent}
-use Rattle.written_machine.specs.declared.event.Outcome.{Outcome}
-use Rattle.written_machine.specs.declared.event.Outcome.TheVariants as outcome
-use Rattle.written_machine.specs.State.{Stage, State, same_parent, pool_of, pool_part, threads}
-use Rattle.written_machine.specs.Step.{moved_jobs, new_job, skipped}
-use Rattle.written_machine.proofs.Stages.{length-moved}
-use Rattle.written_machine.proofs.Children.{same_actor_true, same_actor_refl}
+use Rattle.pool_machine.specs.declared.event.Event.{Event}
+use Rattle.pool_machine.specs.declared.parent.Parent.{Parent}
+use Rattle.pool_machine.specs.declared.event.Outcome.{Outcome}
+use Rattle.pool_machine.specs.declared.event.Outcome.TheVariants as outcome
+use Rattle.pool_machine.specs.State.{Stage, State, same_parent, pool_of, pool_part, threads}
+use Rattle.pool_machine.specs.Step.{moved_jobs, new_job, skipped}
+use Rattle.pool_machine.proofs.Stages.{length-moved}
+use Rattle.pool_machine.proofs.Children.{same_actor_true, same_actor_refl}
 use Rattle.cert_text.specs.Cert.{Cert}
 use Rattle.soundness.specs.Execute.{Call, JavaState, JavaEvent, is_calling, without_calls_of, submission_at, submission_of, answers, checks_core, offers_job, requests_thread, java_stepped}
 use Rattle.soundness.specs.Skipping.{Choice, choice_step, event_of_actor}

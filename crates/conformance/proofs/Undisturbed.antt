@@ -9,13 +9,13 @@ use Rattle.support.proofs.Elements.{slice_get-set_same, slice_get-set_other}
 use Rattle.support.proofs.LastPlace.{last_where_push_fails}
 use Rattle.job_bodies.specs.declared.action.Action.{Action}
 use Rattle.job_bodies.specs.Plan.{Plan, client_at}
-use Rattle.written_machine.specs.declared.client_state.ClientState.{ClientState}
-use Rattle.written_machine.specs.declared.parent.Parent.{Parent}
-use Rattle.written_machine.specs.declared.parent.Parent.TheVariants as parent
-use Rattle.written_machine.specs.State.{Stage, State, CreatedJob, no_job, no_client_state, same_parent, is_made_by, job_at, client_state}
-use Rattle.written_machine.specs.Step.{point, point_of_client, point_of_job, moved_jobs, with_position, with_stage, with_job}
-use Rattle.written_machine.proofs.Stages.{staged, length-staged, stage-staged, get_or-staged_same, get_or-staged_other, class-staged, parent-staged, child-stage}
-use Rattle.written_machine.proofs.Positions.{stage_of_standing, standing_made, client_standing}
+use Rattle.pool_machine.specs.declared.client_state.ClientState.{ClientState}
+use Rattle.pool_machine.specs.declared.parent.Parent.{Parent}
+use Rattle.pool_machine.specs.declared.parent.Parent.TheVariants as parent
+use Rattle.pool_machine.specs.State.{Stage, State, CreatedJob, no_job, no_client_state, same_parent, is_made_by, job_at, client_state}
+use Rattle.pool_machine.specs.Step.{point, point_of_client, point_of_job, moved_jobs, with_position, with_stage, with_job}
+use Rattle.pool_machine.proofs.Stages.{staged, length-staged, stage-staged, get_or-staged_same, get_or-staged_other, class-staged, parent-staged, child-stage}
+use Rattle.pool_machine.proofs.Positions.{stage_of_standing, standing_made, client_standing}
 
 -- ---- the jobs of an actor
 -- Between two lists of jobs, the actor's submits before position m have the same latest jobs. Each job keeps its class and its

@@ -2,11 +2,11 @@
 use Rattle.std.proofs.Common.{◌≡◌, ℕ, ◌+◌, List, arith, refl}
 use Rattle.std.proofs.lemmas.Bool.{false_from_ne_true}
 use Rattle.job_bodies.specs.Plan.{Plan}
-use Rattle.written_machine.specs.declared.event.Event.{Event}
-use Rattle.written_machine.specs.declared.event.Outcome.TheVariants as outcome
-use Rattle.written_machine.specs.State.{State}
-use Rattle.written_machine.specs.Safe.{Safe}
-use Rattle.written_machine.proofs.Events.{Happens, is_refused, happens}
+use Rattle.pool_machine.specs.declared.event.Event.{Event}
+use Rattle.pool_machine.specs.declared.event.Outcome.TheVariants as outcome
+use Rattle.pool_machine.specs.State.{State}
+use Rattle.pool_machine.specs.Safe.{Safe}
+use Rattle.pool_machine.proofs.Events.{Happens, is_refused, happens}
 use Rattle.interleaving.proofs.Reached.{reached_after}
 use Rattle.soundness.specs.Accepted.{accepted}
 use Rattle.soundness.proofs.Theorem.{accepted_plans_are_safe}

@@ -2,11 +2,11 @@
 use Rattle.std.proofs.Common.{◌≡◌, ◌≤◌, ℕ, inl, inr, ⊎_elim, ◌↔◌, Bool, IsTrue, List, take, drop, Option, Some, None, sym, subst}
 use Rattle.std.proofs.lemmas.List.{take-append-drop}
 use Rattle.job_bodies.specs.Plan.{Plan, pool_at}
-use Rattle.written_machine.specs.declared.event.Event.{Event}
-use Rattle.written_machine.specs.State.{State, threads}
-use Rattle.written_machine.specs.Reach.{IsReached}
-use Rattle.written_machine.specs.Waiting.{IsWaitingSet}
-use Rattle.written_machine.specs.FullWaitingSets.{IsFull, IsFullWaitingSet}
+use Rattle.pool_machine.specs.declared.event.Event.{Event}
+use Rattle.pool_machine.specs.State.{State, threads}
+use Rattle.pool_machine.specs.Reach.{IsReached}
+use Rattle.pool_machine.specs.Waiting.{IsWaitingSet}
+use Rattle.pool_machine.specs.FullWaitingSets.{IsFull, IsFullWaitingSet}
 use Rattle.interleaving.specs.LiveView.{View, live_view}
 use Rattle.weights.specs.Vector.{Vector}
 use Rattle.counterexample.specs.declared.ending.Ending.{Ending}

@@ -10,7 +10,7 @@ use Rattle.job_bodies.proofs.Bodies.{list_all_enumerated}
 use Rattle.job_bodies.proofs.Passing.{list_all_enumerated_from}
 use Rattle.weights.specs.Vector.{Vector, vector_fits, class_weights, queued_weight, done_weight}
 use Rattle.weights.proofs.Fitting.{fits}
-use Rattle.written_machine.specs.State.{pool_of}
+use Rattle.pool_machine.specs.State.{pool_of}
 use Rattle.soundness.specs.WeightLaws.{RejectedAreLight}
 use Rattle.counterexample.specs.NoThreadStarts.{is_light, rejected_are_light}
 

@@ -12,17 +12,17 @@ use Rattle.job_bodies.proofs.Bodies.{HasValidBodies}
 use Rattle.pool_machine.specs.declared.offer.Offer.{Offer}
 use Rattle.pool_machine.specs.declared.offer.Offer.TheVariants as offer
 use Rattle.pool_machine.specs.PoolState.{PoolView, room_limit, new_pool, answer}
-use Rattle.written_machine.specs.declared.parent.Parent.{Parent}
-use Rattle.written_machine.specs.declared.parent.Parent.TheVariants as parent
-use Rattle.written_machine.specs.declared.event.Event.{Event}
-use Rattle.written_machine.specs.declared.event.Outcome.{Outcome}
-use Rattle.written_machine.specs.declared.event.Outcome.TheVariants as outcome
-use Rattle.written_machine.specs.State.{State, PoolPart, pool_part, pool_of, pool_seen, part_of, threads}
-use Rattle.written_machine.specs.Step.{skipped, answered, submitted, step_action, step_at_point, step}
-use Rattle.written_machine.specs.Reach.{start}
-use Rattle.written_machine.proofs.Events.{IsAtAction, event_of, Happens, works, starts, queues, is_refused, is_rejected, gets, finishes, loops, takes, retires}
-use Rattle.written_machine.proofs.StateInvariant.{StateInvariant}
-use Rattle.written_machine.proofs.InvariantSubmits.{class_exists}
+use Rattle.pool_machine.specs.declared.parent.Parent.{Parent}
+use Rattle.pool_machine.specs.declared.parent.Parent.TheVariants as parent
+use Rattle.pool_machine.specs.declared.event.Event.{Event}
+use Rattle.pool_machine.specs.declared.event.Outcome.{Outcome}
+use Rattle.pool_machine.specs.declared.event.Outcome.TheVariants as outcome
+use Rattle.pool_machine.specs.State.{State, PoolPart, pool_part, pool_of, pool_seen, part_of, threads}
+use Rattle.pool_machine.specs.Step.{skipped, answered, submitted, step_action, step_at_point, step}
+use Rattle.pool_machine.specs.Reach.{start}
+use Rattle.pool_machine.proofs.Events.{IsAtAction, event_of, Happens, works, starts, queues, is_refused, is_rejected, gets, finishes, loops, takes, retires}
+use Rattle.pool_machine.proofs.StateInvariant.{StateInvariant}
+use Rattle.pool_machine.proofs.InvariantSubmits.{class_exists}
 
 -- ---- the plan
 

@@ -8,17 +8,17 @@ use Rattle.job_bodies.specs.Plan.{Plan, pool_at}
 use Rattle.job_bodies.specs.WellFormed.{IsWellFormed}
 use Rattle.job_bodies.proofs.Bodies.{HasValidBodies, ordered}
 use Rattle.pool_machine.proofs.PoolEvents.{started_below}
-use Rattle.written_machine.specs.State.{Stage, State, job_at, pool_of, pool_seen, is_queued, is_queued_in, threads}
-use Rattle.written_machine.specs.Reach.{IsReached}
-use Rattle.written_machine.specs.Waiting.{IsMember}
-use Rattle.written_machine.specs.FullWaitingSets.{IsFullWaitingSet, StaysFull}
-use Rattle.written_machine.proofs.Events.{happens}
-use Rattle.written_machine.proofs.Positions.{job_made}
-use Rattle.written_machine.proofs.StateInvariant.{StateInvariant}
-use Rattle.written_machine.proofs.Queues.{queued_stage, pool_of_made}
-use Rattle.written_machine.proofs.Reached.{kept}
-use Rattle.written_machine.proofs.WaitingSets.{In-member, member_of_In, waiting_set_test}
-use Rattle.written_machine.proofs.FullWaitingSets.{Stayed, stays_through}
+use Rattle.pool_machine.specs.State.{Stage, State, job_at, pool_of, pool_seen, is_queued, is_queued_in, threads}
+use Rattle.pool_machine.specs.Reach.{IsReached}
+use Rattle.pool_machine.specs.Waiting.{IsMember}
+use Rattle.pool_machine.specs.FullWaitingSets.{IsFullWaitingSet, StaysFull}
+use Rattle.pool_machine.proofs.Events.{happens}
+use Rattle.pool_machine.proofs.Positions.{job_made}
+use Rattle.pool_machine.proofs.StateInvariant.{StateInvariant}
+use Rattle.pool_machine.proofs.Queues.{queued_stage, pool_of_made}
+use Rattle.pool_machine.proofs.Reached.{kept}
+use Rattle.pool_machine.proofs.WaitingSets.{In-member, member_of_In, waiting_set_test}
+use Rattle.pool_machine.proofs.FullWaitingSets.{Stayed, stays_through}
 use Rattle.interleaving.proofs.Reached.{reached_after}
 use Rattle.counterexample.specs.PermanentSets.{StartsNoThread, IsPermanentWaitingSet, StaysPermanent, PermanentWaitingSetsStay}
 use Rattle.counterexample.proofs.Lowered.{lowered, IsBetween, max-lowered, ordered-lowered, kept-lowered, StartsBelow, happens-lowered}

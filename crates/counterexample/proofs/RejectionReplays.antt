@@ -4,11 +4,11 @@ use Rattle.std.proofs.lemmas.Bool.{false≢true, eqb-true, eq-eqb}
 use Rattle.std.proofs.lemmas.List.{take_more}
 use Rattle.support.proofs.Members.{not_In_nil}
 use Rattle.job_bodies.specs.Plan.{Plan}
-use Rattle.written_machine.specs.declared.event.Event.{Event}
-use Rattle.written_machine.specs.declared.event.Event.TheVariants as event
-use Rattle.written_machine.specs.declared.event.Outcome.{Outcome}
-use Rattle.written_machine.specs.declared.event.Outcome.TheVariants as outcome
-use Rattle.written_machine.specs.Reach.{start}
+use Rattle.pool_machine.specs.declared.event.Event.{Event}
+use Rattle.pool_machine.specs.declared.event.Event.TheVariants as event
+use Rattle.pool_machine.specs.declared.event.Outcome.{Outcome}
+use Rattle.pool_machine.specs.declared.event.Outcome.TheVariants as outcome
+use Rattle.pool_machine.specs.Reach.{start}
 use Rattle.interleaving.specs.LiveView.{View, live_view}
 use Rattle.counterexample.specs.ReplayResult.{ComesTo}
 use Rattle.counterexample.specs.Rejection.{is_rejection_by, NoneRejected, EndsRejected}

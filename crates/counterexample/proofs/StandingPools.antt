@@ -10,17 +10,17 @@ use Rattle.job_bodies.proofs.Bodies.{HasValidBodies, ordered}
 use Rattle.pool_machine.specs.declared.offer.Offer.TheVariants as offer
 use Rattle.pool_machine.specs.PoolState.{answer}
 use Rattle.pool_machine.proofs.PoolEvents.{started_below}
-use Rattle.written_machine.specs.declared.parent.Parent.{Parent}
-use Rattle.written_machine.specs.declared.event.Event.{Event}
-use Rattle.written_machine.specs.declared.event.Outcome.{Outcome}
-use Rattle.written_machine.specs.State.{State, pool_of, pool_seen, threads}
-use Rattle.written_machine.specs.Step.{step}
-use Rattle.written_machine.specs.Reach.{start, state_after, replay, IsReached}
-use Rattle.written_machine.proofs.Events.{IsAtAction, happens}
-use Rattle.written_machine.proofs.StateInvariant.{StateInvariant}
-use Rattle.written_machine.proofs.InvariantAtStart.{kept_start}
-use Rattle.written_machine.proofs.InvariantStep.{kept_step}
-use Rattle.written_machine.proofs.Reached.{replay_none, kept}
+use Rattle.pool_machine.specs.declared.parent.Parent.{Parent}
+use Rattle.pool_machine.specs.declared.event.Event.{Event}
+use Rattle.pool_machine.specs.declared.event.Outcome.{Outcome}
+use Rattle.pool_machine.specs.State.{State, pool_of, pool_seen, threads}
+use Rattle.pool_machine.specs.Step.{step}
+use Rattle.pool_machine.specs.Reach.{start, state_after, replay, IsReached}
+use Rattle.pool_machine.proofs.Events.{IsAtAction, happens}
+use Rattle.pool_machine.proofs.StateInvariant.{StateInvariant}
+use Rattle.pool_machine.proofs.InvariantAtStart.{kept_start}
+use Rattle.pool_machine.proofs.InvariantStep.{kept_step}
+use Rattle.pool_machine.proofs.Reached.{replay_none, kept}
 use Rattle.weights.specs.declared.get_return.GetReturn.TheVariants.{DoneWeight}
 use Rattle.soundness.proofs.BoundLaws.{standing_laws}
 use Rattle.soundness.proofs.NoRefusal.{standing_refuses_nothing}

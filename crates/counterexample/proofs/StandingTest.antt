@@ -8,14 +8,14 @@ use Rattle.job_bodies.specs.Plan.{Plan, no_class, pool_at, class_at}
 use Rattle.job_bodies.specs.WellFormed.{IsWellFormed}
 use Rattle.job_bodies.proofs.Bodies.{ordered}
 use Rattle.pool_machine.specs.PoolState.{PoolView}
-use Rattle.written_machine.specs.State.{Stage, State, CreatedJob, no_job, job_at, pool_of, is_queued, threads, child}
-use Rattle.written_machine.specs.Reach.{IsReached}
-use Rattle.written_machine.specs.Waiting.{IsMember}
-use Rattle.written_machine.specs.FullWaitingSets.{HasMaxThreads}
-use Rattle.written_machine.proofs.Positions.{job_made}
-use Rattle.written_machine.proofs.Queues.{queued_stage, pool_of_made}
-use Rattle.written_machine.proofs.Reached.{kept}
-use Rattle.written_machine.proofs.WaitingSets.{In-member, member_of_In}
+use Rattle.pool_machine.specs.State.{Stage, State, CreatedJob, no_job, job_at, pool_of, is_queued, threads, child}
+use Rattle.pool_machine.specs.Reach.{IsReached}
+use Rattle.pool_machine.specs.Waiting.{IsMember}
+use Rattle.pool_machine.specs.FullWaitingSets.{HasMaxThreads}
+use Rattle.pool_machine.proofs.Positions.{job_made}
+use Rattle.pool_machine.proofs.Queues.{queued_stage, pool_of_made}
+use Rattle.pool_machine.proofs.Reached.{kept}
+use Rattle.pool_machine.proofs.WaitingSets.{In-member, member_of_In}
 use Rattle.interleaving.specs.declared.job_view.Phase.TheVariants as phase
 use Rattle.interleaving.specs.LiveView.{may_get, is_number, phase_seen, job_with, View, live_view}
 use Rattle.interleaving.specs.ViewStep.{live_job, pool_in}

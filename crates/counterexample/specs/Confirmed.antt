@@ -1,10 +1,10 @@
 -- The result of the call `confirmed`, which checks a witness.
 use Rattle.std.specs.Prelude.{◌≡◌, ◌≤◌, ◌⊎◌, ℕ, IsTrue, List, ◌++◌, Option, Some, None, slice_get}
 use Rattle.job_bodies.specs.Plan.{Plan, pool_at}
-use Rattle.written_machine.specs.declared.event.Event.{Event}
-use Rattle.written_machine.specs.State.{State, threads}
-use Rattle.written_machine.specs.Waiting.{IsWaitingSet}
-use Rattle.written_machine.specs.FullWaitingSets.{WhereMembersQueue, HasMaxThreads, IsFull}
+use Rattle.pool_machine.specs.declared.event.Event.{Event}
+use Rattle.pool_machine.specs.State.{State, threads}
+use Rattle.pool_machine.specs.Waiting.{IsWaitingSet}
+use Rattle.pool_machine.specs.FullWaitingSets.{WhereMembersQueue, HasMaxThreads, IsFull}
 use Rattle.weights.specs.Row.{AllHold}
 use Rattle.weights.specs.Vector.{Vector, vector_fits}
 use Rattle.weights.specs.Standing.{standing_rows}

@@ -1,6 +1,6 @@
 -- The event lines of a witness, as `replay` reads them.
 use Rattle.std.specs.Prelude.{ℕ, List, [], ◌∷◌, ◌++◌, map}
-use Rattle.written_machine.specs.declared.event.Event.{Event}
+use Rattle.pool_machine.specs.declared.event.Event.{Event}
 use Rattle.interleaving.specs.EventLine.{Line, Perform, Stuck}
 use Rattle.counterexample.specs.declared.ending.Ending.{Ending}
 use Rattle.counterexample.specs.declared.ending.Ending.TheVariants.{Refused, StuckForever, StuckNow}

@@ -2,11 +2,11 @@
 use Rattle.std.specs.Prelude.{◌≡◌, ◌≤◌, ◌<◌, ◌⊎◌, ℕ, List, length, Some}
 use Rattle.job_bodies.specs.Plan.{Plan, pool_at}
 use Rattle.job_bodies.specs.WellFormed.{IsWellFormed}
-use Rattle.written_machine.specs.declared.event.Event.{Event}
-use Rattle.written_machine.specs.State.{State, job_at, threads}
-use Rattle.written_machine.specs.Reach.{replay, IsReached}
-use Rattle.written_machine.specs.Waiting.{IsMember, IsWaitingSet}
-use Rattle.written_machine.specs.FullWaitingSets.{WhereMembersQueue, IsFull}
+use Rattle.pool_machine.specs.declared.event.Event.{Event}
+use Rattle.pool_machine.specs.State.{State, job_at, threads}
+use Rattle.pool_machine.specs.Reach.{replay, IsReached}
+use Rattle.pool_machine.specs.Waiting.{IsMember, IsWaitingSet}
+use Rattle.pool_machine.specs.FullWaitingSets.{WhereMembersQueue, IsFull}
 use Rattle.weights.specs.Row.{AllHold}
 use Rattle.weights.specs.Vector.{Vector}
 use Rattle.weights.specs.Standing.{standing_rows}

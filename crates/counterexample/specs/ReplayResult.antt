@@ -1,9 +1,9 @@
 -- The results of the replay of a list of events.
 use Rattle.std.specs.Prelude.{◌≡◌, List, take}
 use Rattle.job_bodies.specs.Plan.{Plan}
-use Rattle.written_machine.specs.declared.event.Event.{Event}
-use Rattle.written_machine.specs.State.{State}
-use Rattle.written_machine.specs.Reach.{Reaches}
+use Rattle.pool_machine.specs.declared.event.Event.{Event}
+use Rattle.pool_machine.specs.State.{State}
+use Rattle.pool_machine.specs.Reach.{Reaches}
 use Rattle.interleaving.specs.LiveView.{View, live_view}
 use Rattle.counterexample.specs.declared.replaying.ReplayResult.{ReplayResult}
 use Rattle.counterexample.specs.declared.replaying.ReplayResult.TheVariants.{Refused, NotPossible, Whole}

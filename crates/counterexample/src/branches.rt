@@ -8,7 +8,7 @@ use crate::scripts::Script;
 use crate::vectors::Potential;
 use crate::walks::Walk;
 use std::alloc::{AllocError, Global};
-use written_machine::Parent;
+use pool_machine::Parent;
 
 /// The maximum number of actors that are tried for one choice.
 const MAX_ACTORS: usize = 8;

@@ -1,8 +1,8 @@
 //! The check that a list of events is a witness.
 
 ghost use Rattle.std.specs.Prelude.{◌≡◌, IfOk, IfSome, take};
-ghost use Rattle.written_machine.specs.State.{State};
-ghost use Rattle.written_machine.specs.Reach.{start, IsReached};
+ghost use Rattle.pool_machine.specs.State.{State};
+ghost use Rattle.pool_machine.specs.Reach.{start, IsReached};
 ghost use Rattle.interleaving.specs.LiveView.{live_view};
 ghost use Rattle.interleaving.specs.OfPlan.{IsReachableView};
 ghost use Rattle.counterexample.specs.declared.ending.Ending.TheVariants.{Refused};

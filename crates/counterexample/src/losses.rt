@@ -12,7 +12,7 @@ use crate::machine::{Job, Machine};
 use crate::pools::Admission;
 use crate::vectors::Potential;
 use job_bodies::{Action, MAX_ACTIONS};
-use written_machine::Parent;
+use pool_machine::Parent;
 
 /// The largest loss that [`Losses::of`] returns. It is also the result if the loss of a choice
 /// cannot be computed.

@@ -4,7 +4,7 @@
 use crate::pools::{Admission, SearchPool};
 use job_bodies::{Action, MAX_ACTIONS, Plan};
 use std::alloc::{AllocError, Global};
-use written_machine::Parent;
+use pool_machine::Parent;
 
 /// The phase of a job: queued, at a position of its body, or done.
 #[derive(Clone, Copy, PartialEq, Eq)]

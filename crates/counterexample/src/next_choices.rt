@@ -4,7 +4,7 @@ use crate::choices::Choice;
 use crate::losses::Losses;
 use crate::vectors::Potential;
 use crate::walks::{Rules, Walk};
-use written_machine::Parent;
+use pool_machine::Parent;
 
 /// The factor by which a walk multiplies the loss of a choice, before it adds the key of the
 /// choice. The walk makes the choice with the least result. The factor is greater than every key,

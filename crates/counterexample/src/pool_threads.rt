@@ -2,7 +2,7 @@
 
 use crate::walks::{Walk, WalkStep};
 use std::alloc::AllocError;
-use written_machine::Parent;
+use pool_machine::Parent;
 
 impl Walk<'_> {
     /// Returns `true` if a thread of the class's pool is idle and the first job in the pool's queue

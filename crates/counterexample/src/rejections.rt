@@ -2,7 +2,7 @@
 
 ghost use Rattle.std.specs.Prelude.{◌≡◌, ◌<◌, length, take, IfOk, IfSome};
 ghost use Rattle.job_bodies.specs.WellFormed.{IsWellFormed};
-ghost use Rattle.written_machine.specs.Reach.{start};
+ghost use Rattle.pool_machine.specs.Reach.{start};
 ghost use Rattle.interleaving.specs.LiveView.{live_view};
 ghost use Rattle.counterexample.specs.Rejection as spec;
 

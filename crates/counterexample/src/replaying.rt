@@ -1,7 +1,7 @@
 //! The replay of a list of events from a plan's initial state.
 
 ghost use Rattle.std.specs.Prelude.{◌≡◌, IfOk};
-ghost use Rattle.written_machine.specs.Reach.{start};
+ghost use Rattle.pool_machine.specs.Reach.{start};
 ghost use Rattle.interleaving.specs.LiveView.{live_view};
 ghost use Rattle.counterexample.specs.ReplayResult.{Finds};
 

@@ -23,7 +23,7 @@ use crate::vectors::{Potential, missed_vectors};
 use crate::walks::{Rules, Violation, WalkResult, perform_walk};
 use job_bodies::Plan;
 use std::alloc::{AllocError, Global};
-use written_machine::Event;
+use pool_machine::Event;
 
 /// The maximum number of guided walks for each vector. A guided walk prefers the choices that lose
 /// the least weight under the vector.

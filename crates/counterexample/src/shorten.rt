@@ -5,7 +5,7 @@ use crate::scripts::Script;
 use crate::walks::Violation;
 use job_bodies::Plan;
 use std::alloc::{AllocError, Global};
-use written_machine::Event;
+use pool_machine::Event;
 
 /// The fixed part of the limit on replayed events. To shorten a script of `n` events, at most
 /// [`WHOLE_REPLAYS`] times `n`, plus `MAX_REPLAYED`, events are replayed.

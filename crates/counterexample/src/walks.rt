@@ -11,7 +11,7 @@ use crate::stuck_checks::StuckChecks;
 use crate::vectors::Potential;
 use job_bodies::{Action, Plan};
 use std::alloc::{AllocError, Global};
-use written_machine::Parent;
+use pool_machine::Parent;
 
 /// The violation in which a list of events ends. Every violation except `StuckNow` is *permanent*.
 #[derive(Clone, Copy)]

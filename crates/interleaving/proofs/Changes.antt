@@ -4,15 +4,15 @@ use Rattle.std.proofs.lemmas.Bool.{cases_eq}
 use Rattle.std.proofs.lemmas.List.{get_or-set_same, get_or-set_other}
 use Rattle.job_bodies.specs.declared.action.Action.{Action}
 use Rattle.job_bodies.specs.Plan.{Plan}
-use Rattle.written_machine.specs.declared.parent.Parent.{Parent}
-use Rattle.written_machine.specs.declared.parent.Parent.TheVariants as parent
+use Rattle.pool_machine.specs.declared.parent.Parent.{Parent}
+use Rattle.pool_machine.specs.declared.parent.Parent.TheVariants as parent
 use Rattle.interleaving.specs.declared.job_view.Phase.{Phase}
 use Rattle.interleaving.specs.declared.job_view.JobView.{JobView}
-use Rattle.written_machine.specs.State.{Stage, CreatedJob, State, no_job, job_at, is_unfinished, child}
-use Rattle.written_machine.specs.State.Stage.{At}
-use Rattle.written_machine.specs.Step.{point, with_stage}
-use Rattle.written_machine.proofs.Positions.{stage_of_standing, At≢Claimed, job_made}
-use Rattle.written_machine.proofs.Stages.{get_or-staged_same, get_or-staged_other, child-stage}
+use Rattle.pool_machine.specs.State.{Stage, CreatedJob, State, no_job, job_at, is_unfinished, child}
+use Rattle.pool_machine.specs.State.Stage.{At}
+use Rattle.pool_machine.specs.Step.{point, with_stage}
+use Rattle.pool_machine.proofs.Positions.{stage_of_standing, At≢Claimed, job_made}
+use Rattle.pool_machine.proofs.Stages.{get_or-staged_same, get_or-staged_other, child-stage}
 use Rattle.interleaving.specs.LiveView.{may_get, phase_seen, job_with, job_seen, live_view}
 use Rattle.interleaving.specs.ViewStep.{live_job}
 use Rattle.interleaving.proofs.View.{seen, phase_with, job_seen-with, length-view, view_at, jobs_are}

@@ -4,12 +4,12 @@ use Rattle.std.proofs.lemmas.Bool.{and_from, eq-eqb}
 use Rattle.std.proofs.lemmas.List.{get_or_default}
 use Rattle.support.proofs.LastPlace.{IsLast, last_where_is, last_where_from}
 use Rattle.job_bodies.specs.Plan.{Plan}
-use Rattle.written_machine.specs.declared.parent.Parent.{Parent}
+use Rattle.pool_machine.specs.declared.parent.Parent.{Parent}
 use Rattle.interleaving.specs.declared.job_view.Phase.{Phase}
 use Rattle.interleaving.specs.declared.job_view.Phase.TheVariants as phase
-use Rattle.written_machine.specs.State.{Stage, CreatedJob, State, no_job, job_at, same_parent, is_made_by, child}
-use Rattle.written_machine.specs.State.Stage.{Queued, At, Done, Claimed}
-use Rattle.written_machine.proofs.Children.{same_actor_refl, maker_of}
+use Rattle.pool_machine.specs.State.{Stage, CreatedJob, State, no_job, job_at, same_parent, is_made_by, child}
+use Rattle.pool_machine.specs.State.Stage.{Queued, At, Done, Claimed}
+use Rattle.pool_machine.proofs.Children.{same_actor_refl, maker_of}
 use Rattle.interleaving.specs.LiveView.{may_get, is_number, phase_seen, job_with, live_view}
 use Rattle.interleaving.specs.ViewStep.{live_job, is_live_child, live_child}
 use Rattle.interleaving.proofs.View.{seen, length-view, view_at}

@@ -9,23 +9,23 @@ use Rattle.job_bodies.specs.declared.action.Action.TheVariants.{Work, Submit, Ge
 use Rattle.job_bodies.specs.Plan.{Plan}
 use Rattle.job_bodies.specs.ValidBody.{IsValidBody}
 use Rattle.job_bodies.proofs.Bodies.{HasValidBodies}
-use Rattle.written_machine.specs.declared.parent.Parent.{Parent}
-use Rattle.written_machine.specs.declared.parent.Parent.TheVariants as parent
-use Rattle.written_machine.specs.declared.event.Event.{Event}
-use Rattle.written_machine.specs.declared.event.Outcome.{Outcome}
-use Rattle.written_machine.specs.State.{Stage, CreatedJob, State, PoolPart, no_job, is_made_by, child, client_state}
-use Rattle.written_machine.specs.State.Stage.{Queued, At, Done, Claimed}
-use Rattle.written_machine.specs.Step.{point, with_stage, with_position, with_job, new_job, moved_jobs, moved_clients}
-use Rattle.written_machine.specs.Reach.{start}
-use Rattle.written_machine.specs.Laws.{HasGreaterNumber}
-use Rattle.written_machine.proofs.Events.{Happens, works, starts, queues, is_refused, is_rejected, gets, finishes, loops, takes, retires}
-use Rattle.written_machine.proofs.StateInvariant.{StateInvariant}
-use Rattle.written_machine.proofs.Positions.{At≢Claimed, standing_made, client_standing, valid_point}
-use Rattle.written_machine.proofs.Stages.{staged, length-staged, stage-staged, get_or-staged_other, parent-staged, child-moved, HaveParents, parents_moved, parents_pushed}
-use Rattle.written_machine.proofs.Queues.{Queued≢Claimed, IsHead, head_of_queue}
-use Rattle.written_machine.proofs.Children.{maker_of, one_maker, child_is}
-use Rattle.written_machine.proofs.Actors.{same_job, same_client, standing-moved, standing-staged, standing-pushed}
-use Rattle.written_machine.proofs.ActorInvariants.{is_after}
+use Rattle.pool_machine.specs.declared.parent.Parent.{Parent}
+use Rattle.pool_machine.specs.declared.parent.Parent.TheVariants as parent
+use Rattle.pool_machine.specs.declared.event.Event.{Event}
+use Rattle.pool_machine.specs.declared.event.Outcome.{Outcome}
+use Rattle.pool_machine.specs.State.{Stage, CreatedJob, State, PoolPart, no_job, is_made_by, child, client_state}
+use Rattle.pool_machine.specs.State.Stage.{Queued, At, Done, Claimed}
+use Rattle.pool_machine.specs.Step.{point, with_stage, with_position, with_job, new_job, moved_jobs, moved_clients}
+use Rattle.pool_machine.specs.Reach.{start}
+use Rattle.pool_machine.specs.Laws.{HasGreaterNumber}
+use Rattle.pool_machine.proofs.Events.{Happens, works, starts, queues, is_refused, is_rejected, gets, finishes, loops, takes, retires}
+use Rattle.pool_machine.proofs.StateInvariant.{StateInvariant}
+use Rattle.pool_machine.proofs.Positions.{At≢Claimed, standing_made, client_standing, valid_point}
+use Rattle.pool_machine.proofs.Stages.{staged, length-staged, stage-staged, get_or-staged_other, parent-staged, child-moved, HaveParents, parents_moved, parents_pushed}
+use Rattle.pool_machine.proofs.Queues.{Queued≢Claimed, IsHead, head_of_queue}
+use Rattle.pool_machine.proofs.Children.{maker_of, one_maker, child_is}
+use Rattle.pool_machine.proofs.Actors.{same_job, same_client, standing-moved, standing-staged, standing-pushed}
+use Rattle.pool_machine.proofs.ActorInvariants.{is_after}
 use Rattle.interleaving.proofs.Changes.{job_standing}
 use Rattle.interleaving.proofs.OlderAreClaimed.{OlderAreClaimed, QueuedAreChildless, HaveMakers, AllOlderAreClaimed, same_made-staged, same_made-moved, same_made-pushed, older_changes, older_stays, older_none, passes_get, older_submits, older_gets}
 

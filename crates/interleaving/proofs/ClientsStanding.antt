@@ -8,8 +8,8 @@ use Rattle.std.specs.List.Sorted.{IsPartitionedBy, IsPartitionPoint}
 use Rattle.std.proofs.lemmas.List.Sorted.{IsPartitionedBy-leb, IsNonDecreasingBy-from_default}
 use Rattle.std.proofs.lemmas.Option.{slice_get-get_or, slice_get_past, get_or_from_slice_get, slice_get_within, unwrap_or-slice_get}
 use Rattle.job_bodies.specs.Plan.{Client}
-use Rattle.written_machine.specs.declared.client_state.ClientState.{ClientState}
-use Rattle.written_machine.specs.Reach.{new_clients}
+use Rattle.pool_machine.specs.declared.client_state.ClientState.{ClientState}
+use Rattle.pool_machine.specs.Reach.{new_clients}
 use Rattle.interleaving.specs.Clients.{ends_from, IsRising, starting, moved_or, standing, client_of}
 use Rattle.interleaving.specs.MovedClients.{at_position}
 

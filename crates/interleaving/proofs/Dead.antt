@@ -8,18 +8,18 @@ use Rattle.job_bodies.specs.Plan.{Plan, pool_at, client_at}
 use Rattle.pool_machine.specs.declared.offer.Offer.{Offer}
 use Rattle.pool_machine.specs.declared.offer.Offer.TheVariants as offer
 use Rattle.pool_machine.specs.PoolState.{PoolView, answer, taken, retired}
-use Rattle.written_machine.specs.declared.client_state.ClientState.{ClientState}
-use Rattle.written_machine.specs.declared.parent.Parent.{Parent}
-use Rattle.written_machine.specs.declared.parent.Parent.TheVariants as parent
-use Rattle.written_machine.specs.declared.event.Event.{Event}
-use Rattle.written_machine.specs.declared.event.Event.TheVariants as event
-use Rattle.written_machine.specs.declared.event.Outcome.{Outcome}
-use Rattle.written_machine.specs.declared.event.Outcome.TheVariants as outcome
+use Rattle.pool_machine.specs.declared.client_state.ClientState.{ClientState}
+use Rattle.pool_machine.specs.declared.parent.Parent.{Parent}
+use Rattle.pool_machine.specs.declared.parent.Parent.TheVariants as parent
+use Rattle.pool_machine.specs.declared.event.Event.{Event}
+use Rattle.pool_machine.specs.declared.event.Event.TheVariants as event
+use Rattle.pool_machine.specs.declared.event.Outcome.{Outcome}
+use Rattle.pool_machine.specs.declared.event.Outcome.TheVariants as outcome
 use Rattle.interleaving.specs.declared.job_view.Phase.{Phase}
 use Rattle.interleaving.specs.declared.job_view.Phase.TheVariants as phase
 use Rattle.interleaving.specs.declared.job_view.JobView.{JobView}
-use Rattle.written_machine.specs.State.{pool_of}
-use Rattle.written_machine.specs.Step.{Point}
+use Rattle.pool_machine.specs.State.{pool_of}
+use Rattle.pool_machine.specs.Step.{Point}
 use Rattle.interleaving.specs.LiveView.{View}
 use Rattle.interleaving.specs.ViewStep.{live_job, live_child, is_done, in_phase, with_phase, drop_if_stale, drop_if_orphan, finished_if_gettable, move_actor, new_live_job, made, answered_in, got_in, got_child_in, finished_job_in, looped_in, step_action_in, point_in, step_actor, take_head_in, retire_worker_in, pool_in, view_step}
 

@@ -6,21 +6,21 @@ use Rattle.support.proofs.LastPlace.{none_where}
 use Rattle.job_bodies.specs.declared.action.Action.{Action}
 use Rattle.job_bodies.specs.Plan.{Plan, pool_at}
 use Rattle.pool_machine.specs.PoolState.{PoolView, finished}
-use Rattle.written_machine.specs.declared.parent.Parent.{Parent}
-use Rattle.written_machine.specs.declared.parent.Parent.TheVariants as parent
-use Rattle.written_machine.specs.declared.event.Outcome.{Outcome}
-use Rattle.written_machine.specs.declared.event.Outcome.TheVariants as outcome
+use Rattle.pool_machine.specs.declared.parent.Parent.{Parent}
+use Rattle.pool_machine.specs.declared.parent.Parent.TheVariants as parent
+use Rattle.pool_machine.specs.declared.event.Outcome.{Outcome}
+use Rattle.pool_machine.specs.declared.event.Outcome.TheVariants as outcome
 use Rattle.interleaving.specs.declared.job_view.Phase.{Phase}
 use Rattle.interleaving.specs.declared.job_view.Phase.TheVariants as phase
-use Rattle.written_machine.specs.State.{Stage, CreatedJob, State, no_job, job_at, pool_of, pool_view, pool_seen, is_at, is_unfinished, busy, same_parent, is_made_by, child}
-use Rattle.written_machine.specs.State.Stage.{Queued, At, Done, Claimed}
-use Rattle.written_machine.specs.Step.{point, with_stage, finished_job}
-use Rattle.written_machine.specs.Laws.{HasGreaterNumber}
-use Rattle.written_machine.proofs.Busy.{one_if, busy-staged_here, busy-staged_elsewhere}
-use Rattle.written_machine.proofs.StateInvariant.{StateInvariant}
-use Rattle.written_machine.proofs.Positions.{At≢Claimed}
-use Rattle.written_machine.proofs.Stages.{get_or-staged_same, get_or-staged_other, child-stage}
-use Rattle.written_machine.proofs.Children.{same_actor_true, same_actor_refl}
+use Rattle.pool_machine.specs.State.{Stage, CreatedJob, State, no_job, job_at, pool_of, pool_view, pool_seen, is_at, is_unfinished, busy, same_parent, is_made_by, child}
+use Rattle.pool_machine.specs.State.Stage.{Queued, At, Done, Claimed}
+use Rattle.pool_machine.specs.Step.{point, with_stage, finished_job}
+use Rattle.pool_machine.specs.Laws.{HasGreaterNumber}
+use Rattle.pool_machine.proofs.Busy.{one_if, busy-staged_here, busy-staged_elsewhere}
+use Rattle.pool_machine.proofs.StateInvariant.{StateInvariant}
+use Rattle.pool_machine.proofs.Positions.{At≢Claimed}
+use Rattle.pool_machine.proofs.Stages.{get_or-staged_same, get_or-staged_other, child-stage}
+use Rattle.pool_machine.proofs.Children.{same_actor_true, same_actor_refl}
 use Rattle.interleaving.specs.LiveView.{may_get, is_number, phase_seen, job_with, job_seen, View, live_view}
 use Rattle.interleaving.specs.ViewStep.{live_job, live_child, is_done, may_get_in, pool_in, with_pool_in, drop_if_orphan, finished_if_gettable, finished_job_in}
 use Rattle.interleaving.proofs.View.{seen, phase_with, job_seen-with, length-view, view_at, jobs_are, pool_at_view, same_views, may_get_seen, pools-put}

@@ -5,10 +5,10 @@ use Rattle.std.proofs.lemmas.List.{get_or-set_same, get_or-set_other, map-set}
 use Rattle.std.proofs.Math.ListN.{get_or-map as get_or-map_at}
 use Rattle.std.proofs.lemmas.Option.{same_Some}
 use Rattle.support.proofs.LastPlace.{none_where}
-use Rattle.written_machine.specs.declared.parent.Parent.{Parent}
-use Rattle.written_machine.specs.declared.parent.Parent.TheVariants as parent
-use Rattle.written_machine.specs.State.{same_parent}
-use Rattle.written_machine.proofs.Children.{same_actor_true}
+use Rattle.pool_machine.specs.declared.parent.Parent.{Parent}
+use Rattle.pool_machine.specs.declared.parent.Parent.TheVariants as parent
+use Rattle.pool_machine.specs.State.{same_parent}
+use Rattle.pool_machine.proofs.Children.{same_actor_true}
 use Rattle.interleaving.specs.declared.job_view.Phase.TheVariants as phase
 use Rattle.interleaving.specs.declared.job_view.JobView.{JobView}
 use Rattle.interleaving.specs.LiveView.{is_number}

@@ -5,8 +5,8 @@ use Rattle.std.proofs.lemmas.List.{get_or_past, get_or_append_left, length_push,
 use Rattle.std.proofs.lemmas.List.Sums.{sum_by-append, sum_by-cons}
 use Rattle.std.specs.Option.{option_map}
 use Rattle.support.proofs.Sums.{count_by-set, count_by-map, count_by-agree}
-use Rattle.written_machine.specs.declared.parent.Parent.{Parent}
-use Rattle.written_machine.specs.declared.parent.Parent.TheVariants as parent
+use Rattle.pool_machine.specs.declared.parent.Parent.{Parent}
+use Rattle.pool_machine.specs.declared.parent.Parent.TheVariants as parent
 use Rattle.interleaving.specs.declared.job_view.Phase.{Phase}
 use Rattle.interleaving.specs.declared.job_view.JobView.{JobView}
 use Rattle.interleaving.specs.ViewStep.{live_job, is_live_child, is_done, is_unfinished_job, may_get_in, in_phase, with_phase, drop_if_stale}

@@ -9,12 +9,12 @@ use Rattle.job_bodies.specs.declared.action.Action.{Action}
 use Rattle.job_bodies.specs.declared.action.Action.TheVariants.{Work, Submit, Get}
 use Rattle.job_bodies.specs.Plan.{Plan, submits, gets, has_get_of}
 use Rattle.job_bodies.specs.WellFormed.{IsWellFormed}
-use Rattle.written_machine.specs.declared.parent.Parent.{Parent}
-use Rattle.written_machine.specs.State.{Stage, CreatedJob, State, job_at, is_made_by, child}
-use Rattle.written_machine.specs.State.Stage.{Queued, At, Done, Claimed}
-use Rattle.written_machine.specs.Step.{Point, point}
-use Rattle.written_machine.specs.Reach.{IsReached}
-use Rattle.written_machine.proofs.Positions.{job_made}
+use Rattle.pool_machine.specs.declared.parent.Parent.{Parent}
+use Rattle.pool_machine.specs.State.{Stage, CreatedJob, State, job_at, is_made_by, child}
+use Rattle.pool_machine.specs.State.Stage.{Queued, At, Done, Claimed}
+use Rattle.pool_machine.specs.Step.{Point, point}
+use Rattle.pool_machine.specs.Reach.{IsReached}
+use Rattle.pool_machine.proofs.Positions.{job_made}
 use Rattle.interleaving.specs.declared.job_view.Phase.TheVariants as phase
 use Rattle.interleaving.specs.LiveView.{may_get, is_number, phase_seen, job_with, View, live_view}
 use Rattle.interleaving.specs.ViewStep.{live_job, is_live_child, live_child, point_in}

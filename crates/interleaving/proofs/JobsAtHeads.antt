@@ -5,9 +5,9 @@ use Rattle.std.proofs.lemmas.List.{get_or_past}
 use Rattle.std.proofs.lemmas.Option.{same_Some, none-some}
 use Rattle.job_bodies.specs.Plan.{Plan}
 use Rattle.job_bodies.specs.WellFormed.{IsWellFormed}
-use Rattle.written_machine.specs.State.{Stage, CreatedJob, State, job_at, no_job, pool_of, is_queued, is_queued_in}
-use Rattle.written_machine.specs.State.Stage.{Queued, At, Done, Claimed}
-use Rattle.written_machine.specs.Reach.{IsReached}
+use Rattle.pool_machine.specs.State.{Stage, CreatedJob, State, job_at, no_job, pool_of, is_queued, is_queued_in}
+use Rattle.pool_machine.specs.State.Stage.{Queued, At, Done, Claimed}
+use Rattle.pool_machine.specs.Reach.{IsReached}
 use Rattle.interleaving.specs.LiveView.{phase_seen, job_with, View, live_view}
 use Rattle.interleaving.specs.ViewStep.{is_unfinished_job, may_get_in, no_pool_view, pool_in}
 use Rattle.interleaving.proofs.View.{view_at, length-pools, pool_at_view}
@@ -16,8 +16,8 @@ use Rattle.support.specs.In.{In, here}
 use Rattle.support.specs.Places.{places_where}
 use Rattle.support.proofs.PassingPlaces.{place_at_In}
 use Rattle.pool_machine.specs.PoolState.{PoolView, taken, taken_from}
-use Rattle.written_machine.specs.declared.parent.Parent.TheVariants as parent
-use Rattle.written_machine.proofs.Reached.{kept}
+use Rattle.pool_machine.specs.declared.parent.Parent.TheVariants as parent
+use Rattle.pool_machine.proofs.Reached.{kept}
 
 record HasHead (pool : PoolView) (j : ℕ) : Type 0 where
   rest : List ℕ

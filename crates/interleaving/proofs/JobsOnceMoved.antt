@@ -3,8 +3,8 @@ use Rattle.std.proofs.Common.{◌≡◌, ◌≢◌, ℕ, true, not, List, length
 use Rattle.std.proofs.lemmas.Bool.{both_ways, cases_lt, cases_eq, and_right}
 use Rattle.std.proofs.lemmas.List.{get_or-set_other, get_or_past, get_or-set_same}
 use Rattle.std.proofs.lemmas.Option.{same_Some}
-use Rattle.written_machine.specs.declared.parent.Parent.{Parent}
-use Rattle.written_machine.specs.declared.parent.Parent.TheVariants as parent
+use Rattle.pool_machine.specs.declared.parent.Parent.{Parent}
+use Rattle.pool_machine.specs.declared.parent.Parent.TheVariants as parent
 use Rattle.interleaving.specs.declared.job_view.Phase.TheVariants as phase
 use Rattle.interleaving.specs.declared.job_view.JobView.{JobView}
 use Rattle.interleaving.specs.LiveView.{View}

@@ -3,18 +3,18 @@ use Rattle.std.proofs.Common.{◌≡◌, Option, Some, None, sym, ap, subst, ◌
 use Rattle.std.proofs.lemmas.Option.{same_Some}
 use Rattle.job_bodies.specs.Plan.{Plan}
 use Rattle.job_bodies.specs.WellFormed.{IsWellFormed}
-use Rattle.written_machine.specs.declared.parent.Parent.{Parent}
-use Rattle.written_machine.specs.State.{CreatedJob, State, job_at}
-use Rattle.written_machine.specs.Reach.{IsReached}
+use Rattle.pool_machine.specs.declared.parent.Parent.{Parent}
+use Rattle.pool_machine.specs.State.{CreatedJob, State, job_at}
+use Rattle.pool_machine.specs.Reach.{IsReached}
 use Rattle.interleaving.specs.declared.job_view.Phase.{Phase}
 use Rattle.interleaving.specs.declared.job_view.JobView.{JobView}
 use Rattle.interleaving.specs.LiveView.{phase_seen, job_with, View, live_view, job_seen}
 use Rattle.interleaving.proofs.View.{view_at}
 use Rattle.interleaving.specs.OfPlan.{IsReachableView, MadeByOther}
 use Rattle.interleaving.proofs.OfPlan.{made_if_seen}
-use Rattle.written_machine.specs.declared.parent.Parent.TheVariants as parent
-use Rattle.written_machine.specs.Laws.{HasGreaterNumber}
-use Rattle.written_machine.proofs.Reached.{kept}
+use Rattle.pool_machine.specs.declared.parent.Parent.TheVariants as parent
+use Rattle.pool_machine.specs.Laws.{HasGreaterNumber}
+use Rattle.pool_machine.proofs.Reached.{kept}
 
 parent_of_seen : (made : CreatedJob) (phase : Option Phase) (job : JobView) → job_with made phase ≡ Some job → job.parent ≡ made.parent
 parent_of_seen made None job e = absurd cc

@@ -9,8 +9,8 @@ use Rattle.support.specs.Places.{cons_if, places_from, places_where}
 use Rattle.support.proofs.PassingPlaces.{length-places}
 use Rattle.job_bodies.specs.Plan.{Plan}
 use Rattle.pool_machine.specs.PoolState.{PoolView}
-use Rattle.written_machine.specs.State.{State, pool_of, is_busy_in, busy}
-use Rattle.written_machine.specs.Waiting.{is_member}
+use Rattle.pool_machine.specs.State.{State, pool_of, is_busy_in, busy}
+use Rattle.pool_machine.specs.Waiting.{is_member}
 use Rattle.interleaving.specs.declared.job_view.Phase.{Phase}
 use Rattle.interleaving.specs.declared.job_view.Phase.TheVariants as phase
 use Rattle.interleaving.specs.declared.job_view.JobView.{JobView}

@@ -8,7 +8,7 @@ use Rattle.std.specs.List.Sorted.{IsNonDecreasing}
 use Rattle.std.proofs.lemmas.Bool.{cases_lt, lt-ltb, le-ltb, false_from_ne_true, eqb-true}
 use Rattle.std.proofs.lemmas.List.{get_or-take, length-take-le}
 use Rattle.std.proofs.lemmas.List.Folds.{list_any_at, list_any-append}
-use Rattle.written_machine.specs.Waiting.{is_member}
+use Rattle.pool_machine.specs.Waiting.{is_member}
 
 -- the number at an index is a member
 pub member_at : (members : List ℕ) (i j : ℕ) → i < length members → get_or members i 0 ≡ j → is_member members j ≡ true

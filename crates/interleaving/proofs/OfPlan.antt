@@ -10,19 +10,19 @@ use Rattle.job_bodies.specs.Plan.{Plan}
 use Rattle.job_bodies.specs.WellFormed.{IsWellFormed}
 use Rattle.job_bodies.specs.ValidBody.{IsValidBody}
 use Rattle.job_bodies.proofs.Bodies.{HasValidBodies, ordered}
-use Rattle.written_machine.specs.declared.parent.Parent.{Parent}
-use Rattle.written_machine.specs.declared.parent.Parent.TheVariants as parent
+use Rattle.pool_machine.specs.declared.parent.Parent.{Parent}
+use Rattle.pool_machine.specs.declared.parent.Parent.TheVariants as parent
 use Rattle.pool_machine.specs.PoolState.{PoolView}
-use Rattle.written_machine.specs.State.{Stage, CreatedJob, State, no_job, job_at, is_at, pool_of, pool_seen, is_busy_in, busy}
-use Rattle.written_machine.specs.Reach.{IsReached}
-use Rattle.written_machine.proofs.Positions.{stage_of_standing, At≢Claimed, job_made}
-use Rattle.written_machine.specs.Step.{Point, point_of_client}
+use Rattle.pool_machine.specs.State.{Stage, CreatedJob, State, no_job, job_at, is_at, pool_of, pool_seen, is_busy_in, busy}
+use Rattle.pool_machine.specs.Reach.{IsReached}
+use Rattle.pool_machine.proofs.Positions.{stage_of_standing, At≢Claimed, job_made}
+use Rattle.pool_machine.specs.Step.{Point, point_of_client}
 use Rattle.interleaving.specs.declared.job_view.Phase.{Phase}
 use Rattle.interleaving.specs.declared.job_view.Phase.TheVariants as phase
 use Rattle.interleaving.specs.declared.job_view.JobView.{JobView}
 use Rattle.interleaving.specs.LiveView.{View, live_view, phase_seen, job_with, job_seen}
 use Rattle.interleaving.specs.ViewStep.{live_job, point_of_phase, point_of_live_job, point_in, pool_in}
-use Rattle.written_machine.proofs.Reached.{kept}
+use Rattle.pool_machine.proofs.Reached.{kept}
 use Rattle.interleaving.proofs.View.{length-pools, pool_at_view, view_at, point_seen}
 use Rattle.interleaving.specs.declared.next_action.NextAction.{NextAction}
 use Rattle.interleaving.specs.NextAction.{next_action_at}

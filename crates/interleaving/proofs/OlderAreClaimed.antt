@@ -10,14 +10,14 @@ use Rattle.job_bodies.specs.declared.action.Action.{Action}
 use Rattle.job_bodies.specs.declared.action.Action.TheVariants.{Submit, Get}
 use Rattle.job_bodies.specs.Plan.{Plan, class_at}
 use Rattle.job_bodies.specs.ValidBody.{IsValidBody}
-use Rattle.written_machine.specs.declared.parent.Parent.{Parent}
-use Rattle.written_machine.specs.declared.parent.Parent.TheVariants as parent
-use Rattle.written_machine.specs.State.{Stage, CreatedJob, State, no_job, no_client_state, job_at, is_unfinished, is_made_by, child}
-use Rattle.written_machine.specs.State.Stage.{Queued, At, Done, Claimed}
-use Rattle.written_machine.specs.Step.{point, point_of_client, point_of_job, moved_jobs, new_job}
-use Rattle.written_machine.proofs.Positions.{At≢Claimed, stage_of_standing}
-use Rattle.written_machine.proofs.Stages.{staged, length-staged, stage-staged, get_or-staged_other, child-stage}
-use Rattle.written_machine.proofs.Children.{maker_of, one_maker, child_is, not_at_slot}
+use Rattle.pool_machine.specs.declared.parent.Parent.{Parent}
+use Rattle.pool_machine.specs.declared.parent.Parent.TheVariants as parent
+use Rattle.pool_machine.specs.State.{Stage, CreatedJob, State, no_job, no_client_state, job_at, is_unfinished, is_made_by, child}
+use Rattle.pool_machine.specs.State.Stage.{Queued, At, Done, Claimed}
+use Rattle.pool_machine.specs.Step.{point, point_of_client, point_of_job, moved_jobs, new_job}
+use Rattle.pool_machine.proofs.Positions.{At≢Claimed, stage_of_standing}
+use Rattle.pool_machine.proofs.Stages.{staged, length-staged, stage-staged, get_or-staged_other, child-stage}
+use Rattle.pool_machine.proofs.Children.{maker_of, one_maker, child_is, not_at_slot}
 use Rattle.interleaving.specs.LiveView.{may_get}
 
 -- actor a is at position i of its body; of the jobs that it created by a submit with a get, only the latest can be unclaimed

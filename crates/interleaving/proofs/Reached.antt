@@ -5,15 +5,15 @@ use Rattle.std.proofs.lemmas.Option.{some_pair_parts}
 use Rattle.job_bodies.specs.Plan.{Plan}
 use Rattle.job_bodies.specs.WellFormed.{IsWellFormed}
 use Rattle.job_bodies.proofs.Bodies.{ordered}
-use Rattle.written_machine.specs.declared.event.Event.{Event}
-use Rattle.written_machine.specs.declared.event.Outcome.{Outcome}
-use Rattle.written_machine.specs.State.{State}
-use Rattle.written_machine.specs.Step.{step}
-use Rattle.written_machine.specs.Reach.{start, state_after, replay, IsReached}
-use Rattle.written_machine.proofs.StateInvariant.{StateInvariant}
-use Rattle.written_machine.proofs.InvariantAtStart.{kept_start}
-use Rattle.written_machine.proofs.InvariantStep.{kept_step}
-use Rattle.written_machine.proofs.Reached.{replay_none, reached_keeps, kept}
+use Rattle.pool_machine.specs.declared.event.Event.{Event}
+use Rattle.pool_machine.specs.declared.event.Outcome.{Outcome}
+use Rattle.pool_machine.specs.State.{State}
+use Rattle.pool_machine.specs.Step.{step}
+use Rattle.pool_machine.specs.Reach.{start, state_after, replay, IsReached}
+use Rattle.pool_machine.proofs.StateInvariant.{StateInvariant}
+use Rattle.pool_machine.proofs.InvariantAtStart.{kept_start}
+use Rattle.pool_machine.proofs.InvariantStep.{kept_step}
+use Rattle.pool_machine.proofs.Reached.{replay_none, reached_keeps, kept}
 use Rattle.interleaving.specs.LiveView.{View, live_view}
 use Rattle.interleaving.specs.ViewStep.{view_step}
 use Rattle.interleaving.specs.ViewAnswers.{AnswersAs}

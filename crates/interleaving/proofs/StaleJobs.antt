@@ -1,7 +1,7 @@
 -- Only the latest job of an actor at a position can be stale.
 use Rattle.std.proofs.Common.{◌≡◌, ◌≢◌, ℕ, ◌&&◌, if◌then◌else◌, List, Option, Some, None, ⊎_elim, refl, ap, ◌∙◌}
 use Rattle.std.proofs.lemmas.Bool.{cases_Bool, and_parts}
-use Rattle.written_machine.specs.declared.parent.Parent.{Parent}
+use Rattle.pool_machine.specs.declared.parent.Parent.{Parent}
 use Rattle.interleaving.specs.declared.job_view.JobView.{JobView}
 use Rattle.interleaving.specs.ViewStep.{live_job, is_live_child, live_child, is_done, drop_if_stale}
 use Rattle.interleaving.specs.LiveJobs.{DoneAreLatest, NoOtherIsStale}

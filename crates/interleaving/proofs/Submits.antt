@@ -8,22 +8,22 @@ use Rattle.job_bodies.specs.Plan.{Plan, pool_at}
 use Rattle.pool_machine.specs.declared.offer.Offer.{Offer}
 use Rattle.pool_machine.specs.declared.offer.Offer.TheVariants as offer
 use Rattle.pool_machine.specs.PoolState.{PoolView, answer, apply_answer}
-use Rattle.written_machine.specs.declared.parent.Parent.{Parent}
-use Rattle.written_machine.specs.declared.parent.Parent.TheVariants as parent
-use Rattle.written_machine.specs.declared.event.Outcome.{Outcome}
-use Rattle.written_machine.specs.declared.event.Outcome.TheVariants as outcome
+use Rattle.pool_machine.specs.declared.parent.Parent.{Parent}
+use Rattle.pool_machine.specs.declared.parent.Parent.TheVariants as parent
+use Rattle.pool_machine.specs.declared.event.Outcome.{Outcome}
+use Rattle.pool_machine.specs.declared.event.Outcome.TheVariants as outcome
 use Rattle.interleaving.specs.declared.job_view.Phase.{Phase}
 use Rattle.interleaving.specs.declared.job_view.Phase.TheVariants as phase
-use Rattle.written_machine.specs.State.{Stage, CreatedJob, State, no_job, job_at, pool_part, pool_of, pool_view, pool_seen, is_unfinished, busy, is_made_by, child}
-use Rattle.written_machine.specs.State.Stage.{Queued, At, Done, Claimed}
-use Rattle.written_machine.specs.Step.{moved_jobs, point, with_position, with_job, with_pool, new_job, skipped, answered, submitted}
-use Rattle.written_machine.specs.Laws.{HasGreaterNumber}
-use Rattle.written_machine.proofs.Busy.{busy_in_other, busy_push_here, busy_push_same, busy-moved}
-use Rattle.written_machine.proofs.StateInvariant.{StateInvariant}
-use Rattle.written_machine.proofs.Stages.{HaveParents, parents_moved, stage-staged}
-use Rattle.written_machine.proofs.Positions.{standing_made}
-use Rattle.written_machine.proofs.ActorInvariants.{is_after}
-use Rattle.written_machine.proofs.Children.{maker_of}
+use Rattle.pool_machine.specs.State.{Stage, CreatedJob, State, no_job, job_at, pool_part, pool_of, pool_view, pool_seen, is_unfinished, busy, is_made_by, child}
+use Rattle.pool_machine.specs.State.Stage.{Queued, At, Done, Claimed}
+use Rattle.pool_machine.specs.Step.{moved_jobs, point, with_position, with_job, with_pool, new_job, skipped, answered, submitted}
+use Rattle.pool_machine.specs.Laws.{HasGreaterNumber}
+use Rattle.pool_machine.proofs.Busy.{busy_in_other, busy_push_here, busy_push_same, busy-moved}
+use Rattle.pool_machine.proofs.StateInvariant.{StateInvariant}
+use Rattle.pool_machine.proofs.Stages.{HaveParents, parents_moved, stage-staged}
+use Rattle.pool_machine.proofs.Positions.{standing_made}
+use Rattle.pool_machine.proofs.ActorInvariants.{is_after}
+use Rattle.pool_machine.proofs.Children.{maker_of}
 use Rattle.interleaving.specs.LiveView.{may_get, is_number, phase_seen, job_with, job_seen, View, live_view}
 use Rattle.interleaving.specs.ViewStep.{is_done, drop_if_stale, pool_in, move_actor, new_live_job, made, answered_in, submitted_in}
 use Rattle.interleaving.proofs.View.{seen, phase_with, job_seen-with, length-view, view_at, jobs_are, pool_at_view, same_pools, one_pool, same_views, pool_seen-busy, pools-put}

@@ -1,8 +1,8 @@
 -- Lemmas about the content of a line, by its verb.
 use Rattle.std.proofs.Common.{◌≡◌, ◌≢◌, ℕ, true, List, [], ◌∷◌, ◌++◌, drop, codes, Option, Some, None, option_map, refl, ap, ◌∙◌, append_assoc}
 use Rattle.job_bodies.specs.Plan.{Plan}
-use Rattle.written_machine.specs.declared.event.Event.{Event}
-use Rattle.written_machine.specs.declared.event.Event.TheVariants.{Client, Job, Take, Retire}
+use Rattle.pool_machine.specs.declared.event.Event.{Event}
+use Rattle.pool_machine.specs.declared.event.Event.TheVariants.{Client, Job, Take, Retire}
 use Rattle.support.specs.Pieces.{first_line, after_line}
 use Rattle.support.specs.LineNumber.{number_of, split_number_line}
 use Rattle.interleaving.specs.Words.{members_in}

@@ -6,14 +6,14 @@ use Rattle.std.proofs.lemmas.List.{length-map, get_or-map, get_or_past, get_or-s
 use Rattle.std.proofs.lemmas.List.FromFn.{length-enumerate_from, get_or-enumerate_from}
 use Rattle.job_bodies.specs.Plan.{Plan, no_pool, pool_at}
 use Rattle.pool_machine.specs.PoolState.{PoolView}
-use Rattle.written_machine.specs.declared.parent.Parent.{Parent}
-use Rattle.written_machine.specs.declared.parent.Parent.TheVariants as parent
+use Rattle.pool_machine.specs.declared.parent.Parent.{Parent}
+use Rattle.pool_machine.specs.declared.parent.Parent.TheVariants as parent
 use Rattle.interleaving.specs.declared.job_view.Phase.{Phase}
 use Rattle.interleaving.specs.declared.job_view.Phase.TheVariants as phase
 use Rattle.interleaving.specs.declared.job_view.JobView.{JobView}
-use Rattle.written_machine.specs.State.{Stage, CreatedJob, State, no_job, job_at, pool_seen, is_unfinished, child, PoolPart, no_pool_part, pool_part, part_of, pool_view, busy}
-use Rattle.written_machine.specs.State.Stage.{Queued, At, Done, Claimed}
-use Rattle.written_machine.specs.Step.{point, point_of_job, with_pool}
+use Rattle.pool_machine.specs.State.{Stage, CreatedJob, State, no_job, job_at, pool_seen, is_unfinished, child, PoolPart, no_pool_part, pool_part, part_of, pool_view, busy}
+use Rattle.pool_machine.specs.State.Stage.{Queued, At, Done, Claimed}
+use Rattle.pool_machine.specs.Step.{point, point_of_job, with_pool}
 use Rattle.interleaving.specs.LiveView.{may_get, is_number, phase_seen, job_with, job_seen, View, live_view}
 use Rattle.interleaving.specs.ViewStep.{live_job, is_unfinished_job, may_get_in, point_of_live_job, point_in, no_pool_view, pool_in}
 

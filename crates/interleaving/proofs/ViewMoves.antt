@@ -5,18 +5,18 @@ use Rattle.job_bodies.specs.declared.action.Action.{Action}
 use Rattle.job_bodies.specs.declared.action.Action.TheVariants.{Get}
 use Rattle.job_bodies.specs.Plan.{Plan, client_at}
 use Rattle.job_bodies.specs.ValidBody.{IsValidBody}
-use Rattle.written_machine.specs.declared.client_state.ClientState.{ClientState}
-use Rattle.written_machine.specs.declared.parent.Parent.{Parent}
-use Rattle.written_machine.specs.declared.parent.Parent.TheVariants as parent
-use Rattle.written_machine.specs.declared.event.Outcome.TheVariants.{Got, Looped}
+use Rattle.pool_machine.specs.declared.client_state.ClientState.{ClientState}
+use Rattle.pool_machine.specs.declared.parent.Parent.{Parent}
+use Rattle.pool_machine.specs.declared.parent.Parent.TheVariants as parent
+use Rattle.pool_machine.specs.declared.event.Outcome.TheVariants.{Got, Looped}
 use Rattle.interleaving.specs.declared.job_view.Phase.TheVariants as phase
-use Rattle.written_machine.specs.State.{Stage, CreatedJob, State, job_at, is_at, is_unfinished, busy, child}
-use Rattle.written_machine.specs.State.Stage.{Queued, At, Done, Claimed}
-use Rattle.written_machine.specs.Step.{point, with_stage, with_position, got, got_child, looped}
-use Rattle.written_machine.proofs.Stages.{get_or-staged_same}
-use Rattle.written_machine.proofs.Busy.{busy_in-as, busy-staged_same, busy-moved}
-use Rattle.written_machine.proofs.StateInvariant.{StateInvariant}
-use Rattle.written_machine.proofs.Positions.{job_made, job_at-with_position}
+use Rattle.pool_machine.specs.State.{Stage, CreatedJob, State, job_at, is_at, is_unfinished, busy, child}
+use Rattle.pool_machine.specs.State.Stage.{Queued, At, Done, Claimed}
+use Rattle.pool_machine.specs.Step.{point, with_stage, with_position, got, got_child, looped}
+use Rattle.pool_machine.proofs.Stages.{get_or-staged_same}
+use Rattle.pool_machine.proofs.Busy.{busy_in-as, busy-staged_same, busy-moved}
+use Rattle.pool_machine.proofs.StateInvariant.{StateInvariant}
+use Rattle.pool_machine.proofs.Positions.{job_made, job_at-with_position}
 use Rattle.interleaving.specs.LiveView.{job_seen, View, live_view}
 use Rattle.interleaving.specs.ViewStep.{live_job, live_child, in_phase, move_actor, got_in, got_child_in, looped_in}
 use Rattle.interleaving.specs.Laws.{seen_after}

@@ -5,15 +5,15 @@ use Rattle.std.proofs.lemmas.Bool.{cases_lt}
 use Rattle.std.proofs.lemmas.List.{get_or_past}
 use Rattle.job_bodies.specs.Plan.{Plan, pool_at}
 use Rattle.pool_machine.specs.PoolState.{PoolView, taken_from, taken, may_retire, retired_of, retired}
-use Rattle.written_machine.specs.declared.event.Outcome.TheVariants as outcome
+use Rattle.pool_machine.specs.declared.event.Outcome.TheVariants as outcome
 use Rattle.interleaving.specs.declared.job_view.Phase.TheVariants as phase
-use Rattle.written_machine.specs.State.{Stage, State, PoolPart, no_pool_part, job_at, pool_part, pool_view, pool_seen, is_at, is_unfinished, busy}
-use Rattle.written_machine.specs.State.Stage.{Queued, At}
-use Rattle.written_machine.specs.Step.{with_stage, with_pool, take_head, retire_worker}
-use Rattle.written_machine.proofs.Stages.{get_or-staged_same}
-use Rattle.written_machine.proofs.Busy.{one_if, busy-staged_here, busy-staged_elsewhere}
-use Rattle.written_machine.proofs.StateInvariant.{StateInvariant}
-use Rattle.written_machine.proofs.Queues.{IsHead, head_of_queue}
+use Rattle.pool_machine.specs.State.{Stage, State, PoolPart, no_pool_part, job_at, pool_part, pool_view, pool_seen, is_at, is_unfinished, busy}
+use Rattle.pool_machine.specs.State.Stage.{Queued, At}
+use Rattle.pool_machine.specs.Step.{with_stage, with_pool, take_head, retire_worker}
+use Rattle.pool_machine.proofs.Stages.{get_or-staged_same}
+use Rattle.pool_machine.proofs.Busy.{one_if, busy-staged_here, busy-staged_elsewhere}
+use Rattle.pool_machine.proofs.StateInvariant.{StateInvariant}
+use Rattle.pool_machine.proofs.Queues.{IsHead, head_of_queue}
 use Rattle.interleaving.specs.LiveView.{job_seen, live_view}
 use Rattle.interleaving.specs.ViewStep.{live_job, in_phase, with_phase, no_pool_view, pool_in, with_pool_in, take_head_in, retire_worker_in}
 use Rattle.interleaving.specs.Laws.{seen_after}

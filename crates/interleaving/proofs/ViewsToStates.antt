@@ -2,12 +2,12 @@
 use Rattle.std.proofs.Common.{◌≡◌, ℕ, Bool, List, [], count_by, Option, Some, None, Result, Ok, Err, IfOk, OnErr, IsTrue, ◌↔◌, refl, sym, ap, subst, ◌∙◌}
 use Rattle.job_bodies.specs.Plan.{Plan}
 use Rattle.job_bodies.specs.WellFormed.{IsWellFormed}
-use Rattle.written_machine.specs.declared.event.Event.{Event}
-use Rattle.written_machine.specs.declared.event.Outcome.{Outcome}
-use Rattle.written_machine.specs.State.{State, is_unfinished}
-use Rattle.written_machine.specs.Reach.{start, IsReached}
-use Rattle.written_machine.specs.Waiting.{IsWaitingSet, is_waiting_set}
-use Rattle.written_machine.proofs.WaitingSets.{waiting_set_test}
+use Rattle.pool_machine.specs.declared.event.Event.{Event}
+use Rattle.pool_machine.specs.declared.event.Outcome.{Outcome}
+use Rattle.pool_machine.specs.State.{State, is_unfinished}
+use Rattle.pool_machine.specs.Reach.{start, IsReached}
+use Rattle.pool_machine.specs.Waiting.{IsWaitingSet, is_waiting_set}
+use Rattle.pool_machine.proofs.WaitingSets.{waiting_set_test}
 use Rattle.interleaving.specs.LiveView.{View, live_view}
 use Rattle.interleaving.specs.ViewStep.{is_unfinished_job}
 use Rattle.interleaving.specs.Waiting.{is_waiting_set_in}

@@ -10,17 +10,17 @@ use Rattle.job_bodies.specs.declared.action.Action.TheVariants.{Work, Submit, Ge
 use Rattle.job_bodies.specs.Plan.{Plan, no_pool, pool_at, class_at}
 use Rattle.job_bodies.proofs.Bodies.{HasValidBodies}
 use Rattle.pool_machine.specs.PoolState.{PoolView, new_pool}
-use Rattle.written_machine.specs.declared.parent.Parent.TheVariants as parent
+use Rattle.pool_machine.specs.declared.parent.Parent.TheVariants as parent
 use Rattle.interleaving.specs.declared.job_view.Phase.TheVariants as phase
-use Rattle.written_machine.specs.State.{Stage, CreatedJob, State, PoolPart, no_job, job_at, pool_of, part_of, pool_view, pool_seen, is_unfinished, is_busy_in, child}
-use Rattle.written_machine.specs.State.Stage.{Queued, At, Done, Claimed}
-use Rattle.written_machine.specs.Step.{point, point_of_job}
-use Rattle.written_machine.specs.Reach.{start}
-use Rattle.written_machine.specs.Waiting.{is_member, is_some_member, is_none, waits_at, waits_at_stage, waits, is_waiting_set}
-use Rattle.written_machine.proofs.StateInvariant.{StateInvariant}
-use Rattle.written_machine.proofs.InvariantAtStart.{pool_part_at_start}
-use Rattle.written_machine.proofs.Positions.{job_made}
-use Rattle.written_machine.proofs.Queues.{Queued≢Claimed, pool_of_made}
+use Rattle.pool_machine.specs.State.{Stage, CreatedJob, State, PoolPart, no_job, job_at, pool_of, part_of, pool_view, pool_seen, is_unfinished, is_busy_in, child}
+use Rattle.pool_machine.specs.State.Stage.{Queued, At, Done, Claimed}
+use Rattle.pool_machine.specs.Step.{point, point_of_job}
+use Rattle.pool_machine.specs.Reach.{start}
+use Rattle.pool_machine.specs.Waiting.{is_member, is_some_member, is_none, waits_at, waits_at_stage, waits, is_waiting_set}
+use Rattle.pool_machine.proofs.StateInvariant.{StateInvariant}
+use Rattle.pool_machine.proofs.InvariantAtStart.{pool_part_at_start}
+use Rattle.pool_machine.proofs.Positions.{job_made}
+use Rattle.pool_machine.proofs.Queues.{Queued≢Claimed, pool_of_made}
 use Rattle.interleaving.specs.LiveView.{may_get, is_number, phase_seen, job_with, job_seen, View, live_view}
 use Rattle.interleaving.specs.ViewStep.{is_unfinished_job, no_pool_view}
 use Rattle.interleaving.specs.Waiting.{is_busy_job, waits_at_in, waits_job, waits_in, is_waiting_set_in}

@@ -6,8 +6,8 @@ use Rattle.support.specs.In.{In}
 use Rattle.support.proofs.Members.{list_all_at_In, list_all_from_In, list_any_at_In, In-from_list_any}
 use Rattle.job_bodies.specs.Plan.{Plan}
 use Rattle.job_bodies.specs.WellFormed.{IsWellFormed}
-use Rattle.written_machine.specs.State.{pool_of}
-use Rattle.written_machine.specs.Waiting.{is_none}
+use Rattle.pool_machine.specs.State.{pool_of}
+use Rattle.pool_machine.specs.Waiting.{is_none}
 use Rattle.interleaving.specs.declared.job_view.Phase.{Phase}
 use Rattle.interleaving.specs.declared.job_view.Phase.TheVariants as phase
 use Rattle.interleaving.specs.declared.job_view.JobView.{JobView}

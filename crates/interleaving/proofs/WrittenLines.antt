@@ -8,8 +8,8 @@ use Rattle.std.proofs.lemmas.Option.{none-some, cond_some, option_and_then_some}
 use Rattle.std.proofs.lemmas.Slice.Eq.{bytes_eq-Decides}
 use Rattle.job_bodies.specs.Plan.{Pool, Plan, no_pool, pool_at, pool_names}
 use Rattle.job_bodies.specs.WellFormed.{are_distinct}
-use Rattle.written_machine.specs.declared.event.Event.{Event}
-use Rattle.written_machine.specs.declared.event.Event.TheVariants.{Client, Job, Take, Retire}
+use Rattle.pool_machine.specs.declared.event.Event.{Event}
+use Rattle.pool_machine.specs.declared.event.Event.TheVariants.{Client, Job, Take, Retire}
 use Rattle.support.specs.Pieces.{is_space, split_space, words_of}
 use Rattle.support.specs.LineNumber.{number_of, is_valid_number}
 use Rattle.interleaving.specs.EventLine.{Line, Perform, Stuck, pool_named, event_of, stuck_of, line_of_verb, line_of}

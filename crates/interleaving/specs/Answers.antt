@@ -1,8 +1,8 @@
 -- The results of events in a world, in terms of live views.
 use Rattle.std.specs.Prelude.{◌≡◌, Option, Some, None}
 use Rattle.job_bodies.specs.Plan.{Plan}
-use Rattle.written_machine.specs.declared.event.Event.{Event}
-use Rattle.written_machine.specs.declared.event.Outcome.{Outcome}
+use Rattle.pool_machine.specs.declared.event.Event.{Event}
+use Rattle.pool_machine.specs.declared.event.Outcome.{Outcome}
 use Rattle.interleaving.specs.LiveView.{View}
 use Rattle.interleaving.specs.ViewStep.{view_step}
 

@@ -3,8 +3,8 @@ use Rattle.std.specs.Prelude.{ℕ, ◌+◌, if◌then◌else◌, List, map, posi
 use Rattle.std.specs.Str.{bytes_eq}
 use Rattle.support.specs.Reading.{ok_or, read_each}
 use Rattle.job_bodies.specs.Plan.{Plan}
-use Rattle.written_machine.specs.declared.event.Event.{Event}
-use Rattle.written_machine.specs.declared.event.Event.TheVariants as event
+use Rattle.pool_machine.specs.declared.event.Event.{Event}
+use Rattle.pool_machine.specs.declared.event.Event.TheVariants as event
 use Rattle.interleaving.specs.declared.event_line.EventLine.{EventLine}
 use Rattle.interleaving.specs.declared.event_line.EventLine.TheVariants as code
 use Rattle.interleaving.specs.declared.lines.BadEventLine.{BadEventLine}

@@ -1,8 +1,8 @@
 -- The abstract view of the map from submit calls to the latest jobs that they created.
 use Rattle.std.specs.Prelude.{ℕ, ◌==◌, ◌&&◌, Bool, Option}
-use Rattle.written_machine.specs.declared.parent.Parent.{Parent}
-use Rattle.written_machine.specs.declared.parent.Parent.TheVariants as parent
-use Rattle.written_machine.specs.State.{same_parent}
+use Rattle.pool_machine.specs.declared.parent.Parent.{Parent}
+use Rattle.pool_machine.specs.declared.parent.Parent.TheVariants as parent
+use Rattle.pool_machine.specs.State.{same_parent}
 use Rattle.interleaving.specs.SubmitMap.{SubmitMapView, number_at}
 
 -- the latest jobs: a map for the submit calls of clients, and one for those of jobs

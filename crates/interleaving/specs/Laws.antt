@@ -5,12 +5,12 @@ use Rattle.std.specs.Option.{option_map}
 use Rattle.job_bodies.specs.Plan.{Plan}
 use Rattle.job_bodies.specs.WellFormed.{IsWellFormed}
 use Rattle.pool_machine.specs.PoolState.{new_pool}
-use Rattle.written_machine.specs.declared.event.Event.{Event}
-use Rattle.written_machine.specs.declared.event.Outcome.{Outcome}
-use Rattle.written_machine.specs.State.{State, is_unfinished}
-use Rattle.written_machine.specs.Step.{step}
-use Rattle.written_machine.specs.Reach.{start, new_clients, IsReached}
-use Rattle.written_machine.specs.Waiting.{is_waiting_set}
+use Rattle.pool_machine.specs.declared.event.Event.{Event}
+use Rattle.pool_machine.specs.declared.event.Outcome.{Outcome}
+use Rattle.pool_machine.specs.State.{State, is_unfinished}
+use Rattle.pool_machine.specs.Step.{step}
+use Rattle.pool_machine.specs.Reach.{start, new_clients, IsReached}
+use Rattle.pool_machine.specs.Waiting.{is_waiting_set}
 use Rattle.interleaving.specs.LiveView.{View, live_view}
 use Rattle.interleaving.specs.ViewStep.{live_job, is_unfinished_job, view_step}
 use Rattle.interleaving.specs.Waiting.{is_waiting_set_in}

@@ -3,8 +3,8 @@ use Rattle.std.specs.Prelude.{ℕ, Bool, ◌&&◌, nat_lt, nat_le, List, [], ◌
 use Rattle.std.specs.List.{list_all}
 use Rattle.support.specs.LineNumber.{is_valid_number}
 use Rattle.job_bodies.specs.Plan.{Plan, pool_at}
-use Rattle.written_machine.specs.declared.event.Event.{Event}
-use Rattle.written_machine.specs.declared.event.Event.TheVariants.{Client, Job, Take, Retire}
+use Rattle.pool_machine.specs.declared.event.Event.{Event}
+use Rattle.pool_machine.specs.declared.event.Event.TheVariants.{Client, Job, Take, Retire}
 use Rattle.interleaving.specs.EventLine.{Line, Perform, Stuck}
 
 -- the text of the line for this event, without a newline

@@ -1,8 +1,8 @@
 -- The abstract view of a world's live jobs, and of the index from submits to the latest jobs that the submits created.
 use Rattle.std.specs.Prelude.{◌≡◌, ◌≢◌, ℕ, ◌+◌, ◌<◌, ◌≤◌, ◌⊎◌, ◌==◌, Bool, true, false, List, length, slice_set, map, count_by, is_some, Option, Some, None, if◌then◌else◌}
 use Rattle.std.specs.Option.{option_map}
-use Rattle.written_machine.specs.declared.parent.Parent.{Parent}
-use Rattle.written_machine.specs.declared.parent.Parent.TheVariants as parent
+use Rattle.pool_machine.specs.declared.parent.Parent.{Parent}
+use Rattle.pool_machine.specs.declared.parent.Parent.TheVariants as parent
 use Rattle.interleaving.specs.declared.job_view.JobView.{JobView}
 use Rattle.interleaving.specs.ViewStep.{live_job, is_live_child, live_child, is_done, is_unfinished_job, may_get_in, drop_if_stale, drop_if_orphan}
 use Rattle.interleaving.specs.declared.job_table.JobEntry.{JobEntry}

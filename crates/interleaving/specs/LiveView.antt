@@ -4,14 +4,14 @@ use Rattle.std.specs.Prelude.{ℕ, ◌==◌, ◌&&◌, Bool, true, false, List, 
 use Rattle.std.specs.List.{enumerate_from}
 use Rattle.job_bodies.specs.Plan.{Plan}
 use Rattle.pool_machine.specs.PoolState.{PoolView}
-use Rattle.written_machine.specs.declared.client_state.ClientState.{ClientState}
-use Rattle.written_machine.specs.declared.parent.Parent.{Parent}
-use Rattle.written_machine.specs.declared.parent.Parent.TheVariants as parent
+use Rattle.pool_machine.specs.declared.client_state.ClientState.{ClientState}
+use Rattle.pool_machine.specs.declared.parent.Parent.{Parent}
+use Rattle.pool_machine.specs.declared.parent.Parent.TheVariants as parent
 use Rattle.interleaving.specs.declared.job_view.Phase.{Phase}
 use Rattle.interleaving.specs.declared.job_view.Phase.TheVariants as phase
 use Rattle.interleaving.specs.declared.job_view.JobView.{JobView}
-use Rattle.written_machine.specs.State.{Stage, CreatedJob, State, job_at, pool_seen, is_unfinished, child}
-use Rattle.written_machine.specs.State.Stage.{Queued, At, Done, Claimed}
+use Rattle.pool_machine.specs.State.{Stage, CreatedJob, State, job_at, pool_seen, is_unfinished, child}
+use Rattle.pool_machine.specs.State.Stage.{Queued, At, Done, Claimed}
 
 -- the actor may still get jobs that it created: it is a client, or an unfinished job
 abbrev pub may_get : State → Parent → Bool

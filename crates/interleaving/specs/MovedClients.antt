@@ -1,7 +1,7 @@
 -- The abstract view of the clients that moved.
 use Rattle.std.specs.Prelude.{ℕ, List, Option, Some, None, slice_get, nat_eq}
 use Rattle.std.specs.Map.{lookup}
-use Rattle.written_machine.specs.declared.client_state.ClientState.{ClientState}
+use Rattle.pool_machine.specs.declared.client_state.ClientState.{ClientState}
 
 -- the clients that moved. `front` has the states of the clients with the lowest numbers, and `others` those of all other
 -- clients that moved. `room` is the number of further clients for which memory is reserved.

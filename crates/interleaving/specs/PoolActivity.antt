@@ -3,7 +3,7 @@ use Rattle.std.specs.Prelude.{ℕ, ◌+◌, ◌==◌, ◌&&◌, ◌||◌, not, B
 use Rattle.support.specs.Places.{places_where}
 use Rattle.job_bodies.specs.Plan.{Plan}
 use Rattle.pool_machine.specs.PoolState.{PoolView}
-use Rattle.written_machine.specs.Waiting.{is_member}
+use Rattle.pool_machine.specs.Waiting.{is_member}
 use Rattle.interleaving.specs.declared.job_view.Phase.{Phase}
 use Rattle.interleaving.specs.declared.job_view.Phase.TheVariants as phase
 use Rattle.interleaving.specs.declared.job_view.JobView.{JobView}

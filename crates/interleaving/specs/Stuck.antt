@@ -2,8 +2,8 @@
 use Rattle.std.specs.Prelude.{◌≡◌, ℕ, ◌<◌, ◌==◌, ◌&&◌, Bool, true, false, List, length, Option, Some, None, slice_get}
 use Rattle.std.specs.List.{list_all, list_any}
 use Rattle.job_bodies.specs.Plan.{Plan, class_at}
-use Rattle.written_machine.specs.declared.parent.Parent.TheVariants as parent
-use Rattle.written_machine.specs.State.{pool_of}
+use Rattle.pool_machine.specs.declared.parent.Parent.TheVariants as parent
+use Rattle.pool_machine.specs.State.{pool_of}
 use Rattle.interleaving.specs.declared.job_view.Phase.{Phase}
 use Rattle.interleaving.specs.declared.job_view.Phase.TheVariants as phase
 use Rattle.interleaving.specs.declared.job_view.JobView.{JobView}

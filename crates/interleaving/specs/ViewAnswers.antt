@@ -1,10 +1,10 @@
 -- The result of an event in a world that stores a live view.
 use Rattle.std.specs.Prelude.{◌≡◌, Option, Some, None}
 use Rattle.job_bodies.specs.Plan.{Plan}
-use Rattle.written_machine.specs.declared.event.Event.{Event}
-use Rattle.written_machine.specs.declared.event.Outcome.{Outcome}
-use Rattle.written_machine.specs.State.{State}
-use Rattle.written_machine.specs.Step.{step}
+use Rattle.pool_machine.specs.declared.event.Event.{Event}
+use Rattle.pool_machine.specs.declared.event.Outcome.{Outcome}
+use Rattle.pool_machine.specs.State.{State}
+use Rattle.pool_machine.specs.Step.{step}
 use Rattle.interleaving.specs.LiveView.{View, live_view}
 
 -- The answer and the new view match the event in the state. If the event is not possible, the answer is None, and the new view

@@ -9,18 +9,18 @@ use Rattle.job_bodies.specs.Plan.{Plan, pool_at, class_at, client_at}
 use Rattle.pool_machine.specs.declared.offer.Offer.{Offer}
 use Rattle.pool_machine.specs.declared.offer.Offer.TheVariants as offer
 use Rattle.pool_machine.specs.PoolState.{PoolView, answer, apply_answer, taken, finished, retired}
-use Rattle.written_machine.specs.declared.client_state.ClientState.{ClientState}
-use Rattle.written_machine.specs.declared.parent.Parent.{Parent}
-use Rattle.written_machine.specs.declared.parent.Parent.TheVariants as parent
+use Rattle.pool_machine.specs.declared.client_state.ClientState.{ClientState}
+use Rattle.pool_machine.specs.declared.parent.Parent.{Parent}
+use Rattle.pool_machine.specs.declared.parent.Parent.TheVariants as parent
 use Rattle.interleaving.specs.declared.job_view.Phase.{Phase}
 use Rattle.interleaving.specs.declared.job_view.Phase.TheVariants as phase
 use Rattle.interleaving.specs.declared.job_view.JobView.{JobView}
-use Rattle.written_machine.specs.declared.event.Event.{Event}
-use Rattle.written_machine.specs.declared.event.Event.TheVariants.{Client, Job, Take, Retire}
-use Rattle.written_machine.specs.declared.event.Outcome.{Outcome}
-use Rattle.written_machine.specs.declared.event.Outcome.TheVariants.{Started, Queued, Refused, Rejected, Worked, Got, Looped, Finished, Took, Retired}
-use Rattle.written_machine.specs.State.{same_parent, pool_of}
-use Rattle.written_machine.specs.Step.{Point, point_of_client}
+use Rattle.pool_machine.specs.declared.event.Event.{Event}
+use Rattle.pool_machine.specs.declared.event.Event.TheVariants.{Client, Job, Take, Retire}
+use Rattle.pool_machine.specs.declared.event.Outcome.{Outcome}
+use Rattle.pool_machine.specs.declared.event.Outcome.TheVariants.{Started, Queued, Refused, Rejected, Worked, Got, Looped, Finished, Took, Retired}
+use Rattle.pool_machine.specs.State.{same_parent, pool_of}
+use Rattle.pool_machine.specs.Step.{Point, point_of_client}
 use Rattle.interleaving.specs.LiveView.{View, is_number}
 
 -- ---- the jobs of a view

@@ -5,7 +5,7 @@ ghost use Rattle.std.specs.List.{flat_map, enumerate_from};
 ghost use Rattle.std.specs.Option.{option_map};
 ghost use Rattle.std.specs.HashMap.{get, spare};
 ghost use Rattle.job_bodies.specs.declared.limits.TheConstants.{MAX_SIZE, MAX_CLIENT_KINDS};
-ghost use Rattle.written_machine.specs.Reach.{new_clients};
+ghost use Rattle.pool_machine.specs.Reach.{new_clients};
 ghost use Rattle.interleaving.specs.MovedClients.{at_position};
 ghost use Rattle.interleaving.specs.Clients.{client_of, IsClientAt, CanMove, IsFirst, ends_from, IsRising, starting};
 
@@ -13,7 +13,7 @@ use crate::moved_clients::MovedClients;
 use job_bodies::Client;
 use std::alloc::{AllocError, Global};
 use std::marker::Model;
-use written_machine::{ClientState, Parent};
+use pool_machine::{ClientState, Parent};
 
 /// The states of all clients of a world.
 ///

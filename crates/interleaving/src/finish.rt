@@ -1,15 +1,15 @@
 //! The step at the end of a body: a job finishes, or a client starts its body again.
 
 ghost use Rattle.std.specs.Prelude.{◌≡◌, ◌≢◌, ◌<◌, true, false, length, slice_get, Some};
-ghost use Rattle.written_machine.specs.State.{pool_of};
-ghost use Rattle.written_machine.specs.declared.parent.Parent.TheVariants.{Job};
+ghost use Rattle.pool_machine.specs.State.{pool_of};
+ghost use Rattle.pool_machine.specs.declared.parent.Parent.TheVariants.{Job};
 ghost use Rattle.interleaving.specs.LiveJobs.{DoneAreLatest};
 ghost use Rattle.interleaving.specs.ViewStep.{live_job, is_done, may_get_in, pool_in, looped_in, finished_job_in, step_at_end_in};
 
 use crate::plans::pool_of;
 use crate::{JobView, World};
 use job_bodies::Plan;
-use written_machine::{Outcome, Parent};
+use pool_machine::{Outcome, Parent};
 
 impl World {
     ghost use Rattle.interleaving.specs.Answers.{MatchesResult};

@@ -7,7 +7,7 @@ ghost use Rattle.interleaving.specs.ViewStep.{got_child_in, live_child, may_get_
 
 use crate::World;
 use crate::moves::move_actor;
-use written_machine::{Outcome, Parent};
+use pool_machine::{Outcome, Parent};
 
 impl World {
     ghost use Rattle.interleaving.specs.Answers.{MatchesResult};

@@ -4,7 +4,7 @@
 ghost use Rattle.std.specs.Prelude.{◌≡◌, Some};
 ghost use Rattle.interleaving.specs.ViewStep.{is_done, is_live_child, drop_if_stale, drop_if_orphan};
 
-use written_machine::Parent;
+use pool_machine::Parent;
 
 /// The phase of a live job.
 #[derive(Clone, Copy)]

@@ -2,13 +2,13 @@
 //! position of a submit in the actor's body.
 
 ghost use Rattle.std.specs.Prelude.{◌≡◌, ◌≤◌, ◌<◌, None, Some, OnOk, if◌then◌else◌, ℕ};
-ghost use Rattle.written_machine.specs.declared.parent.Parent.{Parent};
+ghost use Rattle.pool_machine.specs.declared.parent.Parent.{Parent};
 ghost use Rattle.interleaving.specs.LatestJobs.{found, is_call, latest_room};
 
 use crate::submit_map::SubmitMap;
 use std::alloc::{AllocError, Global};
 use std::marker::Model;
-use written_machine::Parent;
+use pool_machine::Parent;
 
 /// A map from submit calls to job numbers. A submit call consists of an actor and the position of a
 /// submit in the actor's body. For each submit call, the map has the number of the latest job that

@@ -46,4 +46,4 @@ pub use live_jobs::LiveJobs;
 pub use named_jobs::NamedJobs;
 pub use reply::{Reply, push_reply, push_summary};
 pub use world::World;
-pub use written_machine::{ClientState, Event, Outcome, Parent};
+pub use pool_machine::{ClientState, Event, Outcome, Parent};

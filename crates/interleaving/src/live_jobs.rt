@@ -2,7 +2,7 @@
 //! and while it is done and its parent may still get it.
 
 ghost use Rattle.std.specs.Prelude.{◌≡◌, ◌≢◌, ℕ, ◌+◌, ◌<◌, ◌≤◌, ◌^◌, [], ◌∷◌, ◌++◌, length, map, count_by, is_some, slice_set, IsSome, IfSome, true, false, None, Some, OnOk};
-ghost use Rattle.written_machine.specs.declared.parent.Parent.TheVariants.{Job};
+ghost use Rattle.pool_machine.specs.declared.parent.Parent.TheVariants.{Job};
 ghost use Rattle.interleaving.specs.declared.job_view.Phase.TheVariants.{At};
 ghost use Rattle.interleaving.specs.ViewStep.{live_job, live_child, is_done, is_unfinished_job, may_get_in, with_phase, in_phase, drop_if_stale, drop_if_orphan, finished_if_gettable};
 ghost use Rattle.interleaving.specs.LiveJobs.{room_for, WasMade, DoneAreLatest, NoOtherIsStale, IsOnlyLiveJob, places_made, jobs_in, AreSubmitBounds, SubmitBoundsStay, HasSubmitBound, OrphansAreFound, AreOrphaned, AreFound, IsGone, RemovesOrphan, is_done_job};
@@ -12,7 +12,7 @@ use crate::latest_jobs::LatestJobs;
 use crate::{JobView, Phase};
 use std::alloc::{AllocError, Global};
 use std::marker::Model;
-use written_machine::Parent;
+use pool_machine::Parent;
 
 /// The live jobs of a world, and an index of them. For each submit of a client or of an unfinished
 /// job, the index has the latest live job that this submit created. It need not have such entries

@@ -1,7 +1,7 @@
 //! Sets of job numbers.
 
 ghost use Rattle.std.specs.Prelude.{◌≡◌, ◌<◌, ◌-◌, length, not, take, slice_index};
-ghost use Rattle.written_machine.specs.Waiting.{is_member};
+ghost use Rattle.pool_machine.specs.Waiting.{is_member};
 
 use std::marker::Model;
 

@@ -9,7 +9,7 @@ ghost use Rattle.interleaving.specs.MovedClients.{at_position, moved_at};
 use std::alloc::{AllocError, Global};
 use std::collections::HashMap;
 use std::marker::Model;
-use written_machine::ClientState;
+use pool_machine::ClientState;
 
 /// A map from client numbers to the states of the clients that have moved.
 ///

@@ -6,7 +6,7 @@ ghost use Rattle.interleaving.specs.Clients.{CanMove};
 ghost use Rattle.interleaving.specs.ViewStep.{may_get_in, moved_live_jobs, moved_live_clients};
 
 use crate::{Clients, LiveJobs};
-use written_machine::Parent;
+use pool_machine::Parent;
 
 /// Moves the actor to this position of its body. The actor must be a client or an unfinished job.
 /// For the first move of a client, [`Clients::reserve_for`] must have reserved memory.

@@ -3,7 +3,7 @@
 ghost use Rattle.std.specs.Prelude.{◌≡◌, ◌+◌, ◌<◌, ◌^◌, length, true, IsSome, IfSome, OnSome};
 ghost use Rattle.job_bodies.specs.WellFormed.{IsWellFormed};
 ghost use Rattle.std.specs.Option.{option_map};
-ghost use Rattle.written_machine.specs.declared.parent.Parent.TheVariants as parent;
+ghost use Rattle.pool_machine.specs.declared.parent.Parent.TheVariants as parent;
 ghost use Rattle.interleaving.specs.ViewStep.{point_in, may_get_in};
 ghost use Rattle.interleaving.specs.Clients.{IsClientAt};
 ghost use Rattle.interleaving.specs.NextAction.{IsAmong, next_action_in};
@@ -11,7 +11,7 @@ ghost use Rattle.interleaving.specs.NextAction.{IsAmong, next_action_in};
 use crate::plans::{body_of_class, body_of_kind};
 use crate::{Phase, World};
 use job_bodies::{Action, Plan, has_get_of};
-use written_machine::Parent;
+use pool_machine::Parent;
 
 /// The position of an actor in its body, and the action at this position. At the end of the body
 /// there is no action.

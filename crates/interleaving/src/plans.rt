@@ -2,7 +2,7 @@
 
 ghost use Rattle.std.specs.Prelude.{◌≡◌, slice_index_or};
 ghost use Rattle.job_bodies.specs.Plan.{no_class, no_client, pool_at};
-ghost use Rattle.written_machine.specs.State.{pool_of};
+ghost use Rattle.pool_machine.specs.State.{pool_of};
 
 use job_bodies::{Action, Class, Client, Plan};
 

@@ -7,9 +7,8 @@ ghost use Rattle.interleaving.specs.ViewStep.{pool_in, take_head_in, retire_work
 
 use crate::World;
 use job_bodies::{Plan, Pool};
-use pool_machine::PoolState;
+use pool_machine::{Outcome, PoolState};
 use std::alloc::{AllocError, Global};
-use written_machine::Outcome;
 
 /// Creates the pools in their initial state. Each pool has an empty queue. A prestarted pool has
 /// `core` idle workers, and any other pool has no threads.

@@ -7,7 +7,7 @@ ghost use Rattle.interleaving.specs.Reply.{numbered, outcome_text, reply_text, s
 use job_bodies::Plan;
 use std::alloc::AllocError;
 use support::{Counter, push_number};
-use written_machine::Outcome;
+use pool_machine::Outcome;
 
 /// The reply to an event line.
 #[derive(Clone, Copy, PartialEq, Eq)]

@@ -2,8 +2,8 @@
 
 ghost use Rattle.std.specs.Prelude.{◌≡◌, ◌+◌, ◌<◌, ◌^◌, true, IfOk, OnOk, OnErr};
 ghost use Rattle.job_bodies.specs.WellFormed.{IsWellFormed};
-ghost use Rattle.written_machine.specs.State.{State};
-ghost use Rattle.written_machine.specs.Reach.{IsReached};
+ghost use Rattle.pool_machine.specs.State.{State};
+ghost use Rattle.pool_machine.specs.Reach.{IsReached};
 ghost use Rattle.interleaving.specs.LiveView.{live_view};
 ghost use Rattle.interleaving.specs.ViewStep.{step_actor, point_in, may_get_in, move_actor};
 ghost use Rattle.interleaving.specs.ViewAnswers.{AnswersAs};
@@ -12,7 +12,7 @@ use crate::World;
 use crate::moves::move_actor;
 use job_bodies::{Action, Plan};
 use std::alloc::AllocError;
-use written_machine::{Event, Outcome, Parent};
+use pool_machine::{Event, Outcome, Parent};
 
 impl World {
     ghost use Rattle.interleaving.specs.Answers.{MatchesResult, AnswersIn};

@@ -2,10 +2,10 @@
 
 ghost use Rattle.std.specs.Prelude.{◌≡◌, ◌<◌, ◌↔◌, true, false, length, IsTrue, slice_get};
 ghost use Rattle.job_bodies.specs.WellFormed.{IsWellFormed};
-ghost use Rattle.written_machine.specs.declared.parent.Parent.TheVariants as parent;
-ghost use Rattle.written_machine.specs.State.{State};
-ghost use Rattle.written_machine.specs.Reach.{IsReached};
-ghost use Rattle.written_machine.specs.Waiting.{is_none, is_some_member, IsWaitingSet, is_waiting_set};
+ghost use Rattle.pool_machine.specs.declared.parent.Parent.TheVariants as parent;
+ghost use Rattle.pool_machine.specs.State.{State};
+ghost use Rattle.pool_machine.specs.Reach.{IsReached};
+ghost use Rattle.pool_machine.specs.Waiting.{is_none, is_some_member, IsWaitingSet, is_waiting_set};
 ghost use Rattle.interleaving.specs.LiveView.{live_view};
 ghost use Rattle.interleaving.specs.ViewStep.{pool_in, live_job, live_child, may_get_in};
 ghost use Rattle.interleaving.specs.Waiting.{is_waiting_set_in, waits_at_in};
@@ -17,7 +17,7 @@ use crate::members::Members;
 use crate::plans::body_of_class;
 use crate::{Phase, World};
 use job_bodies::{Action, Plan};
-use written_machine::Parent;
+use pool_machine::Parent;
 
 impl World {
     ghost use Rattle.interleaving.specs.OfPlan.{IsReachableView};

@@ -1,7 +1,7 @@
 //! The submit action, in which an actor offers a job to a pool.
 
 ghost use Rattle.std.specs.Prelude.{◌≡◌, ◌+◌, ◌<◌, ◌^◌, length, true, None, IfOk, OnErr};
-ghost use Rattle.written_machine.specs.State.{pool_of};
+ghost use Rattle.pool_machine.specs.State.{pool_of};
 ghost use Rattle.interleaving.specs.ViewStep.{live_child, may_get_in, submitted_in};
 ghost use Rattle.interleaving.specs.Clients.{IsClientAt};
 ghost use Rattle.interleaving.specs.LiveJobs.{DoneAreLatest};
@@ -12,9 +12,8 @@ use crate::next_action::NextAction;
 use crate::plans::{may_reject, pool_of};
 use crate::{JobView, Phase, World};
 use job_bodies::Plan;
-use pool_machine::Offer;
+use pool_machine::{Offer, Outcome, Parent};
 use std::alloc::AllocError;
-use written_machine::{Outcome, Parent};
 
 impl World {
     ghost use Rattle.interleaving.specs.World.{ReusesPlaces};

@@ -5,8 +5,8 @@ ghost use Rattle.std.specs.Option.{option_map};
 ghost use Rattle.interleaving.specs.LiveView.{live_view};
 ghost use Rattle.interleaving.specs.ViewStep.{live_job, is_unfinished_job};
 ghost use Rattle.job_bodies.specs.Plan as spec;
-ghost use Rattle.written_machine.specs.State.{State, is_unfinished};
-ghost use Rattle.written_machine.specs.Reach.{start};
+ghost use Rattle.pool_machine.specs.State.{State, is_unfinished};
+ghost use Rattle.pool_machine.specs.Reach.{start};
 
 use crate::pools::new_pools;
 use crate::{Clients, JobView, LiveJobs};

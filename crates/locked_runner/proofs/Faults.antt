@@ -3,7 +3,7 @@ use Rattle.std.proofs.Common.{◌≡◌, ◌≢◌, ℕ, Bool, List, Option, Som
 use Rattle.std.proofs.lemmas.Bool.{cases_eq}
 use Rattle.support.specs.declared.number.TheConstants.{MEMORY, RUN_TOO_LARGE}
 use Rattle.job_bodies.specs.Plan.{Plan}
-use Rattle.written_machine.specs.declared.event.Event.{Event}
+use Rattle.pool_machine.specs.declared.event.Event.{Event}
 use Rattle.held_machines.specs.declared.held.Receipt.{Receipt}
 use Rattle.locked_runner.specs.Run.{IsAnswerTo}
 use Rattle.locked_runner.specs.declared.report.ThreadFault.{ThreadFault}

@@ -7,13 +7,13 @@ use Rattle.std.specs.List.{enumerate_from}
 use Rattle.support.proofs.Elements.{slice_get-append_left, slice_get_push}
 use Rattle.job_bodies.specs.Plan.{Plan}
 use Rattle.job_bodies.specs.WellFormed.{IsWellFormed}
-use Rattle.written_machine.specs.declared.event.Event.{Event}
-use Rattle.written_machine.specs.declared.event.Event.TheVariants as event
-use Rattle.written_machine.specs.declared.parent.Parent.TheVariants as parent
-use Rattle.written_machine.specs.State.{CreatedJob, State, job_at, no_job, pool_of}
-use Rattle.written_machine.specs.Step.{step, step_at_point}
-use Rattle.written_machine.specs.Reach.{Reaches, IsReached}
-use Rattle.written_machine.proofs.Reached.{kept}
+use Rattle.pool_machine.specs.declared.event.Event.{Event}
+use Rattle.pool_machine.specs.declared.event.Event.TheVariants as event
+use Rattle.pool_machine.specs.declared.parent.Parent.TheVariants as parent
+use Rattle.pool_machine.specs.State.{CreatedJob, State, job_at, no_job, pool_of}
+use Rattle.pool_machine.specs.Step.{step, step_at_point}
+use Rattle.pool_machine.specs.Reach.{Reaches, IsReached}
+use Rattle.pool_machine.proofs.Reached.{kept}
 use Rattle.interleaving.specs.declared.job_view.Phase.{Phase}
 use Rattle.interleaving.specs.declared.job_view.JobView.{JobView}
 use Rattle.interleaving.specs.LiveView.{View, live_view, job_with, phase_seen}

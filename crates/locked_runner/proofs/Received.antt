@@ -2,7 +2,7 @@
 use Rattle.std.proofs.Common.{◌≡◌, ◌↔◌, ℕ, suc, Bool, false, IsTrue, List, [], ◌∷◌, length, slice_get, Option, Some, refl, sym, ap, ◌∙◌}
 use Rattle.std.proofs.lemmas.Option.{same_Some}
 use Rattle.job_bodies.specs.Plan.{Plan}
-use Rattle.written_machine.specs.declared.event.Event.{Event}
+use Rattle.pool_machine.specs.declared.event.Event.{Event}
 use Rattle.held_machines.specs.declared.held.Receipt.{Receipt}
 use Rattle.locked_runner.specs.declared.owner.Owner.{Owner}
 use Rattle.locked_runner.specs.Owner.{owner_by, ArePoolsOf}

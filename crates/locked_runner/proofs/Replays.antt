@@ -4,11 +4,11 @@ use Rattle.std.proofs.lemmas.Option.{none-some, same_Some}
 use Rattle.std.proofs.lemmas.List.{length-take-le, take_more}
 use Rattle.std.proofs.lemmas.List.Sums.{sum_by-append}
 use Rattle.job_bodies.specs.Plan.{Plan}
-use Rattle.written_machine.specs.declared.event.Event.{Event}
-use Rattle.written_machine.specs.declared.event.Outcome.{Outcome}
-use Rattle.written_machine.specs.State.{State}
-use Rattle.written_machine.specs.Step.{step}
-use Rattle.written_machine.specs.Reach.{start, state_after, replay, outcome_of, outcomes, Reaches, IsReached}
+use Rattle.pool_machine.specs.declared.event.Event.{Event}
+use Rattle.pool_machine.specs.declared.event.Outcome.{Outcome}
+use Rattle.pool_machine.specs.State.{State}
+use Rattle.pool_machine.specs.Step.{step}
+use Rattle.pool_machine.specs.Reach.{start, state_after, replay, outcome_of, outcomes, Reaches, IsReached}
 use Rattle.interleaving.specs.LiveView.{View, live_view}
 use Rattle.interleaving.specs.ViewAnswers.{AnswersAs}
 use Rattle.locked_runner.specs.HeldWorld.{IsReachedBy}

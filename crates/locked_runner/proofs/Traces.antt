@@ -2,12 +2,12 @@
 use Rattle.std.proofs.Common.{◌≡◌, ◌≢◌, List, [], ◌∷◌, ◌++◌, Option, Some, None, is_some, true, false, refl, sym, ap, subst, ◌∙◌}
 use Rattle.std.specs.Option.{option_map}
 use Rattle.job_bodies.specs.Plan.{Plan}
-use Rattle.written_machine.specs.declared.event.Event.{Event}
-use Rattle.written_machine.specs.declared.event.Outcome.{Outcome}
-use Rattle.written_machine.specs.State.{State}
-use Rattle.written_machine.specs.Step.{step}
-use Rattle.written_machine.specs.Reach as reach
-use Rattle.written_machine.specs.Reach.{state_after}
+use Rattle.pool_machine.specs.declared.event.Event.{Event}
+use Rattle.pool_machine.specs.declared.event.Outcome.{Outcome}
+use Rattle.pool_machine.specs.State.{State}
+use Rattle.pool_machine.specs.Step.{step}
+use Rattle.pool_machine.specs.Reach as reach
+use Rattle.pool_machine.specs.Reach.{state_after}
 use Rattle.std.proofs.lemmas.Option.{none-some, same_Some}
 use Rattle.interleaving.specs.LiveView.{View, live_view}
 use Rattle.interleaving.specs.ViewAnswers.{AnswersAs}

@@ -2,12 +2,12 @@
 use Rattle.std.proofs.Common.{◌≡◌, ℕ, ◌+◌, ◌++◌, List, [], ◌∷◌, IsTrue, refl, ap, ◌∙◌, subst, arith}
 use Rattle.job_bodies.specs.Plan.{Plan}
 use Rattle.job_bodies.specs.WellFormed.{IsWellFormed}
-use Rattle.written_machine.specs.declared.event.Event.{Event}
-use Rattle.written_machine.specs.declared.event.Outcome.TheVariants as outcome
-use Rattle.written_machine.specs.State.{State}
-use Rattle.written_machine.specs.Reach.{state_after, Reaches}
-use Rattle.written_machine.proofs.Events.{Happens, happens}
-use Rattle.written_machine.proofs.Events.Happens.{is_refused}
+use Rattle.pool_machine.specs.declared.event.Event.{Event}
+use Rattle.pool_machine.specs.declared.event.Outcome.TheVariants as outcome
+use Rattle.pool_machine.specs.State.{State}
+use Rattle.pool_machine.specs.Reach.{state_after, Reaches}
+use Rattle.pool_machine.proofs.Events.{Happens, happens}
+use Rattle.pool_machine.proofs.Events.Happens.{is_refused}
 use Rattle.interleaving.specs.LiveView.{View}
 use Rattle.cert_text.specs.Cert.{Cert}
 use Rattle.soundness.specs.Accepted.{accepted}

@@ -2,9 +2,9 @@
 use Rattle.std.specs.Prelude.{◌≡◌, ◌<◌, ◌+◌, ◌-◌, ◌*◌, ◌==◌, ℕ, Bool, false, List, length, count_by, slice_get, slice_index, Some, if◌then◌else◌}
 use Rattle.std.specs.Option.{option_map}
 use Rattle.job_bodies.specs.Plan.{Plan, Client, client_at}
-use Rattle.written_machine.specs.declared.event.Event.{Event}
-use Rattle.written_machine.specs.declared.event.Event.TheVariants as event
-use Rattle.written_machine.specs.State.{State, is_unfinished}
+use Rattle.pool_machine.specs.declared.event.Event.{Event}
+use Rattle.pool_machine.specs.declared.event.Event.TheVariants as event
+use Rattle.pool_machine.specs.State.{State, is_unfinished}
 use Rattle.locked_runner.specs.Owner.{kinds_of}
 
 -- the number of times a client of this kind performs its body

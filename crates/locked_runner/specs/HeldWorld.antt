@@ -1,11 +1,11 @@
 -- The world of a certified plan, with its history.
 use Rattle.std.specs.Prelude.{◌≡◌, ℕ, List, Some}
 use Rattle.job_bodies.specs.Plan.{Plan}
-use Rattle.written_machine.specs.declared.event.Event.{Event}
-use Rattle.written_machine.specs.declared.event.Outcome.TheVariants.{Refused}
-use Rattle.written_machine.specs.State.{State}
-use Rattle.written_machine.specs.Step.{step}
-use Rattle.written_machine.specs.Reach.{Reaches}
+use Rattle.pool_machine.specs.declared.event.Event.{Event}
+use Rattle.pool_machine.specs.declared.event.Outcome.TheVariants.{Refused}
+use Rattle.pool_machine.specs.State.{State}
+use Rattle.pool_machine.specs.Step.{step}
+use Rattle.pool_machine.specs.Reach.{Reaches}
 use Rattle.interleaving.specs.LiveView.{View, live_view}
 
 -- the history reaches a state with this live view

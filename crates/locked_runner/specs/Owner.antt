@@ -2,10 +2,10 @@
 use Rattle.std.specs.Prelude.{◌≡◌, ◌++◌, ℕ, List, map, replicate, length, take, slice_get, Option, Some, None}
 use Rattle.std.specs.List.{flat_map, enumerate_from}
 use Rattle.job_bodies.specs.Plan.{Plan, Client, Pool}
-use Rattle.written_machine.specs.declared.event.Event.{Event}
-use Rattle.written_machine.specs.declared.event.Event.TheVariants as event
-use Rattle.written_machine.specs.State.{State, job_at, pool_of}
-use Rattle.written_machine.specs.Reach.{Reaches}
+use Rattle.pool_machine.specs.declared.event.Event.{Event}
+use Rattle.pool_machine.specs.declared.event.Event.TheVariants as event
+use Rattle.pool_machine.specs.State.{State, job_at, pool_of}
+use Rattle.pool_machine.specs.Reach.{Reaches}
 use Rattle.locked_runner.specs.Carriers.{carriers}
 use Rattle.locked_runner.specs.declared.owner.Owner.{Owner}
 use Rattle.locked_runner.specs.declared.owner.Owner.TheVariants as owner

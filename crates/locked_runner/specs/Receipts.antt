@@ -1,9 +1,9 @@
 -- The check that the receipts of all threads are the events of a history. Each event has one receipt, in a list of its owner.
 use Rattle.std.specs.Prelude.{◌≡◌, ◌<◌, ◌≤◌, ◌+◌, ◌==◌, ℕ, List, [], ◌∷◌, length, take, sum_by, count_by, slice_get, Some}
 use Rattle.job_bodies.specs.Plan.{Plan}
-use Rattle.written_machine.specs.declared.event.Event.{Event}
-use Rattle.written_machine.specs.State.{State}
-use Rattle.written_machine.specs.Reach.{Reaches}
+use Rattle.pool_machine.specs.declared.event.Event.{Event}
+use Rattle.pool_machine.specs.State.{State}
+use Rattle.pool_machine.specs.Reach.{Reaches}
 use Rattle.held_machines.specs.declared.held.Receipt.{Receipt}
 use Rattle.locked_runner.specs.declared.owner.Owner.{Owner}
 use Rattle.locked_runner.specs.Owner.{owner_in, lists_of}

@@ -1,7 +1,7 @@
 -- Histories that were replayed in a world of the plan.
 use Rattle.std.specs.Prelude.{◌≡◌, ◌≤◌, ◌^◌, ◌++◌, ◌∷◌, [], ℕ, Bool, true, false, List, Option, Some, None}
 use Rattle.job_bodies.specs.Plan.{Plan}
-use Rattle.written_machine.specs.declared.event.Event.{Event}
+use Rattle.pool_machine.specs.declared.event.Event.{Event}
 use Rattle.interleaving.specs.LiveView.{View}
 use Rattle.locked_runner.specs.HeldWorld.{IsReachedBy}
 use Rattle.locked_runner.specs.Owner.{ArePoolsOf}

@@ -1,6 +1,6 @@
 -- The results of the threads of a run, and the report of a run. They have lists where the program has vectors.
 use Rattle.std.specs.Prelude.{ℕ, List, Option}
-use Rattle.written_machine.specs.declared.event.Event.{Event}
+use Rattle.pool_machine.specs.declared.event.Event.{Event}
 use Rattle.held_machines.specs.declared.held.Receipt.{Receipt}
 use Rattle.locked_runner.specs.declared.report.ThreadFault.{ThreadFault}
 

@@ -2,11 +2,11 @@
 use Rattle.std.specs.Prelude.{◌≡◌, ◌<◌, ◌≤◌, ◌+◌, ◌⊎◌, ℕ, List, length, take, sum_by, Option, Some, None}
 use Rattle.support.specs.declared.number.TheConstants.{MEMORY, STRANGE, MIXED, GATE}
 use Rattle.job_bodies.specs.Plan.{Plan}
-use Rattle.written_machine.specs.declared.event.Event.{Event}
-use Rattle.written_machine.specs.State.{State}
-use Rattle.written_machine.specs.declared.event.Outcome.{Outcome}
-use Rattle.written_machine.specs.declared.event.Outcome.TheVariants.{Worked}
-use Rattle.written_machine.specs.Reach.{Reaches, start, outcomes}
+use Rattle.pool_machine.specs.declared.event.Event.{Event}
+use Rattle.pool_machine.specs.State.{State}
+use Rattle.pool_machine.specs.declared.event.Outcome.{Outcome}
+use Rattle.pool_machine.specs.declared.event.Outcome.TheVariants.{Worked}
+use Rattle.pool_machine.specs.Reach.{Reaches, start, outcomes}
 use Rattle.held_machines.specs.declared.held.Receipt.{Receipt}
 use Rattle.locked_runner.specs.declared.report.ThreadFault.{ThreadFault}
 use Rattle.locked_runner.specs.declared.report.ThreadFault.TheVariants as cause

@@ -30,7 +30,7 @@ enum Kind {
 
 impl Model for CompactReceipt {
     ghost use Rattle.held_machines.specs.declared.held.Receipt.{Receipt};
-    ghost use Rattle.written_machine.specs.declared.event.Event.{Event};
+    ghost use Rattle.pool_machine.specs.declared.event.Event.{Event};
     ghost use Rattle.locked_runner.specs.CompactReceipt.{event_of};
 
     ghost Value = { Receipt Event };

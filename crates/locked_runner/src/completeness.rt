@@ -3,8 +3,8 @@
 
 ghost use Rattle.std.specs.Prelude.{◌≡◌, ◌<◌, ◌+◌, ◌-◌, ◌^◌, ◌↔◌, ℕ, List, IsTrue, IfOk, Some, length, min, count_by, slice_get, slice_index, if◌then◌else◌};
 ghost use Rattle.job_bodies.specs.Plan.{Plan, client_at};
-ghost use Rattle.written_machine.specs.declared.event.Event.{Event};
-ghost use Rattle.written_machine.specs.State.{State};
+ghost use Rattle.pool_machine.specs.declared.event.Event.{Event};
+ghost use Rattle.pool_machine.specs.State.{State};
 ghost use Rattle.interleaving.specs.LiveView.{live_view};
 ghost use Rattle.locked_runner.specs.Complete as spec;
 ghost use Rattle.locked_runner.specs.Owner.{kinds_of};

@@ -2,10 +2,10 @@
 
 ghost use Rattle.std.specs.Prelude.{◌≡◌, ◌≢◌, ◌<◌, None, IfOk, map, length};
 ghost use Rattle.job_bodies.specs.WellFormed.{IsWellFormed};
-ghost use Rattle.written_machine.specs.State.{State};
-ghost use Rattle.written_machine.specs.State as state;
-ghost use Rattle.written_machine.specs.Step.{step};
-ghost use Rattle.written_machine.specs.Reach.{IsReached};
+ghost use Rattle.pool_machine.specs.State.{State};
+ghost use Rattle.pool_machine.specs.State as state;
+ghost use Rattle.pool_machine.specs.Step.{step};
+ghost use Rattle.pool_machine.specs.Reach.{IsReached};
 ghost use Rattle.interleaving.specs.LiveView.{live_view};
 ghost use Rattle.std.specs.List.{enumerate_from};
 ghost use Rattle.locked_runner.specs.Owner as spec;

@@ -1,7 +1,7 @@
 //! The replay of a history from the initial state of the plan.
 
 ghost use Rattle.std.specs.Prelude.{◌≡◌, ◌<◌, ◌+◌, ◌↔◌, [], ℕ, IfOk, OnErr, IsTrue, Some, List, length, take, false};
-ghost use Rattle.written_machine.specs.declared.event.Event.{Event};
+ghost use Rattle.pool_machine.specs.declared.event.Event.{Event};
 ghost use Rattle.interleaving.specs.OfPlan.{IsReachableView};
 ghost use Rattle.locked_runner.specs.Replayed.{IsReplayedAs, IsCounted, ReplaysEvent};
 ghost use Rattle.locked_runner.specs.Run.{IsLegal, IsLegalPart, worked};

@@ -3,8 +3,8 @@
 
 ghost use Rattle.std.specs.Prelude.{◌≡◌, IfOk, OnErr};
 ghost use Rattle.job_bodies.specs.WellFormed.{IsWellFormed};
-ghost use Rattle.written_machine.specs.State.{State};
-ghost use Rattle.written_machine.specs.Reach.{start, IsReached};
+ghost use Rattle.pool_machine.specs.State.{State};
+ghost use Rattle.pool_machine.specs.Reach.{start, IsReached};
 ghost use Rattle.interleaving.specs.LiveView.{live_view};
 ghost use Rattle.interleaving.specs.ViewAnswers.{AnswersAs};
 

@@ -1,7 +1,7 @@
 //! Laws of certified plans: no history of such a plan has a refused submit.
 
 ghost use Rattle.std.specs.Prelude.{◌≡◌, List};
-ghost use Rattle.written_machine.specs.declared.event.Event.{Event};
+ghost use Rattle.pool_machine.specs.declared.event.Event.{Event};
 ghost use Rattle.locked_runner.specs.HeldWorld.{IsReachedBy, RefusesNothing};
 
 use crate::{CertifiedWorld, ViewedWorld};

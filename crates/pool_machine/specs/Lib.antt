@@ -1,2 +1,11 @@
 pub mod PoolState
 pub mod PoolLaws
+pub mod State
+pub mod Step
+pub mod Reach
+pub mod Waiting
+pub mod LooseWaiting
+pub mod Safe
+pub mod Laws
+pub mod FullWaitingSets
+pub mod JobsMade

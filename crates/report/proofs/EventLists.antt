@@ -1,9 +1,9 @@
 -- A list of events, of which some were performed.
 use Rattle.std.proofs.Common.{◌≡◌, List, [], ◌∷◌, ◌++◌, map, Some, None, refl, sym, ap, subst, ◌∙◌, append_assoc, append-nil}
 use Rattle.job_bodies.specs.Plan.{Plan}
-use Rattle.written_machine.specs.declared.event.Event.{Event}
-use Rattle.written_machine.specs.State.{State}
-use Rattle.written_machine.specs.Reach.{IsReached}
+use Rattle.pool_machine.specs.declared.event.Event.{Event}
+use Rattle.pool_machine.specs.State.{State}
+use Rattle.pool_machine.specs.Reach.{IsReached}
 use Rattle.interleaving.specs.LiveView.{View, live_view}
 use Rattle.interleaving.proofs.Reached.{reached_after}
 use Rattle.report.specs.declared.event_steps.EventStep.{EventStep}

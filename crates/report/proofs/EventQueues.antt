@@ -6,17 +6,17 @@ use Rattle.std.proofs.lemmas.List.{get_or_past, get_or-set_same, get_or-set_othe
 use Rattle.std.proofs.lemmas.Option.{none-some, same_Some, slice_get-get_or, slice_get_past}
 use Rattle.job_bodies.specs.Plan.{Plan, Pool, no_pool, pool_at}
 use Rattle.job_bodies.specs.WellFormed.{IsWellFormed}
-use Rattle.written_machine.specs.declared.event.Event.{Event}
-use Rattle.written_machine.specs.declared.event.Outcome.{Outcome}
+use Rattle.pool_machine.specs.declared.event.Event.{Event}
+use Rattle.pool_machine.specs.declared.event.Outcome.{Outcome}
 use Rattle.pool_machine.specs.PoolState.{room_limit}
-use Rattle.written_machine.specs.State.{Stage, State, CreatedJob, PoolPart, no_pool_part, no_job, job_at, pool_part, pool_of, threads}
-use Rattle.written_machine.specs.Step.{step, moved_jobs}
-use Rattle.written_machine.specs.Reach.{start, IsReached}
-use Rattle.written_machine.proofs.Events.{Happens, works, starts, queues, is_refused, is_rejected, gets, finishes, loops, takes, retires, happens}
-use Rattle.written_machine.proofs.InvariantAtStart.{pool_part_at_start}
-use Rattle.written_machine.proofs.Queues.{pool_exists}
-use Rattle.written_machine.proofs.Reached.{kept}
-use Rattle.written_machine.proofs.StateInvariant.{StateInvariant}
+use Rattle.pool_machine.specs.State.{Stage, State, CreatedJob, PoolPart, no_pool_part, no_job, job_at, pool_part, pool_of, threads}
+use Rattle.pool_machine.specs.Step.{step, moved_jobs}
+use Rattle.pool_machine.specs.Reach.{start, IsReached}
+use Rattle.pool_machine.proofs.Events.{Happens, works, starts, queues, is_refused, is_rejected, gets, finishes, loops, takes, retires, happens}
+use Rattle.pool_machine.proofs.InvariantAtStart.{pool_part_at_start}
+use Rattle.pool_machine.proofs.Queues.{pool_exists}
+use Rattle.pool_machine.proofs.Reached.{kept}
+use Rattle.pool_machine.proofs.StateInvariant.{StateInvariant}
 use Rattle.interleaving.proofs.Reached.{reached_after}
 use Rattle.report.specs.declared.event_steps.PoolCounts.{PoolCounts}
 use Rattle.report.specs.declared.event_steps.EventStep.{EventStep}

@@ -8,20 +8,20 @@ use Rattle.support.proofs.PassingPlaces.{first_where}
 use Rattle.job_bodies.specs.Plan.{Plan, no_pool}
 use Rattle.job_bodies.specs.WellFormed.{IsWellFormed}
 use Rattle.pool_machine.specs.PoolState.{PoolView}
-use Rattle.written_machine.specs.declared.client_state.ClientState.{ClientState}
-use Rattle.written_machine.specs.declared.event.Event.{Event}
-use Rattle.written_machine.specs.declared.event.Event.TheVariants as event
-use Rattle.written_machine.specs.declared.event.Outcome.{Outcome}
-use Rattle.written_machine.specs.declared.event.Outcome.TheVariants as outcome
-use Rattle.written_machine.specs.declared.parent.Parent.{Parent}
-use Rattle.written_machine.specs.declared.parent.Parent.TheVariants as parent
-use Rattle.written_machine.specs.State.{Stage, State, CreatedJob, no_job, no_client_state, job_at, is_unfinished, is_queued_in, pool_of, pool_seen}
-use Rattle.written_machine.specs.Step.{step, step_at_point, point_of_job, moved_jobs}
-use Rattle.written_machine.specs.Reach.{start, state_after, IsReached}
-use Rattle.written_machine.proofs.Queues.{pool_exists}
-use Rattle.written_machine.proofs.Reached.{kept}
-use Rattle.written_machine.proofs.StateInvariant.{StateInvariant}
-use Rattle.written_machine.proofs.Events.{Happens, works, starts, queues, is_refused, is_rejected, gets, finishes, loops, takes, retires, happens}
+use Rattle.pool_machine.specs.declared.client_state.ClientState.{ClientState}
+use Rattle.pool_machine.specs.declared.event.Event.{Event}
+use Rattle.pool_machine.specs.declared.event.Event.TheVariants as event
+use Rattle.pool_machine.specs.declared.event.Outcome.{Outcome}
+use Rattle.pool_machine.specs.declared.event.Outcome.TheVariants as outcome
+use Rattle.pool_machine.specs.declared.parent.Parent.{Parent}
+use Rattle.pool_machine.specs.declared.parent.Parent.TheVariants as parent
+use Rattle.pool_machine.specs.State.{Stage, State, CreatedJob, no_job, no_client_state, job_at, is_unfinished, is_queued_in, pool_of, pool_seen}
+use Rattle.pool_machine.specs.Step.{step, step_at_point, point_of_job, moved_jobs}
+use Rattle.pool_machine.specs.Reach.{start, state_after, IsReached}
+use Rattle.pool_machine.proofs.Queues.{pool_exists}
+use Rattle.pool_machine.proofs.Reached.{kept}
+use Rattle.pool_machine.proofs.StateInvariant.{StateInvariant}
+use Rattle.pool_machine.proofs.Events.{Happens, works, starts, queues, is_refused, is_rejected, gets, finishes, loops, takes, retires, happens}
 use Rattle.interleaving.specs.declared.job_view.Phase.TheVariants as phase
 use Rattle.interleaving.specs.LiveView.{live_view}
 use Rattle.interleaving.specs.ViewStep.{no_pool_view}

@@ -2,7 +2,7 @@
 use Rattle.std.proofs.Common.{◌≡◌, ℕ, List, [], ◌∷◌, ◌++◌, map, refl, ap, ◌∙◌}
 use Rattle.serde_json.specs.Data.{Data}
 use Rattle.job_bodies.specs.Plan.{Plan}
-use Rattle.written_machine.specs.declared.event.Event.{Event}
+use Rattle.pool_machine.specs.declared.event.Event.{Event}
 use Rattle.interleaving.specs.EventLine.{Line, Perform}
 use Rattle.counterexample.specs.EventLines.{question, lines_of}
 use Rattle.report.specs.JsonWitness.{replay_line}

@@ -8,11 +8,11 @@ use Rattle.job_bodies.specs.Plan.{Plan, Pool, class_at}
 use Rattle.job_bodies.specs.WellFormed.{IsWellFormed}
 use Rattle.job_bodies.proofs.Bodies.{HasValidBodies, ordered}
 use Rattle.pool_machine.specs.PoolState.{PoolView}
-use Rattle.written_machine.specs.State.{Stage, State, CreatedJob, job_at, child}
-use Rattle.written_machine.specs.State.Stage.{Queued, At, Done, Claimed}
-use Rattle.written_machine.specs.Reach.{IsReached}
-use Rattle.written_machine.proofs.Reached.{kept}
-use Rattle.written_machine.proofs.StateInvariant.{StateInvariant}
+use Rattle.pool_machine.specs.State.{Stage, State, CreatedJob, job_at, child}
+use Rattle.pool_machine.specs.State.Stage.{Queued, At, Done, Claimed}
+use Rattle.pool_machine.specs.Reach.{IsReached}
+use Rattle.pool_machine.proofs.Reached.{kept}
+use Rattle.pool_machine.proofs.StateInvariant.{StateInvariant}
 use Rattle.interleaving.specs.declared.job_view.Phase.TheVariants as phase
 use Rattle.interleaving.specs.LiveView.{View, live_view, may_get, is_number, phase_seen, job_with}
 use Rattle.interleaving.proofs.View.{view_at, pool_at_view}

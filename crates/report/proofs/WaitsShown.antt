@@ -8,13 +8,13 @@ use Rattle.job_bodies.specs.declared.action.Action.TheVariants.{Work, Submit, Ge
 use Rattle.job_bodies.specs.Plan.{Plan, class_at}
 use Rattle.job_bodies.specs.WellFormed.{IsWellFormed}
 use Rattle.job_bodies.proofs.Bodies.{HasValidBodies, ordered}
-use Rattle.written_machine.specs.declared.parent.Parent.TheVariants as parent
-use Rattle.written_machine.specs.State.{Stage, State, CreatedJob, job_at, pool_of, is_unfinished, child}
-use Rattle.written_machine.specs.State.Stage.{Queued, At, Done, Claimed}
-use Rattle.written_machine.specs.Step.{point, point_of_job}
-use Rattle.written_machine.specs.Reach.{IsReached}
-use Rattle.written_machine.proofs.Reached.{kept}
-use Rattle.written_machine.proofs.StateInvariant.{StateInvariant}
+use Rattle.pool_machine.specs.declared.parent.Parent.TheVariants as parent
+use Rattle.pool_machine.specs.State.{Stage, State, CreatedJob, job_at, pool_of, is_unfinished, child}
+use Rattle.pool_machine.specs.State.Stage.{Queued, At, Done, Claimed}
+use Rattle.pool_machine.specs.Step.{point, point_of_job}
+use Rattle.pool_machine.specs.Reach.{IsReached}
+use Rattle.pool_machine.proofs.Reached.{kept}
+use Rattle.pool_machine.proofs.StateInvariant.{StateInvariant}
 use Rattle.interleaving.specs.declared.job_view.Phase.TheVariants as phase
 use Rattle.interleaving.specs.LiveView.{View, live_view, may_get, is_number, phase_seen, job_with}
 use Rattle.interleaving.proofs.View.{view_at}

@@ -5,7 +5,7 @@ use Rattle.serde_json.specs.Data.{Data}
 use Rattle.job_bodies.specs.Plan.{Plan}
 use Rattle.job_bodies.specs.WellFormed.{IsWellFormed}
 use Rattle.diagnostics.specs.declared.entry_places.PlanPlaces.{PlanPlaces}
-use Rattle.written_machine.specs.declared.event.Event.{Event}
+use Rattle.pool_machine.specs.declared.event.Event.{Event}
 use Rattle.interleaving.specs.LiveView.{View}
 use Rattle.counterexample.specs.declared.ending.Ending.{Ending}
 use Rattle.counterexample.specs.EventLines.{stuck_members}

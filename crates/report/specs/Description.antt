@@ -3,8 +3,8 @@ use Rattle.std.specs.Prelude.{◌≡◌, ◌↔◌, ◌==◌, ℕ, Bool, if◌th
 use Rattle.std.specs.List.{list_any}
 use Rattle.std.specs.List.Sorted.{IsStrictlyIncreasing}
 use Rattle.job_bodies.specs.Plan.{Pool, Plan, pool_at}
-use Rattle.written_machine.specs.declared.event.Event.{Event}
-use Rattle.written_machine.specs.declared.event.Event.TheVariants.{Client, Job, Take, Retire}
+use Rattle.pool_machine.specs.declared.event.Event.{Event}
+use Rattle.pool_machine.specs.declared.event.Event.TheVariants.{Client, Job, Take, Retire}
 use Rattle.counterexample.specs.declared.ending.Ending.{Ending}
 use Rattle.counterexample.specs.declared.ending.Ending.TheVariants.{Refused, StuckForever, StuckNow}
 use Rattle.counterexample.specs.declared.ending.Reason.TheVariants.{PoolsAreFull, PoolsStayAtCore}

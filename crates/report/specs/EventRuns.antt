@@ -1,9 +1,9 @@
 -- Runs: consecutive similar steps of clients of one kind. The numbers of the clients are consecutive.
 use Rattle.std.specs.Prelude.{ℕ, ◌+◌, ◌==◌, ◌&&◌, Bool, true, false, if◌then◌else◌, List, [], ◌∷◌, Option, Some, None}
 use Rattle.job_bodies.specs.Plan.{Plan}
-use Rattle.written_machine.specs.declared.event.Outcome.{Outcome}
-use Rattle.written_machine.specs.declared.event.Outcome.TheVariants.{Started, Queued, Rejected, Worked, Looped}
-use Rattle.written_machine.specs.State.{State, pool_part}
+use Rattle.pool_machine.specs.declared.event.Outcome.{Outcome}
+use Rattle.pool_machine.specs.declared.event.Outcome.TheVariants.{Started, Queued, Rejected, Worked, Looped}
+use Rattle.pool_machine.specs.State.{State, pool_part}
 use Rattle.report.specs.declared.event_steps.Actor.{Actor}
 use Rattle.report.specs.declared.event_steps.Actor.TheVariants.{Client}
 use Rattle.report.specs.declared.event_steps.PoolCounts.{PoolCounts}

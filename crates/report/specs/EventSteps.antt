@@ -2,12 +2,12 @@
 -- that it changed, or that refused or rejected a job.
 use Rattle.std.specs.Prelude.{ℕ, Option, Some, None, slice_get, option_map, option_and_then}
 use Rattle.job_bodies.specs.Plan.{Plan}
-use Rattle.written_machine.specs.declared.event.Event.{Event}
-use Rattle.written_machine.specs.declared.event.Event.TheVariants as event
-use Rattle.written_machine.specs.declared.event.Outcome.{Outcome}
-use Rattle.written_machine.specs.declared.event.Outcome.TheVariants.{Started, Queued, Refused, Rejected, Worked, Got, Finished, Took, Retired}
-use Rattle.written_machine.specs.State.{Stage, State, job_at, pool_part, pool_of, client_state, threads}
-use Rattle.written_machine.specs.Reach.{start}
+use Rattle.pool_machine.specs.declared.event.Event.{Event}
+use Rattle.pool_machine.specs.declared.event.Event.TheVariants as event
+use Rattle.pool_machine.specs.declared.event.Outcome.{Outcome}
+use Rattle.pool_machine.specs.declared.event.Outcome.TheVariants.{Started, Queued, Refused, Rejected, Worked, Got, Finished, Took, Retired}
+use Rattle.pool_machine.specs.State.{Stage, State, job_at, pool_part, pool_of, client_state, threads}
+use Rattle.pool_machine.specs.Reach.{start}
 use Rattle.report.specs.declared.event_steps.Actor.{Actor}
 use Rattle.report.specs.declared.event_steps.Actor.TheVariants.{Client, Job, Pool}
 use Rattle.report.specs.declared.event_steps.PoolCounts.{PoolCounts}

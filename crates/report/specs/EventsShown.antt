@@ -1,7 +1,7 @@
 -- The queue of a pool, computed from steps that add jobs to it or take jobs from it.
 use Rattle.std.specs.Prelude.{ℕ, ◌==◌, Bool, false, if◌then◌else◌, List, [], ◌∷◌, ◌++◌, drop, Option, Some, None}
-use Rattle.written_machine.specs.declared.event.Outcome.{Outcome}
-use Rattle.written_machine.specs.declared.event.Outcome.TheVariants.{Queued, Took}
+use Rattle.pool_machine.specs.declared.event.Outcome.{Outcome}
+use Rattle.pool_machine.specs.declared.event.Outcome.TheVariants.{Queued, Took}
 use Rattle.report.specs.declared.event_steps.PoolCounts.{PoolCounts}
 use Rattle.report.specs.declared.event_steps.EventStep.{EventStep}
 use Rattle.report.specs.declared.json_events.OpenRun.{OpenRun}

@@ -6,9 +6,9 @@ use Rattle.support.specs.Places.{places_where}
 use Rattle.job_bodies.specs.declared.action.Action.{Action}
 use Rattle.job_bodies.specs.declared.action.Action.TheVariants.{Get}
 use Rattle.job_bodies.specs.Plan.{Plan, pool_at, class_at}
-use Rattle.written_machine.specs.declared.parent.Parent.TheVariants as parent
-use Rattle.written_machine.specs.State.{Stage, State, job_at, pool_of, is_busy_in, child}
-use Rattle.written_machine.specs.State.Stage.{Queued, At}
+use Rattle.pool_machine.specs.declared.parent.Parent.TheVariants as parent
+use Rattle.pool_machine.specs.State.{Stage, State, job_at, pool_of, is_busy_in, child}
+use Rattle.pool_machine.specs.State.Stage.{Queued, At}
 use Rattle.counterexample.specs.declared.ending.Ending.{Ending}
 use Rattle.counterexample.specs.declared.ending.Ending.TheVariants.{Refused, StuckForever, StuckNow}
 use Rattle.counterexample.specs.EventLines.{stuck_members}

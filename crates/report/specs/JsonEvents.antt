@@ -5,9 +5,9 @@ use Rattle.serde_json.specs.View.{items_of}
 use Rattle.job_bodies.specs.Plan.{Plan, pool_at, class_at, client_at}
 use Rattle.plan_text.specs.declared.place.TextPlace.{TextPlace}
 use Rattle.diagnostics.specs.declared.entry_places.PlanPlaces.{PlanPlaces}
-use Rattle.written_machine.specs.declared.event.Event.{Event}
-use Rattle.written_machine.specs.declared.event.Outcome.{Outcome}
-use Rattle.written_machine.specs.declared.event.Outcome.TheVariants.{Started, Queued, Refused, Rejected, Worked, Got, Looped, Finished, Took, Retired}
+use Rattle.pool_machine.specs.declared.event.Event.{Event}
+use Rattle.pool_machine.specs.declared.event.Outcome.{Outcome}
+use Rattle.pool_machine.specs.declared.event.Outcome.TheVariants.{Started, Queued, Refused, Rejected, Worked, Got, Looped, Finished, Took, Retired}
 use Rattle.report.specs.declared.event_steps.Actor.{Actor}
 use Rattle.report.specs.declared.event_steps.Actor.TheVariants.{Client, Job, Pool}
 use Rattle.report.specs.declared.event_steps.PoolCounts.{PoolCounts}

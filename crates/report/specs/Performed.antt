@@ -2,14 +2,14 @@
 -- state.
 use Rattle.std.specs.Prelude.{◌≡◌, ℕ, List, ◌++◌, map, Option, Some, None, slice_get, option_map, option_and_then}
 use Rattle.job_bodies.specs.Plan.{Plan}
-use Rattle.written_machine.specs.declared.client_state.ClientState.{ClientState}
-use Rattle.written_machine.specs.declared.event.Event.{Event}
-use Rattle.written_machine.specs.declared.event.Event.TheVariants as event
-use Rattle.written_machine.specs.declared.event.Outcome.{Outcome}
-use Rattle.written_machine.specs.declared.event.Outcome.TheVariants.{Started, Queued, Refused, Rejected, Finished, Took, Retired}
-use Rattle.written_machine.specs.State.{State, pool_of}
-use Rattle.written_machine.specs.Step.{step}
-use Rattle.written_machine.specs.Reach.{IsReached}
+use Rattle.pool_machine.specs.declared.client_state.ClientState.{ClientState}
+use Rattle.pool_machine.specs.declared.event.Event.{Event}
+use Rattle.pool_machine.specs.declared.event.Event.TheVariants as event
+use Rattle.pool_machine.specs.declared.event.Outcome.{Outcome}
+use Rattle.pool_machine.specs.declared.event.Outcome.TheVariants.{Started, Queued, Refused, Rejected, Finished, Took, Retired}
+use Rattle.pool_machine.specs.State.{State, pool_of}
+use Rattle.pool_machine.specs.Step.{step}
+use Rattle.pool_machine.specs.Reach.{IsReached}
 use Rattle.interleaving.specs.declared.job_view.Phase.{Phase}
 use Rattle.interleaving.specs.declared.job_view.Phase.TheVariants as phase
 use Rattle.interleaving.specs.declared.job_view.JobView.{JobView}

@@ -6,11 +6,11 @@ use Rattle.job_bodies.specs.declared.limits.TheConstants.{MAX_THREADS}
 use Rattle.job_bodies.specs.declared.action.Action.TheVariants.{Get}
 use Rattle.job_bodies.specs.Plan.{Plan, Pool as PoolSizes, class_at, client_at, pool_at, submitted_class}
 use Rattle.pool_machine.specs.PoolState.{PoolView}
-use Rattle.written_machine.specs.declared.event.Event.{Event}
-use Rattle.written_machine.specs.declared.event.Outcome.{Outcome}
-use Rattle.written_machine.specs.declared.event.Outcome.TheVariants.{Started, Queued, Refused, Rejected, Worked, Got, Looped, Finished, Took, Retired}
-use Rattle.written_machine.specs.State as state
-use Rattle.written_machine.specs.State.{Stage, State, job_at, pool_seen}
+use Rattle.pool_machine.specs.declared.event.Event.{Event}
+use Rattle.pool_machine.specs.declared.event.Outcome.{Outcome}
+use Rattle.pool_machine.specs.declared.event.Outcome.TheVariants.{Started, Queued, Refused, Rejected, Worked, Got, Looped, Finished, Took, Retired}
+use Rattle.pool_machine.specs.State as state
+use Rattle.pool_machine.specs.State.{Stage, State, job_at, pool_seen}
 use Rattle.report.specs.declared.event_steps.Actor.{Actor}
 use Rattle.report.specs.declared.event_steps.Actor.TheVariants.{Client, Job, Pool}
 use Rattle.report.specs.declared.event_steps.EventStep.{EventStep}

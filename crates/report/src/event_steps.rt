@@ -4,8 +4,8 @@
 
 ghost use Rattle.std.specs.Prelude.{◌≡◌, IfOk};
 ghost use Rattle.job_bodies.specs.WellFormed.{IsWellFormed};
-ghost use Rattle.written_machine.specs.State.{State, pool_of};
-ghost use Rattle.written_machine.specs.Reach.{start, IsReached};
+ghost use Rattle.pool_machine.specs.State.{State, pool_of};
+ghost use Rattle.pool_machine.specs.Reach.{start, IsReached};
 ghost use Rattle.interleaving.specs.LiveView.{live_view};
 ghost use Rattle.interleaving.specs.OfPlan.{IsReachableView};
 ghost use Rattle.report.specs.EventSteps as spec;

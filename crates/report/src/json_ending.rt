@@ -6,7 +6,7 @@
 ghost use Rattle.std.specs.Prelude.{◌≡◌, ◌++◌, ◌∷◌, [], map, flat_map, IfOk, OnOk, slice_get};
 ghost use Rattle.serde_json.specs.View.{view};
 ghost use Rattle.job_bodies.specs.Plan.{class_at};
-ghost use Rattle.written_machine.specs.declared.parent.Parent.TheVariants as parent;
+ghost use Rattle.pool_machine.specs.declared.parent.Parent.TheVariants as parent;
 ghost use Rattle.interleaving.specs.ViewStep.{live_child, is_live_child};
 ghost use Rattle.interleaving.specs.Waiting.{is_busy_job, is_at_work};
 ghost use Rattle.counterexample.specs.EventLines.{stuck_members};

@@ -4,10 +4,10 @@ use Rattle.std.proofs.lemmas.Bool.{eqb-true}
 use Rattle.std.proofs.lemmas.List.Folds.{list_any_at}
 use Rattle.std.proofs.lemmas.List.Sorted.{Contains-permutation, IsPermutation-sym}
 use Rattle.job_bodies.specs.Plan.{Plan}
-use Rattle.written_machine.specs.State.{Stage, State, job_at}
-use Rattle.written_machine.specs.State.Stage.{Queued, At}
-use Rattle.written_machine.specs.Waiting.{is_member, IsMember, WaitsAtStage, IsWaitingSet, is_waiting_set}
-use Rattle.written_machine.proofs.ReachedLaws.{sets_tested}
+use Rattle.pool_machine.specs.State.{Stage, State, job_at}
+use Rattle.pool_machine.specs.State.Stage.{Queued, At}
+use Rattle.pool_machine.specs.Waiting.{is_member, IsMember, WaitsAtStage, IsWaitingSet, is_waiting_set}
+use Rattle.pool_machine.proofs.ReachedLaws.{sets_tested}
 
 stands : (members : List ℕ) (j : ℕ) → IsMember members j → Contains members j
 stands [] j is = absurd cc

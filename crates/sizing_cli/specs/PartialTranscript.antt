@@ -2,8 +2,8 @@
 -- have the same view. A statement of a world concerns each reachable state with this view.
 use Rattle.std.specs.Prelude.{◌≡◌, ℕ, List, Option, Some, None}
 use Rattle.job_bodies.specs.Plan.{Plan}
-use Rattle.written_machine.specs.State.{State}
-use Rattle.written_machine.specs.Reach.{IsReached}
+use Rattle.pool_machine.specs.State.{State}
+use Rattle.pool_machine.specs.Reach.{IsReached}
 use Rattle.interleaving.specs.LiveView.{View, live_view}
 use Rattle.interleaving.specs.declared.reply.Reply.{Reply}
 use Rattle.interleaving.specs.EventLine.{Line, all_from}

@@ -15,7 +15,7 @@ use Rattle.soundness.specs.Accepted.{is_nil, accepted}
 use Rattle.cert_check.specs.Verdict.{Verdict, verdict}
 use Rattle.cert_check.specs.Text.{verdict_text}
 use Rattle.refusal_notes.specs.Explanation.{explanation}
-use Rattle.written_machine.specs.Reach.{start}
+use Rattle.pool_machine.specs.Reach.{start}
 use Rattle.locked_runner.specs.RunNumbers.{jobs, units}
 use Rattle.locked_runner.specs.declared.limits.RunLimit.{RunLimit}
 use Rattle.locked_runner.specs.declared.limits.RunLimit.TheVariants.{Rejections, Clients, Threads, Events}

@@ -1,11 +1,11 @@
 -- The answer of a replay. It is defined by the steps of the written machine from a state, and by the waiting sets.
 use Rattle.std.specs.Prelude.{ℕ, suc, ◌+◌, Bool, true, false, if◌then◌else◌, List, [], ◌∷◌, count_by, Option, Some, None}
 use Rattle.job_bodies.specs.Plan.{Plan}
-use Rattle.written_machine.specs.declared.event.Outcome.{Outcome}
-use Rattle.written_machine.specs.declared.event.Outcome.TheVariants as outcome
-use Rattle.written_machine.specs.State.{State, is_unfinished}
-use Rattle.written_machine.specs.Step.{step}
-use Rattle.written_machine.specs.Waiting.{is_waiting_set}
+use Rattle.pool_machine.specs.declared.event.Outcome.{Outcome}
+use Rattle.pool_machine.specs.declared.event.Outcome.TheVariants as outcome
+use Rattle.pool_machine.specs.State.{State, is_unfinished}
+use Rattle.pool_machine.specs.Step.{step}
+use Rattle.pool_machine.specs.Waiting.{is_waiting_set}
 use Rattle.interleaving.specs.declared.reply.Reply.{Reply}
 use Rattle.interleaving.specs.declared.reply.Reply.TheVariants as reply
 use Rattle.interleaving.specs.EventLine.{Line, Perform, Stuck}

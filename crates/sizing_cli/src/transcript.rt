@@ -1,7 +1,7 @@
 //! The replay of event lines on a plan.
 
 ghost use Rattle.std.specs.Prelude.{◌≡◌, ◌<◌, ◌^◌, [], length, IfOk, OnOk};
-ghost use Rattle.written_machine.specs.Reach.{start};
+ghost use Rattle.pool_machine.specs.Reach.{start};
 ghost use Rattle.interleaving.specs.LiveView.{live_view};
 ghost use Rattle.interleaving.specs.EventLine.{all_from, line_seen};
 ghost use Rattle.interleaving.specs.OfPlan.{IsReachableView};

@@ -1,10 +1,10 @@
 -- An actor can get alike jobs in any order: after an exchange of two alike jobs its get finds the other one.
 use Rattle.std.proofs.Common.{◌≡◌, Bool, cond, [], ◌∷◌, Some, None, refl, ap, ◌∙◌}
 use Rattle.job_bodies.specs.Plan.{Plan}
-use Rattle.written_machine.specs.declared.parent.Parent.{Parent}
-use Rattle.written_machine.specs.declared.parent.Parent.TheVariants as parent
-use Rattle.written_machine.specs.State.{State}
-use Rattle.written_machine.specs.Step.{point, got, got_child, step_action, step_at_point, step}
+use Rattle.pool_machine.specs.declared.parent.Parent.{Parent}
+use Rattle.pool_machine.specs.declared.parent.Parent.TheVariants as parent
+use Rattle.pool_machine.specs.State.{State}
+use Rattle.pool_machine.specs.Step.{point, got, got_child, step_action, step_at_point, step}
 use Rattle.soundness.specs.Execute.{JavaState, submission_at, submission_of, submission, as_atomic, other_step, java_stepped}
 use Rattle.soundness.specs.Exchange.{after_exchange}
 use Rattle.soundness.specs.Skipping.{choices_replay, event_of_actor, AlikeJobsAreGotInAnyOrder}

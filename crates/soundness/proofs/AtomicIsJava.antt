@@ -9,23 +9,23 @@ use Rattle.job_bodies.proofs.Bodies.{HasValidBodies, ordered}
 use Rattle.pool_machine.specs.PoolState.{PoolView, room_limit, answer, has_spare_thread, has_spare_worker, retired_of, retired}
 use Rattle.pool_machine.specs.declared.offer.Offer.{Offer}
 use Rattle.pool_machine.specs.declared.offer.Offer.TheVariants as offer
-use Rattle.written_machine.specs.declared.parent.Parent.{Parent}
-use Rattle.written_machine.specs.declared.parent.Parent.TheVariants as parent
-use Rattle.written_machine.specs.declared.event.Event.{Event}
-use Rattle.written_machine.specs.declared.event.Event.TheVariants as event
-use Rattle.written_machine.specs.declared.event.Outcome.{Outcome}
-use Rattle.written_machine.specs.declared.event.Outcome.TheVariants as outcome
-use Rattle.written_machine.specs.State.{State, same_parent, pool_of, pool_part, pool_seen, threads}
-use Rattle.written_machine.specs.Step.{point, with_pool, answered, submitted, step_at_point, retire_worker, step}
-use Rattle.written_machine.specs.Reach.{start, state_after, replay}
-use Rattle.written_machine.specs.Laws.{HasThreads}
-use Rattle.written_machine.proofs.Events.{event_of, stepped}
-use Rattle.written_machine.proofs.Children.{same_actor_refl}
-use Rattle.written_machine.proofs.Reached.{replay_none}
-use Rattle.written_machine.proofs.StateInvariant.{StateInvariant}
-use Rattle.written_machine.proofs.InvariantAtStart.{kept_start}
-use Rattle.written_machine.proofs.InvariantStep.{kept_step}
-use Rattle.written_machine.proofs.EnoughThreads.{HaveThreads, one_is_enough, have_threads_start, threads_step}
+use Rattle.pool_machine.specs.declared.parent.Parent.{Parent}
+use Rattle.pool_machine.specs.declared.parent.Parent.TheVariants as parent
+use Rattle.pool_machine.specs.declared.event.Event.{Event}
+use Rattle.pool_machine.specs.declared.event.Event.TheVariants as event
+use Rattle.pool_machine.specs.declared.event.Outcome.{Outcome}
+use Rattle.pool_machine.specs.declared.event.Outcome.TheVariants as outcome
+use Rattle.pool_machine.specs.State.{State, same_parent, pool_of, pool_part, pool_seen, threads}
+use Rattle.pool_machine.specs.Step.{point, with_pool, answered, submitted, step_at_point, retire_worker, step}
+use Rattle.pool_machine.specs.Reach.{start, state_after, replay}
+use Rattle.pool_machine.specs.Laws.{HasThreads}
+use Rattle.pool_machine.proofs.Events.{event_of, stepped}
+use Rattle.pool_machine.proofs.Children.{same_actor_refl}
+use Rattle.pool_machine.proofs.Reached.{replay_none}
+use Rattle.pool_machine.proofs.StateInvariant.{StateInvariant}
+use Rattle.pool_machine.proofs.InvariantAtStart.{kept_start}
+use Rattle.pool_machine.proofs.InvariantStep.{kept_step}
+use Rattle.pool_machine.proofs.EnoughThreads.{HaveThreads, one_is_enough, have_threads_start, threads_step}
 use Rattle.soundness.specs.Execute.{Call, JavaState, JavaEvent, is_looking, looked_once, looking_after, timed_out_of, after_timeout, timed_out, is_calling, without_calls_of, answers, checks_core, offers_job, requests_thread, executes, Submission, submission, as_atomic, java_stepped, java_step, java_replay, without_calls}
 use Rattle.soundness.specs.JavaSafe.{AtomicStatesAreReached}
 use Rattle.soundness.proofs.JavaEvents.{is_submission}

@@ -8,18 +8,18 @@ use Rattle.job_bodies.specs.declared.action.Action.TheVariants as action
 use Rattle.job_bodies.specs.Plan.{Pool, Plan, pool_at, needs_no_bound}
 use Rattle.job_bodies.proofs.Bodies.{HasValidBodies, ordered}
 use Rattle.pool_machine.proofs.QueueLimits.{bounded_within}
-use Rattle.written_machine.specs.declared.event.Event.{Event}
-use Rattle.written_machine.specs.declared.event.Outcome.{Outcome}
-use Rattle.written_machine.specs.declared.parent.Parent.{Parent}
-use Rattle.written_machine.specs.State.{State, pool_of, pool_part, threads}
-use Rattle.written_machine.specs.Reach.{start}
-use Rattle.written_machine.proofs.Events.{IsAtAction, HasNoRoom, Happens, works, starts, queues, is_refused, is_rejected, gets, finishes, loops, takes, retires}
-use Rattle.written_machine.proofs.StateInvariant.{StateInvariant}
-use Rattle.written_machine.proofs.InvariantAtStart.{kept_start}
-use Rattle.written_machine.proofs.InvariantSubmits.{class_exists}
-use Rattle.written_machine.proofs.InvariantStep.{kept_step}
-use Rattle.written_machine.proofs.JobsMade.{HaveJobs, have_jobs_start, have_jobs_step}
-use Rattle.written_machine.proofs.Reached.{reached_keeps}
+use Rattle.pool_machine.specs.declared.event.Event.{Event}
+use Rattle.pool_machine.specs.declared.event.Outcome.{Outcome}
+use Rattle.pool_machine.specs.declared.parent.Parent.{Parent}
+use Rattle.pool_machine.specs.State.{State, pool_of, pool_part, threads}
+use Rattle.pool_machine.specs.Reach.{start}
+use Rattle.pool_machine.proofs.Events.{IsAtAction, HasNoRoom, Happens, works, starts, queues, is_refused, is_rejected, gets, finishes, loops, takes, retires}
+use Rattle.pool_machine.proofs.StateInvariant.{StateInvariant}
+use Rattle.pool_machine.proofs.InvariantAtStart.{kept_start}
+use Rattle.pool_machine.proofs.InvariantSubmits.{class_exists}
+use Rattle.pool_machine.proofs.InvariantStep.{kept_step}
+use Rattle.pool_machine.proofs.JobsMade.{HaveJobs, have_jobs_start, have_jobs_step}
+use Rattle.pool_machine.proofs.Reached.{reached_keeps}
 use Rattle.weights.specs.declared.bound.Bound.{Bound}
 use Rattle.weights.specs.Bound.{bound_vector, bound_get_return}
 use Rattle.soundness.proofs.BoundLaws.{BoundLaws, bound_laws, bound_vector_laws}

@@ -6,16 +6,16 @@ use Rattle.job_bodies.specs.declared.action.Action.{Action}
 use Rattle.job_bodies.specs.declared.action.Action.TheVariants as action
 use Rattle.job_bodies.specs.Plan.{Plan, pool_at, first_workers}
 use Rattle.job_bodies.proofs.Bodies.{HasValidBodies}
-use Rattle.written_machine.specs.declared.parent.Parent.{Parent}
-use Rattle.written_machine.specs.declared.event.Event.{Event}
-use Rattle.written_machine.specs.declared.event.Outcome.{Outcome}
-use Rattle.written_machine.specs.State.{State, pool_part, pool_of, threads}
-use Rattle.written_machine.specs.JobsMade.{jobs_made}
-use Rattle.written_machine.proofs.Events.{IsAtAction, event_of, Happens, HasNoRoom}
-use Rattle.written_machine.proofs.StateInvariant.{StateInvariant}
-use Rattle.written_machine.proofs.EnoughThreads.{HaveThreads}
-use Rattle.written_machine.proofs.InvariantSubmits.{class_exists}
-use Rattle.written_machine.proofs.JobsMade.{queue-le_made, HaveJobs}
+use Rattle.pool_machine.specs.declared.parent.Parent.{Parent}
+use Rattle.pool_machine.specs.declared.event.Event.{Event}
+use Rattle.pool_machine.specs.declared.event.Outcome.{Outcome}
+use Rattle.pool_machine.specs.State.{State, pool_part, pool_of, threads}
+use Rattle.pool_machine.specs.JobsMade.{jobs_made}
+use Rattle.pool_machine.proofs.Events.{IsAtAction, event_of, Happens, HasNoRoom}
+use Rattle.pool_machine.proofs.StateInvariant.{StateInvariant}
+use Rattle.pool_machine.proofs.EnoughThreads.{HaveThreads}
+use Rattle.pool_machine.proofs.InvariantSubmits.{class_exists}
+use Rattle.pool_machine.proofs.JobsMade.{queue-le_made, HaveJobs}
 use Rattle.weights.specs.declared.bound.Bound.{Bound}
 use Rattle.weights.specs.declared.bound.Bound.TheVariants.{Standing, Lifetime}
 use Rattle.soundness.proofs.NoRefusal.{standing_refuses_nothing, limit_reached, lifetime_leaves_room}

@@ -5,11 +5,11 @@ use Rattle.std.proofs.lemmas.Option.{none-some, same_Some}
 use Rattle.job_bodies.specs.declared.action.Action.{Action}
 use Rattle.job_bodies.specs.declared.action.Action.TheVariants as action
 use Rattle.job_bodies.specs.Plan.{Plan, pool_at}
-use Rattle.written_machine.specs.declared.parent.Parent.{Parent}
-use Rattle.written_machine.specs.declared.event.Event.{Event}
-use Rattle.written_machine.specs.State.{pool_of}
-use Rattle.written_machine.specs.Step.{skipped}
-use Rattle.written_machine.proofs.Events.{IsAtAction, event_of}
+use Rattle.pool_machine.specs.declared.parent.Parent.{Parent}
+use Rattle.pool_machine.specs.declared.event.Event.{Event}
+use Rattle.pool_machine.specs.State.{pool_of}
+use Rattle.pool_machine.specs.Step.{skipped}
+use Rattle.pool_machine.proofs.Events.{IsAtAction, event_of}
 use Rattle.soundness.specs.Execute.{JavaState, JavaEvent, Submission, is_calling, offer_fails, submission}
 use Rattle.soundness.proofs.JavaEvents.{JavaHappens, finds_full, is_submission}
 use Rattle.soundness.specs.Skipping.{Choice, after_skip, has_begun, skip_submit, miss_thread, choice_step, choices_replay, has_no_queue}

@@ -5,10 +5,10 @@ use Rattle.std.proofs.lemmas.Bool.{and_from, or_left, or_right, cases_eq, eq-eqb
 use Rattle.std.proofs.lemmas.List.Sums.{sum_by-cons}
 use Rattle.support.proofs.Members.{In-filter, In-from_list_any, list_any_at_In}
 use Rattle.support.proofs.Sums.{sum_by-le-at}
-use Rattle.written_machine.specs.declared.parent.Parent.{Parent}
-use Rattle.written_machine.specs.declared.parent.Parent.TheVariants as parent
-use Rattle.written_machine.specs.State.{same_parent}
-use Rattle.written_machine.proofs.Children.{same_actor_true}
+use Rattle.pool_machine.specs.declared.parent.Parent.{Parent}
+use Rattle.pool_machine.specs.declared.parent.Parent.TheVariants as parent
+use Rattle.pool_machine.specs.State.{same_parent}
+use Rattle.pool_machine.proofs.Children.{same_actor_true}
 use Rattle.soundness.specs.Execute.{Call, JavaState, is_calling, without_calls_of}
 
 -- ---- one job

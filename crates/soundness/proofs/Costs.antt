@@ -9,16 +9,16 @@ use Rattle.job_bodies.specs.declared.action.Action.{Action}
 use Rattle.job_bodies.specs.declared.action.Action.TheVariants as action
 use Rattle.job_bodies.specs.Plan.{Plan, class_at}
 use Rattle.weights.specs.Ranks.{Ranks}
-use Rattle.written_machine.specs.declared.parent.Parent.TheVariants as parent
-use Rattle.written_machine.specs.declared.event.Event.{Event}
-use Rattle.written_machine.specs.declared.event.Event.TheVariants as event
-use Rattle.written_machine.specs.declared.event.Outcome.{Outcome}
-use Rattle.written_machine.specs.State.{Stage, State, CreatedJob, no_job, job_at, pool_of}
-use Rattle.written_machine.specs.Step.{moved_jobs, new_job}
-use Rattle.written_machine.proofs.Events.{IsAtAction, Happens, works, starts, queues, is_refused, is_rejected, gets, finishes, loops, takes, retires}
-use Rattle.written_machine.proofs.Positions.{standing_made}
-use Rattle.written_machine.proofs.StateInvariant.{StateInvariant}
-use Rattle.written_machine.proofs.Stages.{length-staged, length-moved}
+use Rattle.pool_machine.specs.declared.parent.Parent.TheVariants as parent
+use Rattle.pool_machine.specs.declared.event.Event.{Event}
+use Rattle.pool_machine.specs.declared.event.Event.TheVariants as event
+use Rattle.pool_machine.specs.declared.event.Outcome.{Outcome}
+use Rattle.pool_machine.specs.State.{Stage, State, CreatedJob, no_job, job_at, pool_of}
+use Rattle.pool_machine.specs.Step.{moved_jobs, new_job}
+use Rattle.pool_machine.proofs.Events.{IsAtAction, Happens, works, starts, queues, is_refused, is_rejected, gets, finishes, loops, takes, retires}
+use Rattle.pool_machine.proofs.Positions.{standing_made}
+use Rattle.pool_machine.proofs.StateInvariant.{StateInvariant}
+use Rattle.pool_machine.proofs.Stages.{length-staged, length-moved}
 use Rattle.soundness.specs.Drain.{stage_todo, todo}
 use Rattle.soundness.proofs.RankLaws.{RankLaws}
 use Rattle.soundness.proofs.Draining.{lowers, ends_thread, no_client_cases, not_counted, no_actor, same_jobs, same_todo}

@@ -9,12 +9,12 @@ use Rattle.job_bodies.specs.declared.action.Action.{Action}
 use Rattle.job_bodies.specs.declared.action.Action.TheVariants as action
 use Rattle.job_bodies.specs.Plan.{Plan, pool_at, class_at, least_threads, submitted_class}
 use Rattle.job_bodies.proofs.Bodies.{HasValidBodies, ordered, some_threads}
-use Rattle.written_machine.specs.declared.parent.Parent.TheVariants as parent
-use Rattle.written_machine.specs.State.{Stage, State, CreatedJob, no_job, job_at, pool_of}
-use Rattle.written_machine.specs.Step.{point_of_job}
-use Rattle.written_machine.proofs.Busy.{one_if}
-use Rattle.written_machine.proofs.StateInvariant.{StateInvariant}
-use Rattle.written_machine.proofs.Reached.{kept}
+use Rattle.pool_machine.specs.declared.parent.Parent.TheVariants as parent
+use Rattle.pool_machine.specs.State.{Stage, State, CreatedJob, no_job, job_at, pool_of}
+use Rattle.pool_machine.specs.Step.{point_of_job}
+use Rattle.pool_machine.proofs.Busy.{one_if}
+use Rattle.pool_machine.proofs.StateInvariant.{StateInvariant}
+use Rattle.pool_machine.proofs.Reached.{kept}
 use Rattle.weights.specs.declared.get_return.GetReturn.TheVariants.{DoneWeight}
 use Rattle.weights.specs.Vector.{Vector, queued_weight, job_weight, done_weight, total}
 use Rattle.weights.specs.Ranks.{Ranks, rank, reach, is_counted_action, is_counted}

@@ -8,11 +8,11 @@ use Rattle.job_bodies.specs.declared.action.Action.{Action}
 use Rattle.job_bodies.specs.declared.action.Action.TheVariants as action
 use Rattle.job_bodies.specs.Plan.{Plan, submitted_class}
 use Rattle.job_bodies.specs.ValidBody.{IsValidBody}
-use Rattle.written_machine.specs.declared.parent.Parent.{Parent}
-use Rattle.written_machine.specs.declared.parent.Parent.TheVariants as parent
-use Rattle.written_machine.specs.State.{Stage, State, CreatedJob, no_job, job_at, same_parent}
-use Rattle.written_machine.proofs.Children.{same_actor_refl, maker_of, child_is}
-use Rattle.written_machine.proofs.StateInvariant.{HasChild}
+use Rattle.pool_machine.specs.declared.parent.Parent.{Parent}
+use Rattle.pool_machine.specs.declared.parent.Parent.TheVariants as parent
+use Rattle.pool_machine.specs.State.{Stage, State, CreatedJob, no_job, job_at, same_parent}
+use Rattle.pool_machine.proofs.Children.{same_actor_refl, maker_of, child_is}
+use Rattle.pool_machine.proofs.StateInvariant.{HasChild}
 use Rattle.weights.specs.declared.get_return.GetReturn.TheVariants.{DoneWeight}
 use Rattle.weights.specs.Vector.{Vector, done_weight}
 use Rattle.weights.specs.Ranks.{Ranks, reach}

@@ -7,16 +7,16 @@ use Rattle.support.proofs.PassingPlaces.{passes_without}
 use Rattle.job_bodies.specs.declared.action.Action.TheVariants as action
 use Rattle.job_bodies.specs.Plan.{Plan, pool_at, class_at, least_threads, submitted_class}
 use Rattle.job_bodies.proofs.Bodies.{HasValidBodies, ordered}
-use Rattle.written_machine.specs.declared.parent.Parent.{Parent}
-use Rattle.written_machine.specs.State.{Stage, State, CreatedJob, no_job, job_at, pool_of, is_at, is_busy_in, threads}
-use Rattle.written_machine.specs.Waiting.{IsMember, WaitsInQueue}
-use Rattle.written_machine.specs.LooseWaiting.{WaitsForChild, WaitsLoosely, IsLooseWaitingSet}
-use Rattle.written_machine.specs.Laws.{HasGreaterNumber}
-use Rattle.written_machine.proofs.Positions.{job_made}
-use Rattle.written_machine.proofs.StateInvariant.{StateInvariant}
-use Rattle.written_machine.proofs.Queues.{Queued≢Claimed, queued_in_queue, pool_of_made}
-use Rattle.written_machine.proofs.Reached.{kept, have_threads}
-use Rattle.written_machine.proofs.EnoughThreads.{HaveThreads}
+use Rattle.pool_machine.specs.declared.parent.Parent.{Parent}
+use Rattle.pool_machine.specs.State.{Stage, State, CreatedJob, no_job, job_at, pool_of, is_at, is_busy_in, threads}
+use Rattle.pool_machine.specs.Waiting.{IsMember, WaitsInQueue}
+use Rattle.pool_machine.specs.LooseWaiting.{WaitsForChild, WaitsLoosely, IsLooseWaitingSet}
+use Rattle.pool_machine.specs.Laws.{HasGreaterNumber}
+use Rattle.pool_machine.proofs.Positions.{job_made}
+use Rattle.pool_machine.proofs.StateInvariant.{StateInvariant}
+use Rattle.pool_machine.proofs.Queues.{Queued≢Claimed, queued_in_queue, pool_of_made}
+use Rattle.pool_machine.proofs.Reached.{kept, have_threads}
+use Rattle.pool_machine.proofs.EnoughThreads.{HaveThreads}
 use Rattle.weights.specs.Ranks.{Ranks, rank, reach, is_counted}
 use Rattle.soundness.specs.CountedGets.{passes_from, may_block_at, may_block_in, may_block, NoLooseWaitingSets}
 use Rattle.soundness.proofs.RankLaws.{RankLaws, rank_laws}

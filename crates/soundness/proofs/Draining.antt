@@ -6,20 +6,20 @@ use Rattle.std.proofs.lemmas.Option.{slice_get_within, get_or_from_slice_get}
 use Rattle.job_bodies.specs.declared.action.Action.{Action}
 use Rattle.job_bodies.specs.declared.action.Action.TheVariants as action
 use Rattle.job_bodies.specs.Plan.{Plan, class_at}
-use Rattle.written_machine.specs.declared.parent.Parent.{Parent}
-use Rattle.written_machine.specs.declared.parent.Parent.TheVariants as parent
-use Rattle.written_machine.specs.declared.event.Event.{Event}
-use Rattle.written_machine.specs.declared.event.Event.TheVariants as event
-use Rattle.written_machine.specs.declared.event.Outcome.{Outcome}
-use Rattle.written_machine.specs.State.{Stage, State, CreatedJob, no_job, job_at, pool_part, pool_of}
-use Rattle.written_machine.specs.Step.{with_stage, with_position, new_job, skipped, finished_job}
-use Rattle.written_machine.specs.Safe.{is_of_job_or_pool}
-use Rattle.written_machine.proofs.Events.{IsAtAction, event_of, with_part, Happens, works, starts, queues, is_refused, is_rejected, gets, finishes, loops, takes, retires}
-use Rattle.written_machine.proofs.Positions.{stage_of_standing, job_made, standing_made}
-use Rattle.written_machine.proofs.StateInvariant.{StateInvariant}
-use Rattle.written_machine.proofs.Stages.{staged}
-use Rattle.written_machine.proofs.Queues.{head_of_queue}
-use Rattle.written_machine.proofs.InvariantStep.{done_still}
+use Rattle.pool_machine.specs.declared.parent.Parent.{Parent}
+use Rattle.pool_machine.specs.declared.parent.Parent.TheVariants as parent
+use Rattle.pool_machine.specs.declared.event.Event.{Event}
+use Rattle.pool_machine.specs.declared.event.Event.TheVariants as event
+use Rattle.pool_machine.specs.declared.event.Outcome.{Outcome}
+use Rattle.pool_machine.specs.State.{Stage, State, CreatedJob, no_job, job_at, pool_part, pool_of}
+use Rattle.pool_machine.specs.Step.{with_stage, with_position, new_job, skipped, finished_job}
+use Rattle.pool_machine.specs.Safe.{is_of_job_or_pool}
+use Rattle.pool_machine.proofs.Events.{IsAtAction, event_of, with_part, Happens, works, starts, queues, is_refused, is_rejected, gets, finishes, loops, takes, retires}
+use Rattle.pool_machine.proofs.Positions.{stage_of_standing, job_made, standing_made}
+use Rattle.pool_machine.proofs.StateInvariant.{StateInvariant}
+use Rattle.pool_machine.proofs.Stages.{staged}
+use Rattle.pool_machine.proofs.Queues.{head_of_queue}
+use Rattle.pool_machine.proofs.InvariantStep.{done_still}
 use Rattle.weights.specs.Ranks.{Ranks, level}
 use Rattle.soundness.specs.Drain.{of_submit, full_within, full, FullIsWhole, FullIsOfThePlan, stage_todo, todo, is_of_no_client}
 use Rattle.soundness.proofs.RankLaws.{RankLaws, rank_laws}

@@ -4,8 +4,8 @@ use Rattle.std.proofs.lemmas.List.{length-map}
 use Rattle.support.proofs.Sums.{sum_by-map}
 use Rattle.job_bodies.specs.Plan.{Plan}
 use Rattle.weights.specs.Ranks.{Ranks}
-use Rattle.written_machine.specs.declared.parent.Parent.{Parent}
-use Rattle.written_machine.specs.State.{State, CreatedJob, job_at}
+use Rattle.pool_machine.specs.declared.parent.Parent.{Parent}
+use Rattle.pool_machine.specs.State.{State, CreatedJob, job_at}
 use Rattle.soundness.specs.Drain.{stage_todo, todo}
 use Rattle.soundness.specs.Execute.{JavaState}
 use Rattle.soundness.specs.Exchange.{exchanged_job, after_exchange}

@@ -9,18 +9,18 @@ use Rattle.support.specs.Places.{last_of}
 use Rattle.support.proofs.PassingPlaces.{places_where-map, places_where-agree}
 use Rattle.support.proofs.Sums.{sum_by-map, count_by-map}
 use Rattle.job_bodies.specs.Plan.{Plan, pool_at}
-use Rattle.written_machine.specs.declared.parent.Parent.{Parent}
-use Rattle.written_machine.specs.declared.parent.Parent.TheVariants as parent
-use Rattle.written_machine.specs.State.{Stage, State, CreatedJob, no_job, same_parent, job_at, pool_part, threads, is_busy_in, is_queued_in, is_made_by, child}
-use Rattle.written_machine.specs.Step.{point, point_of_job}
-use Rattle.written_machine.specs.Laws.{HasGreaterNumber}
-use Rattle.written_machine.specs.JobsMade.{is_of_pool, jobs_made}
-use Rattle.written_machine.proofs.StateInvariant.{HasChild, StateInvariant, places, busy_jobs}
-use Rattle.written_machine.proofs.Stages.{HaveParents}
-use Rattle.written_machine.proofs.Children.{same_actor_true, same_actor_refl, maker_of, child_is}
-use Rattle.written_machine.proofs.PoolInvariants.{same_pool}
-use Rattle.written_machine.proofs.ActorInvariants.{actor_changed}
-use Rattle.written_machine.proofs.JobsMade.{HaveJobs}
+use Rattle.pool_machine.specs.declared.parent.Parent.{Parent}
+use Rattle.pool_machine.specs.declared.parent.Parent.TheVariants as parent
+use Rattle.pool_machine.specs.State.{Stage, State, CreatedJob, no_job, same_parent, job_at, pool_part, threads, is_busy_in, is_queued_in, is_made_by, child}
+use Rattle.pool_machine.specs.Step.{point, point_of_job}
+use Rattle.pool_machine.specs.Laws.{HasGreaterNumber}
+use Rattle.pool_machine.specs.JobsMade.{is_of_pool, jobs_made}
+use Rattle.pool_machine.proofs.StateInvariant.{HasChild, StateInvariant, places, busy_jobs}
+use Rattle.pool_machine.proofs.Stages.{HaveParents}
+use Rattle.pool_machine.proofs.Children.{same_actor_true, same_actor_refl, maker_of, child_is}
+use Rattle.pool_machine.proofs.PoolInvariants.{same_pool}
+use Rattle.pool_machine.proofs.ActorInvariants.{actor_changed}
+use Rattle.pool_machine.proofs.JobsMade.{HaveJobs}
 use Rattle.weights.specs.declared.get_return.GetReturn.{GetReturn}
 use Rattle.weights.specs.Vector.{Vector}
 use Rattle.soundness.specs.WeightedSum.{stage_weight}

@@ -4,8 +4,8 @@ use Rattle.std.proofs.Common.{◌≡◌, ℕ, List, Option, Some, subst}
 use Rattle.std.proofs.lemmas.Bool.{false_from_ne_true}
 use Rattle.job_bodies.specs.Plan.{Plan}
 use Rattle.job_bodies.proofs.Bodies.{HasValidBodies, ordered}
-use Rattle.written_machine.proofs.EnoughThreads.{have_threads_start}
-use Rattle.written_machine.specs.Reach.{start}
+use Rattle.pool_machine.proofs.EnoughThreads.{have_threads_start}
+use Rattle.pool_machine.specs.Reach.{start}
 use Rattle.weights.specs.declared.bound.Bound.{Bound}
 use Rattle.soundness.specs.Execute.{JavaState, JavaEvent, is_calling, java_step, without_calls}
 use Rattle.soundness.specs.JavaSafe.{JavaReaches}

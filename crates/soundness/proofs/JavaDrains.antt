@@ -6,9 +6,9 @@ use Rattle.std.proofs.lemmas.List.Sums.{sum_by-cons}
 use Rattle.std.proofs.lemmas.Option.{same_Some}
 use Rattle.job_bodies.specs.Plan.{Plan}
 use Rattle.job_bodies.proofs.Bodies.{HasValidBodies, ordered}
-use Rattle.written_machine.specs.State.{job_at, is_unfinished}
-use Rattle.written_machine.specs.Reach.{start}
-use Rattle.written_machine.proofs.Busy.{one_if}
+use Rattle.pool_machine.specs.State.{job_at, is_unfinished}
+use Rattle.pool_machine.specs.Reach.{start}
+use Rattle.pool_machine.proofs.Busy.{one_if}
 use Rattle.cert_text.specs.Cert.{Cert}
 use Rattle.soundness.specs.Drain.{todo}
 use Rattle.soundness.specs.Execute.{JavaState, JavaEvent, java_step, java_replay, without_calls}

@@ -11,17 +11,17 @@ use Rattle.pool_machine.specs.PoolState.{PoolView, room_limit, has_spare_worker}
 use Rattle.pool_machine.proofs.PoolEvents.{spare_worker_means}
 use Rattle.pool_machine.proofs.QueueLimits.{no_room_means}
 use Rattle.pool_machine.specs.declared.offer.Offer.TheVariants as offer
-use Rattle.written_machine.specs.declared.parent.Parent.{Parent}
-use Rattle.written_machine.specs.declared.parent.Parent.TheVariants as parent
-use Rattle.written_machine.specs.declared.event.Event.{Event}
-use Rattle.written_machine.specs.declared.event.Event.TheVariants as event
-use Rattle.written_machine.specs.declared.event.Outcome.{Outcome}
-use Rattle.written_machine.specs.declared.event.Outcome.TheVariants as outcome
-use Rattle.written_machine.specs.State.{State, same_parent, pool_part, pool_of, pool_seen, threads}
-use Rattle.written_machine.specs.Step.{Point, point, skipped, step_action, submitted, step_at_point, step}
-use Rattle.written_machine.proofs.Events.{IsAtAction, event_of, with_part, KeepsThreads, Happens, starts, queues, is_rejected, retires, stepped, HasNoRoom}
-use Rattle.written_machine.proofs.Children.{same_actor_true}
-use Rattle.written_machine.proofs.InvariantSubmits.{class_exists}
+use Rattle.pool_machine.specs.declared.parent.Parent.{Parent}
+use Rattle.pool_machine.specs.declared.parent.Parent.TheVariants as parent
+use Rattle.pool_machine.specs.declared.event.Event.{Event}
+use Rattle.pool_machine.specs.declared.event.Event.TheVariants as event
+use Rattle.pool_machine.specs.declared.event.Outcome.{Outcome}
+use Rattle.pool_machine.specs.declared.event.Outcome.TheVariants as outcome
+use Rattle.pool_machine.specs.State.{State, same_parent, pool_part, pool_of, pool_seen, threads}
+use Rattle.pool_machine.specs.Step.{Point, point, skipped, step_action, submitted, step_at_point, step}
+use Rattle.pool_machine.proofs.Events.{IsAtAction, event_of, with_part, KeepsThreads, Happens, starts, queues, is_rejected, retires, stepped, HasNoRoom}
+use Rattle.pool_machine.proofs.Children.{same_actor_true}
+use Rattle.pool_machine.proofs.InvariantSubmits.{class_exists}
 use Rattle.soundness.specs.Execute.{Call, JavaState, JavaEvent, is_looking, joined, looked_once, leaves, spares, timed_out_of, timed_out, after_timeout, is_calling, without_calls_of, answers, checks_core, offers_job, requests_thread, executes, Submission, submission_at, submission_of, submission, as_atomic, other_step, java_stepped, java_step}
 use Rattle.soundness.proofs.ThreadChanges.{IsLasting}
 

@@ -2,12 +2,12 @@
 use Rattle.std.proofs.Common.{◌≡◌, true, List, [], ◌∷◌, ◌++◌, Option, Some, None, is_some, refl, sym, subst}
 use Rattle.std.proofs.lemmas.Option.{same_Some}
 use Rattle.job_bodies.specs.Plan.{Plan}
-use Rattle.written_machine.specs.declared.event.Event.{Event}
-use Rattle.written_machine.specs.declared.event.Event.TheVariants as event
-use Rattle.written_machine.specs.declared.event.Outcome.{Outcome}
-use Rattle.written_machine.specs.State.{State}
-use Rattle.written_machine.specs.Step.{step}
-use Rattle.written_machine.specs.Safe.{is_of_job_or_pool}
+use Rattle.pool_machine.specs.declared.event.Event.{Event}
+use Rattle.pool_machine.specs.declared.event.Event.TheVariants as event
+use Rattle.pool_machine.specs.declared.event.Outcome.{Outcome}
+use Rattle.pool_machine.specs.State.{State}
+use Rattle.pool_machine.specs.Step.{step}
+use Rattle.pool_machine.specs.Safe.{is_of_job_or_pool}
 use Rattle.soundness.specs.Execute.{JavaState, JavaEvent, Submission, as_atomic, other_step, java_stepped, java_step, java_replay}
 
 -- ---- induction over events

@@ -3,13 +3,13 @@ use Rattle.std.proofs.Common.{◌≡◌, ℕ, ◌<◌, ◌≤◌, inl, inr, Bool
 use Rattle.std.proofs.lemmas.Bool.{false≢true, and_from, or_left, eq-eqb, lt-ltb, ltb-false}
 use Rattle.job_bodies.specs.Plan.{Plan, pool_at}
 use Rattle.job_bodies.proofs.Bodies.{HasValidBodies, ordered}
-use Rattle.written_machine.specs.State.{job_at, pool_of, pool_part, threads, is_queued, is_queued_in, is_unfinished}
-use Rattle.written_machine.specs.Reach.{start}
-use Rattle.written_machine.proofs.StateInvariant.{StateInvariant}
-use Rattle.written_machine.proofs.Positions.{job_made}
-use Rattle.written_machine.proofs.Queues.{Queued≢Claimed, queued_in_queue, pool_of_made}
-use Rattle.written_machine.proofs.EnoughThreads.{have_threads_start}
-use Rattle.written_machine.proofs.Progress.{makes_progress}
+use Rattle.pool_machine.specs.State.{job_at, pool_of, pool_part, threads, is_queued, is_queued_in, is_unfinished}
+use Rattle.pool_machine.specs.Reach.{start}
+use Rattle.pool_machine.proofs.StateInvariant.{StateInvariant}
+use Rattle.pool_machine.proofs.Positions.{job_made}
+use Rattle.pool_machine.proofs.Queues.{Queued≢Claimed, queued_in_queue, pool_of_made}
+use Rattle.pool_machine.proofs.EnoughThreads.{have_threads_start}
+use Rattle.pool_machine.proofs.Progress.{makes_progress}
 use Rattle.soundness.specs.Execute.{JavaState, JavaEvent, is_looking, looked_once, submission, java_step, without_calls}
 use Rattle.soundness.specs.JavaSafe.{JavaReaches, NoneLooks, IsJavaSafe, JavaCanProgress}
 use Rattle.soundness.proofs.JavaEvents.{JavaHappens, with_spare_thread, java_happens}

@@ -5,19 +5,19 @@ use Rattle.std.proofs.lemmas.List.{get_or-set_other, get_or_append_left}
 use Rattle.job_bodies.specs.declared.action.Action.{Action}
 use Rattle.job_bodies.specs.declared.action.Action.TheVariants as action
 use Rattle.job_bodies.specs.Plan.{Plan, class_at}
-use Rattle.written_machine.specs.declared.parent.Parent.{Parent}
-use Rattle.written_machine.specs.declared.parent.Parent.TheVariants as parent
-use Rattle.written_machine.specs.declared.event.Event.{Event}
-use Rattle.written_machine.specs.declared.event.Event.TheVariants as event
-use Rattle.written_machine.specs.declared.event.Outcome.{Outcome}
-use Rattle.written_machine.specs.State.{Stage, State, CreatedJob, no_job, same_parent, job_at, pool_of}
-use Rattle.written_machine.specs.Step.{point_of_job, moved_jobs, new_job}
-use Rattle.written_machine.proofs.Events.{IsAtAction, event_of, Happens, works, starts, queues, is_refused, is_rejected, gets, finishes, loops, takes, retires}
-use Rattle.written_machine.proofs.Positions.{stage_of_standing, job_made}
-use Rattle.written_machine.proofs.StateInvariant.{StateInvariant}
-use Rattle.written_machine.proofs.Stages.{length-moved, get_or-staged_other}
-use Rattle.written_machine.proofs.Queues.{head_of_queue}
-use Rattle.written_machine.proofs.Children.{same_actor_refl}
+use Rattle.pool_machine.specs.declared.parent.Parent.{Parent}
+use Rattle.pool_machine.specs.declared.parent.Parent.TheVariants as parent
+use Rattle.pool_machine.specs.declared.event.Event.{Event}
+use Rattle.pool_machine.specs.declared.event.Event.TheVariants as event
+use Rattle.pool_machine.specs.declared.event.Outcome.{Outcome}
+use Rattle.pool_machine.specs.State.{Stage, State, CreatedJob, no_job, same_parent, job_at, pool_of}
+use Rattle.pool_machine.specs.Step.{point_of_job, moved_jobs, new_job}
+use Rattle.pool_machine.proofs.Events.{IsAtAction, event_of, Happens, works, starts, queues, is_refused, is_rejected, gets, finishes, loops, takes, retires}
+use Rattle.pool_machine.proofs.Positions.{stage_of_standing, job_made}
+use Rattle.pool_machine.proofs.StateInvariant.{StateInvariant}
+use Rattle.pool_machine.proofs.Stages.{length-moved, get_or-staged_other}
+use Rattle.pool_machine.proofs.Queues.{head_of_queue}
+use Rattle.pool_machine.proofs.Children.{same_actor_refl}
 use Rattle.soundness.specs.Execute.{Call, JavaState, JavaEvent, is_calling, without_calls, without_calls_of, submission_at, submission_of, submission}
 use Rattle.soundness.proofs.JavaEvents.{JavaHappens, is_atomic, ends, finds_core, finds_full, finds_all, is_enough, starts_spare, call_of_others, one_more}
 

@@ -3,13 +3,13 @@ use Rattle.std.proofs.Common.{◌≡◌, ◌≢◌, ℕ, ◌<◌, ◌≤◌, ◌
 use Rattle.std.proofs.lemmas.Bool.{false≢true, or_cases, or_left, or_right, cases_eq, eqb-true}
 use Rattle.job_bodies.specs.Plan.{Plan, pool_at}
 use Rattle.job_bodies.proofs.Bodies.{HasValidBodies}
-use Rattle.written_machine.specs.declared.event.Event.{Event}
-use Rattle.written_machine.specs.declared.event.Outcome.{Outcome}
-use Rattle.written_machine.specs.State.{State, pool_part, threads}
-use Rattle.written_machine.specs.Laws.{HasThreads}
-use Rattle.written_machine.proofs.Events.{KeepsThreads, Happens}
-use Rattle.written_machine.proofs.StateInvariant.{StateInvariant}
-use Rattle.written_machine.proofs.EnoughThreads.{one_is_enough, threads_step}
+use Rattle.pool_machine.specs.declared.event.Event.{Event}
+use Rattle.pool_machine.specs.declared.event.Outcome.{Outcome}
+use Rattle.pool_machine.specs.State.{State, pool_part, threads}
+use Rattle.pool_machine.specs.Laws.{HasThreads}
+use Rattle.pool_machine.proofs.Events.{KeepsThreads, Happens}
+use Rattle.pool_machine.proofs.StateInvariant.{StateInvariant}
+use Rattle.pool_machine.proofs.EnoughThreads.{one_is_enough, threads_step}
 use Rattle.soundness.specs.Execute.{JavaState, is_looking, looked_once}
 use Rattle.soundness.proofs.ThreadChanges.{IsLasting}
 use Rattle.soundness.proofs.JavaEvents.{Looks, with_spare_thread}

@@ -4,12 +4,12 @@ use Rattle.job_bodies.specs.declared.action.Action.{Action}
 use Rattle.job_bodies.specs.declared.action.Action.TheVariants as action
 use Rattle.job_bodies.specs.Plan.{Plan, pool_at}
 use Rattle.job_bodies.proofs.Bodies.{HasValidBodies, ordered}
-use Rattle.written_machine.specs.declared.parent.Parent.{Parent}
-use Rattle.written_machine.specs.State.{State, pool_of, pool_part, threads}
-use Rattle.written_machine.proofs.Events.{IsAtAction, HasNoRoom}
-use Rattle.written_machine.proofs.StateInvariant.{StateInvariant}
-use Rattle.written_machine.proofs.InvariantSubmits.{class_exists}
-use Rattle.written_machine.proofs.JobsMade.{HaveJobs}
+use Rattle.pool_machine.specs.declared.parent.Parent.{Parent}
+use Rattle.pool_machine.specs.State.{State, pool_of, pool_part, threads}
+use Rattle.pool_machine.proofs.Events.{IsAtAction, HasNoRoom}
+use Rattle.pool_machine.proofs.StateInvariant.{StateInvariant}
+use Rattle.pool_machine.proofs.InvariantSubmits.{class_exists}
+use Rattle.pool_machine.proofs.JobsMade.{HaveJobs}
 use Rattle.weights.specs.declared.bound.Bound.{Bound}
 use Rattle.soundness.specs.Headline.{bound_of, AcceptedBoundsNeverReject, AcceptedBoundsNeverDecline}
 use Rattle.soundness.proofs.NoRefusal.{not_refused}

@@ -9,21 +9,21 @@ use Rattle.job_bodies.specs.declared.action.Action.{Action}
 use Rattle.job_bodies.specs.declared.action.Action.TheVariants as action
 use Rattle.job_bodies.specs.Plan.{Client, Plan, class_at, client_at, submitted_class}
 use Rattle.job_bodies.proofs.Bodies.{HasValidBodies}
-use Rattle.written_machine.specs.declared.client_state.ClientState.{ClientState}
-use Rattle.written_machine.specs.declared.parent.Parent.{Parent}
-use Rattle.written_machine.specs.declared.parent.Parent.TheVariants as parent
-use Rattle.written_machine.specs.declared.event.Event.{Event}
-use Rattle.written_machine.specs.declared.event.Outcome.{Outcome}
-use Rattle.written_machine.specs.State.{Stage, State, CreatedJob, no_job, no_client_state, job_at, client_state, pool_part, pool_of, is_at, child}
-use Rattle.written_machine.specs.Step.{point, with_stage, with_position, with_job, new_job, skipped, finished_job}
-use Rattle.written_machine.specs.Reach.{new_clients, start}
-use Rattle.written_machine.proofs.Events.{IsAtAction, with_part, queued_state, Happens, works, starts, queues, is_refused, is_rejected, gets, finishes, loops, takes, retires}
-use Rattle.written_machine.proofs.Positions.{stage_of_standing, job_made, standing_made, client_standing, job_at-with_position}
-use Rattle.written_machine.proofs.StateInvariant.{StateInvariant}
-use Rattle.written_machine.proofs.Stages.{staged}
-use Rattle.written_machine.proofs.Queues.{head_of_queue}
-use Rattle.written_machine.proofs.InvariantSubmits.{class_exists}
-use Rattle.written_machine.proofs.ReachedLaws.{child_at_get}
+use Rattle.pool_machine.specs.declared.client_state.ClientState.{ClientState}
+use Rattle.pool_machine.specs.declared.parent.Parent.{Parent}
+use Rattle.pool_machine.specs.declared.parent.Parent.TheVariants as parent
+use Rattle.pool_machine.specs.declared.event.Event.{Event}
+use Rattle.pool_machine.specs.declared.event.Outcome.{Outcome}
+use Rattle.pool_machine.specs.State.{Stage, State, CreatedJob, no_job, no_client_state, job_at, client_state, pool_part, pool_of, is_at, child}
+use Rattle.pool_machine.specs.Step.{point, with_stage, with_position, with_job, new_job, skipped, finished_job}
+use Rattle.pool_machine.specs.Reach.{new_clients, start}
+use Rattle.pool_machine.proofs.Events.{IsAtAction, with_part, queued_state, Happens, works, starts, queues, is_refused, is_rejected, gets, finishes, loops, takes, retires}
+use Rattle.pool_machine.proofs.Positions.{stage_of_standing, job_made, standing_made, client_standing, job_at-with_position}
+use Rattle.pool_machine.proofs.StateInvariant.{StateInvariant}
+use Rattle.pool_machine.proofs.Stages.{staged}
+use Rattle.pool_machine.proofs.Queues.{head_of_queue}
+use Rattle.pool_machine.proofs.InvariantSubmits.{class_exists}
+use Rattle.pool_machine.proofs.ReachedLaws.{child_at_get}
 use Rattle.weights.specs.declared.get_return.GetReturn.{GetReturn}
 use Rattle.weights.specs.declared.get_return.GetReturn.TheVariants.{DoneWeight, NoWeight}
 use Rattle.weights.specs.Vector.{Vector, workers_weight, queued_weight, job_weight, done_weight, client_weight}

@@ -9,20 +9,20 @@ use Rattle.job_bodies.specs.declared.action.Action.{Action}
 use Rattle.job_bodies.specs.declared.action.Action.TheVariants as action
 use Rattle.job_bodies.specs.Plan.{Pool, Plan, pool_at, class_at, first_workers}
 use Rattle.job_bodies.proofs.Bodies.{HasValidBodies}
-use Rattle.written_machine.specs.declared.parent.Parent.{Parent}
-use Rattle.written_machine.specs.declared.parent.Parent.TheVariants as parent
-use Rattle.written_machine.specs.declared.event.Event.{Event}
-use Rattle.written_machine.specs.declared.event.Outcome.TheVariants as outcome
-use Rattle.written_machine.specs.State.{Stage, State, CreatedJob, no_job, job_at, pool_part, pool_of, is_queued, is_queued_in, threads}
-use Rattle.written_machine.specs.Step.{point_of_job, with_position, new_job, moved_jobs}
-use Rattle.written_machine.specs.JobsMade.{is_of_pool, jobs_made}
-use Rattle.written_machine.proofs.Events.{IsAtAction, Happens, is_refused, HasNoRoom}
-use Rattle.written_machine.proofs.StateInvariant.{StateInvariant}
-use Rattle.written_machine.proofs.Stages.{HaveClasses, classes_moved}
-use Rattle.written_machine.proofs.Queues.{queued_stage, places-moved}
-use Rattle.written_machine.proofs.Actors.{standing-moved}
-use Rattle.written_machine.proofs.InvariantSubmits.{class_exists}
-use Rattle.written_machine.proofs.JobsMade.{made_jobs, made_jobs-moved, queue-le_made, HaveJobs}
+use Rattle.pool_machine.specs.declared.parent.Parent.{Parent}
+use Rattle.pool_machine.specs.declared.parent.Parent.TheVariants as parent
+use Rattle.pool_machine.specs.declared.event.Event.{Event}
+use Rattle.pool_machine.specs.declared.event.Outcome.TheVariants as outcome
+use Rattle.pool_machine.specs.State.{Stage, State, CreatedJob, no_job, job_at, pool_part, pool_of, is_queued, is_queued_in, threads}
+use Rattle.pool_machine.specs.Step.{point_of_job, with_position, new_job, moved_jobs}
+use Rattle.pool_machine.specs.JobsMade.{is_of_pool, jobs_made}
+use Rattle.pool_machine.proofs.Events.{IsAtAction, Happens, is_refused, HasNoRoom}
+use Rattle.pool_machine.proofs.StateInvariant.{StateInvariant}
+use Rattle.pool_machine.proofs.Stages.{HaveClasses, classes_moved}
+use Rattle.pool_machine.proofs.Queues.{queued_stage, places-moved}
+use Rattle.pool_machine.proofs.Actors.{standing-moved}
+use Rattle.pool_machine.proofs.InvariantSubmits.{class_exists}
+use Rattle.pool_machine.proofs.JobsMade.{made_jobs, made_jobs-moved, queue-le_made, HaveJobs}
 use Rattle.weights.specs.declared.get_return.GetReturn.{GetReturn}
 use Rattle.weights.specs.declared.get_return.GetReturn.TheVariants.{DoneWeight, NoWeight}
 use Rattle.weights.specs.declared.bound.Bound.{Bound}

@@ -5,16 +5,16 @@ use Rattle.support.proofs.PassingPlaces.{length-places}
 use Rattle.job_bodies.specs.Plan.{Plan}
 use Rattle.job_bodies.specs.WellFormed.{IsWellFormed}
 use Rattle.job_bodies.proofs.Bodies.{ordered}
-use Rattle.written_machine.specs.declared.event.Outcome.TheVariants as outcome
-use Rattle.written_machine.specs.State.{State, pool_part, is_queued_in}
-use Rattle.written_machine.specs.Reach.{IsReached}
-use Rattle.written_machine.proofs.Events.{happens}
-use Rattle.written_machine.proofs.StateInvariant.{StateInvariant}
-use Rattle.written_machine.proofs.InvariantAtStart.{kept_start}
-use Rattle.written_machine.proofs.InvariantStep.{kept_step}
-use Rattle.written_machine.proofs.Reached.{reached_keeps, kept}
-use Rattle.written_machine.proofs.ReachedLaws.{threads_have_made}
-use Rattle.written_machine.proofs.JobsMade.{HaveJobs}
+use Rattle.pool_machine.specs.declared.event.Outcome.TheVariants as outcome
+use Rattle.pool_machine.specs.State.{State, pool_part, is_queued_in}
+use Rattle.pool_machine.specs.Reach.{IsReached}
+use Rattle.pool_machine.proofs.Events.{happens}
+use Rattle.pool_machine.proofs.StateInvariant.{StateInvariant}
+use Rattle.pool_machine.proofs.InvariantAtStart.{kept_start}
+use Rattle.pool_machine.proofs.InvariantStep.{kept_step}
+use Rattle.pool_machine.proofs.Reached.{reached_keeps, kept}
+use Rattle.pool_machine.proofs.ReachedLaws.{threads_have_made}
+use Rattle.pool_machine.proofs.JobsMade.{HaveJobs}
 use Rattle.weights.specs.declared.get_return.GetReturn.{GetReturn}
 use Rattle.weights.specs.declared.get_return.GetReturn.TheVariants.{DoneWeight, NoWeight}
 use Rattle.weights.specs.Vector.{Vector}

@@ -8,14 +8,14 @@ use Rattle.pool_machine.specs.declared.offer.Offer.{Offer}
 use Rattle.pool_machine.specs.declared.offer.Offer.TheVariants as offer
 use Rattle.pool_machine.specs.PoolState.{answer}
 use Rattle.pool_machine.proofs.PoolEvents.{refused_when_full}
-use Rattle.written_machine.specs.declared.parent.Parent.{Parent}
-use Rattle.written_machine.specs.declared.parent.Parent.TheVariants as parent
-use Rattle.written_machine.specs.declared.event.Event.{Event}
-use Rattle.written_machine.specs.declared.event.Outcome.{Outcome}
-use Rattle.written_machine.specs.declared.event.Outcome.TheVariants as outcome
-use Rattle.written_machine.specs.State.{State, pool_of, pool_part, pool_seen, threads}
-use Rattle.written_machine.specs.Step.{point, answered, submitted, step_action, step_at_point, step}
-use Rattle.written_machine.proofs.Events.{IsAtAction, event_of, Happens, is_rejected, happens, HasNoRoom}
+use Rattle.pool_machine.specs.declared.parent.Parent.{Parent}
+use Rattle.pool_machine.specs.declared.parent.Parent.TheVariants as parent
+use Rattle.pool_machine.specs.declared.event.Event.{Event}
+use Rattle.pool_machine.specs.declared.event.Outcome.{Outcome}
+use Rattle.pool_machine.specs.declared.event.Outcome.TheVariants as outcome
+use Rattle.pool_machine.specs.State.{State, pool_of, pool_part, pool_seen, threads}
+use Rattle.pool_machine.specs.Step.{point, answered, submitted, step_action, step_at_point, step}
+use Rattle.pool_machine.proofs.Events.{IsAtAction, event_of, Happens, is_rejected, happens, HasNoRoom}
 
 -- the pool that rejected a job in the event with this outcome
 abbrev rejecting_pool : Outcome → Option ℕ

@@ -6,15 +6,15 @@ use Rattle.job_bodies.specs.declared.action.Action.{Action}
 use Rattle.job_bodies.specs.declared.action.Action.TheVariants as action
 use Rattle.job_bodies.specs.Plan.{Plan}
 use Rattle.weights.specs.Ranks.{Ranks}
-use Rattle.written_machine.specs.declared.parent.Parent.{Parent}
-use Rattle.written_machine.specs.declared.parent.Parent.TheVariants as parent
-use Rattle.written_machine.specs.declared.event.Event.{Event}
-use Rattle.written_machine.specs.State.{Stage, State, job_at, pool_of}
-use Rattle.written_machine.specs.Step.{new_job, skipped, moved_jobs}
-use Rattle.written_machine.specs.Safe.{is_of_job_or_pool}
-use Rattle.written_machine.proofs.Events.{IsAtAction, event_of}
-use Rattle.written_machine.proofs.Positions.{job_made}
-use Rattle.written_machine.proofs.Stages.{length-moved}
+use Rattle.pool_machine.specs.declared.parent.Parent.{Parent}
+use Rattle.pool_machine.specs.declared.parent.Parent.TheVariants as parent
+use Rattle.pool_machine.specs.declared.event.Event.{Event}
+use Rattle.pool_machine.specs.State.{Stage, State, job_at, pool_of}
+use Rattle.pool_machine.specs.Step.{new_job, skipped, moved_jobs}
+use Rattle.pool_machine.specs.Safe.{is_of_job_or_pool}
+use Rattle.pool_machine.proofs.Events.{IsAtAction, event_of}
+use Rattle.pool_machine.proofs.Positions.{job_made}
+use Rattle.pool_machine.proofs.Stages.{length-moved}
 use Rattle.soundness.specs.Drain.{todo}
 use Rattle.soundness.proofs.Draining.{lowers_skips, ends_thread}
 use Rattle.soundness.specs.Execute.{Call, JavaState, is_calling}

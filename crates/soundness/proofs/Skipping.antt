@@ -6,15 +6,15 @@ use Rattle.job_bodies.specs.declared.action.Action.TheVariants as action
 use Rattle.job_bodies.specs.Plan.{Plan}
 use Rattle.job_bodies.proofs.Bodies.{HasValidBodies, ordered}
 use Rattle.weights.specs.Ranks.{Ranks}
-use Rattle.written_machine.specs.declared.parent.Parent.{Parent}
-use Rattle.written_machine.specs.declared.event.Event.{Event}
-use Rattle.written_machine.specs.State.{Stage, State}
-use Rattle.written_machine.specs.Step.{skipped}
-use Rattle.written_machine.specs.Reach.{start}
-use Rattle.written_machine.proofs.Events.{IsAtAction}
-use Rattle.written_machine.proofs.InvariantSubmits.{class_exists, kept_skips}
-use Rattle.written_machine.proofs.JobsMade.{have_jobs_skips}
-use Rattle.written_machine.proofs.EnoughThreads.{enough_submitted}
+use Rattle.pool_machine.specs.declared.parent.Parent.{Parent}
+use Rattle.pool_machine.specs.declared.event.Event.{Event}
+use Rattle.pool_machine.specs.State.{Stage, State}
+use Rattle.pool_machine.specs.Step.{skipped}
+use Rattle.pool_machine.specs.Reach.{start}
+use Rattle.pool_machine.proofs.Events.{IsAtAction}
+use Rattle.pool_machine.proofs.InvariantSubmits.{class_exists, kept_skips}
+use Rattle.pool_machine.proofs.JobsMade.{have_jobs_skips}
+use Rattle.pool_machine.proofs.EnoughThreads.{enough_submitted}
 use Rattle.weights.specs.declared.get_return.GetReturn.{GetReturn}
 use Rattle.weights.specs.declared.get_return.GetReturn.TheVariants.{DoneWeight}
 use Rattle.weights.specs.declared.bound.Bound.{Bound}

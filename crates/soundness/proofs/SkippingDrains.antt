@@ -6,10 +6,10 @@ use Rattle.std.proofs.lemmas.List.Sums.{sum_by-cons}
 use Rattle.std.proofs.lemmas.Option.{same_Some}
 use Rattle.job_bodies.specs.Plan.{Plan}
 use Rattle.job_bodies.proofs.Bodies.{HasValidBodies, ordered}
-use Rattle.written_machine.specs.State.{job_at, is_unfinished}
-use Rattle.written_machine.specs.Reach.{start}
-use Rattle.written_machine.specs.Safe.{is_of_job_or_pool}
-use Rattle.written_machine.proofs.Busy.{one_if}
+use Rattle.pool_machine.specs.State.{job_at, is_unfinished}
+use Rattle.pool_machine.specs.Reach.{start}
+use Rattle.pool_machine.specs.Safe.{is_of_job_or_pool}
+use Rattle.pool_machine.proofs.Busy.{one_if}
 use Rattle.cert_text.specs.Cert.{Cert}
 use Rattle.soundness.proofs.Draining.{ends_thread, no_client_cases}
 use Rattle.soundness.specs.Execute.{JavaState, JavaEvent, java_step, without_calls}

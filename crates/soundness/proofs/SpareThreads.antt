@@ -4,14 +4,14 @@ use Rattle.std.proofs.lemmas.Bool.{false≢true, cases_lt}
 use Rattle.std.proofs.lemmas.List.{length-set, get_or-set_same, get_or_past}
 use Rattle.job_bodies.specs.Plan.{Plan, Pool, no_pool, pool_at, least_threads, first_workers}
 use Rattle.pool_machine.proofs.QueueLimits.{still_within}
-use Rattle.written_machine.specs.State.{State, PoolPart, no_pool_part, pool_part, threads}
-use Rattle.written_machine.specs.Laws.{HasThreads}
-use Rattle.written_machine.specs.JobsMade.{jobs_made}
-use Rattle.written_machine.proofs.StateInvariant.{PoolInvariant, StateInvariant, places, busy_jobs}
-use Rattle.written_machine.proofs.PoolInvariants.{HasPoolInvariant, pools_with_part}
-use Rattle.written_machine.proofs.Actors.{point_same}
-use Rattle.written_machine.proofs.Preserves.{idle_elsewhere}
-use Rattle.written_machine.proofs.JobsMade.{HaveJobs}
+use Rattle.pool_machine.specs.State.{State, PoolPart, no_pool_part, pool_part, threads}
+use Rattle.pool_machine.specs.Laws.{HasThreads}
+use Rattle.pool_machine.specs.JobsMade.{jobs_made}
+use Rattle.pool_machine.proofs.StateInvariant.{PoolInvariant, StateInvariant, places, busy_jobs}
+use Rattle.pool_machine.proofs.PoolInvariants.{HasPoolInvariant, pools_with_part}
+use Rattle.pool_machine.proofs.Actors.{point_same}
+use Rattle.pool_machine.proofs.Preserves.{idle_elsewhere}
+use Rattle.pool_machine.proofs.JobsMade.{HaveJobs}
 use Rattle.soundness.proofs.ThreadChanges.{IsLasting}
 use Rattle.soundness.proofs.JavaEvents.{with_spare_thread}
 

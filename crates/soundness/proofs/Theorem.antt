@@ -6,20 +6,20 @@ use Rattle.std.proofs.lemmas.List.Sums.{sum_by-cons}
 use Rattle.job_bodies.specs.Plan.{Plan, pool_at}
 use Rattle.job_bodies.specs.WellFormed.{IsWellFormed}
 use Rattle.job_bodies.proofs.Bodies.{HasValidBodies, ordered}
-use Rattle.written_machine.specs.declared.event.Event.{Event}
-use Rattle.written_machine.specs.declared.event.Outcome.{Outcome}
-use Rattle.written_machine.specs.State.{State, job_at, threads, is_unfinished}
-use Rattle.written_machine.specs.Step.{step}
-use Rattle.written_machine.specs.Reach.{start, state_after, replay, IsReached}
-use Rattle.written_machine.specs.Waiting.{IsWaitingSet}
-use Rattle.written_machine.specs.LooseWaiting.{IsLooseWaitingSet}
-use Rattle.written_machine.specs.Safe.{IsSafe, Safe, is_of_job_or_pool, MakesProgress}
-use Rattle.written_machine.proofs.Busy.{one_if}
-use Rattle.written_machine.proofs.Events.{Happens, happens}
-use Rattle.written_machine.proofs.LooseWaitingSets.{waiting_is_loose}
-use Rattle.written_machine.proofs.Reached.{replay_none, replay_keeps, reached_keeps, have_threads, have_threads_after}
-use Rattle.written_machine.proofs.EnoughThreads.{HaveThreads}
-use Rattle.written_machine.proofs.Progress.{makes_progress}
+use Rattle.pool_machine.specs.declared.event.Event.{Event}
+use Rattle.pool_machine.specs.declared.event.Outcome.{Outcome}
+use Rattle.pool_machine.specs.State.{State, job_at, threads, is_unfinished}
+use Rattle.pool_machine.specs.Step.{step}
+use Rattle.pool_machine.specs.Reach.{start, state_after, replay, IsReached}
+use Rattle.pool_machine.specs.Waiting.{IsWaitingSet}
+use Rattle.pool_machine.specs.LooseWaiting.{IsLooseWaitingSet}
+use Rattle.pool_machine.specs.Safe.{IsSafe, Safe, is_of_job_or_pool, MakesProgress}
+use Rattle.pool_machine.proofs.Busy.{one_if}
+use Rattle.pool_machine.proofs.Events.{Happens, happens}
+use Rattle.pool_machine.proofs.LooseWaitingSets.{waiting_is_loose}
+use Rattle.pool_machine.proofs.Reached.{replay_none, replay_keeps, reached_keeps, have_threads, have_threads_after}
+use Rattle.pool_machine.proofs.EnoughThreads.{HaveThreads}
+use Rattle.pool_machine.proofs.Progress.{makes_progress}
 use Rattle.weights.specs.declared.bound.Bound.{Bound}
 use Rattle.weights.specs.Bound.{bound_vector, bound_get_return}
 use Rattle.weights.specs.declared.get_return.GetReturn.TheVariants.{DoneWeight}

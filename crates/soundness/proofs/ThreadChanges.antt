@@ -5,21 +5,21 @@ use Rattle.std.proofs.lemmas.Bool.{false≢true}
 use Rattle.job_bodies.specs.declared.action.Action.{Action}
 use Rattle.job_bodies.specs.Plan.{Plan, pool_at}
 use Rattle.pool_machine.proofs.PoolEvents.{HasSpareThread}
-use Rattle.written_machine.specs.declared.parent.Parent.{Parent}
-use Rattle.written_machine.specs.declared.parent.Parent.TheVariants as parent
-use Rattle.written_machine.specs.declared.event.Event.{Event}
-use Rattle.written_machine.specs.declared.event.Outcome.{Outcome}
-use Rattle.written_machine.specs.State.{Stage, State, CreatedJob, PoolPart, job_at, pool_part, pool_of, pool_seen, is_at, threads}
-use Rattle.written_machine.specs.Step.{point, with_position, new_job, moved_jobs}
-use Rattle.written_machine.proofs.Events.{with_part, KeepsThreads, Happens, works, starts, queues, is_refused, is_rejected, gets, finishes, loops, takes, retires}
-use Rattle.written_machine.proofs.Positions.{stage_of_standing, standing_made}
-use Rattle.written_machine.proofs.StateInvariant.{StateInvariant, busy_jobs}
-use Rattle.written_machine.proofs.Stages.{staged}
-use Rattle.written_machine.proofs.Queues.{head_of_queue}
-use Rattle.written_machine.proofs.Busy.{one_if, busy_in-as, busy-staged_same, busy-staged_elsewhere, busy-staged_here, busy-moved, busy_push, busy_push_same}
-use Rattle.written_machine.proofs.PoolInvariants.{pools_with_part}
-use Rattle.written_machine.proofs.InvariantStep.{done_still}
-use Rattle.written_machine.proofs.JobsMade.{made_jobs, made_jobs-staged, made_jobs-moved, made_jobs_push}
+use Rattle.pool_machine.specs.declared.parent.Parent.{Parent}
+use Rattle.pool_machine.specs.declared.parent.Parent.TheVariants as parent
+use Rattle.pool_machine.specs.declared.event.Event.{Event}
+use Rattle.pool_machine.specs.declared.event.Outcome.{Outcome}
+use Rattle.pool_machine.specs.State.{Stage, State, CreatedJob, PoolPart, job_at, pool_part, pool_of, pool_seen, is_at, threads}
+use Rattle.pool_machine.specs.Step.{point, with_position, new_job, moved_jobs}
+use Rattle.pool_machine.proofs.Events.{with_part, KeepsThreads, Happens, works, starts, queues, is_refused, is_rejected, gets, finishes, loops, takes, retires}
+use Rattle.pool_machine.proofs.Positions.{stage_of_standing, standing_made}
+use Rattle.pool_machine.proofs.StateInvariant.{StateInvariant, busy_jobs}
+use Rattle.pool_machine.proofs.Stages.{staged}
+use Rattle.pool_machine.proofs.Queues.{head_of_queue}
+use Rattle.pool_machine.proofs.Busy.{one_if, busy_in-as, busy-staged_same, busy-staged_elsewhere, busy-staged_here, busy-moved, busy_push, busy_push_same}
+use Rattle.pool_machine.proofs.PoolInvariants.{pools_with_part}
+use Rattle.pool_machine.proofs.InvariantStep.{done_still}
+use Rattle.pool_machine.proofs.JobsMade.{made_jobs, made_jobs-staged, made_jobs-moved, made_jobs_push}
 
 -- the core threads of pool p never time out
 abbrev pub IsLasting : Plan → ℕ → Type 0

@@ -10,13 +10,13 @@ use Rattle.support.proofs.Members.{All-at_In}
 use Rattle.support.proofs.Sums.{sum_by-agree, sum_by-add, sum_by-le-within}
 use Rattle.job_bodies.specs.Plan.{Pool, Plan, no_pool, pool_at}
 use Rattle.job_bodies.proofs.Bodies.{HasValidBodies}
-use Rattle.written_machine.specs.declared.event.Event.{Event}
-use Rattle.written_machine.specs.declared.event.Outcome.{Outcome}
-use Rattle.written_machine.specs.State.{State, CreatedJob, pool_of, is_at, is_busy_in, busy}
-use Rattle.written_machine.proofs.Events.{Happens}
-use Rattle.written_machine.proofs.StateInvariant.{StateInvariant, busy_jobs}
-use Rattle.written_machine.proofs.Busy.{one_if}
-use Rattle.written_machine.proofs.InvariantStep.{kept_step}
+use Rattle.pool_machine.specs.declared.event.Event.{Event}
+use Rattle.pool_machine.specs.declared.event.Outcome.{Outcome}
+use Rattle.pool_machine.specs.State.{State, CreatedJob, pool_of, is_at, is_busy_in, busy}
+use Rattle.pool_machine.proofs.Events.{Happens}
+use Rattle.pool_machine.proofs.StateInvariant.{StateInvariant, busy_jobs}
+use Rattle.pool_machine.proofs.Busy.{one_if}
+use Rattle.pool_machine.proofs.InvariantStep.{kept_step}
 use Rattle.weights.specs.declared.get_return.GetReturn.{GetReturn}
 use Rattle.weights.specs.Vector.{Vector, workers_weight, total}
 use Rattle.soundness.specs.WeightedSum.{sum_of}

@@ -3,11 +3,11 @@ use Rattle.std.proofs.Common.{◌≡◌, ℕ, List, [], ◌∷◌, ◌++◌, map
 use Rattle.std.specs.Option.{option_map}
 use Rattle.job_bodies.specs.declared.action.Action.TheVariants.{Work, Submit, Get}
 use Rattle.job_bodies.specs.Plan.{Plan, Pool}
-use Rattle.written_machine.specs.declared.event.Event.TheVariants as event
-use Rattle.written_machine.specs.declared.parent.Parent.TheVariants as parent
-use Rattle.written_machine.specs.State.{Stage, child}
-use Rattle.written_machine.specs.Reach.{start}
-use Rattle.written_machine.specs.Waiting.{is_waiting_set}
+use Rattle.pool_machine.specs.declared.event.Event.TheVariants as event
+use Rattle.pool_machine.specs.declared.parent.Parent.TheVariants as parent
+use Rattle.pool_machine.specs.State.{Stage, child}
+use Rattle.pool_machine.specs.Reach.{start}
+use Rattle.pool_machine.specs.Waiting.{is_waiting_set}
 use Rattle.soundness.specs.Execute.{JavaState, JavaEvent, java_step, without_calls}
 use Rattle.soundness.specs.Exchange.{after_exchange}
 use Rattle.soundness.specs.Skipping.{Choice, choices_replay}

@@ -4,9 +4,9 @@ use Rattle.std.specs.Option.{option_map, unwrap_or}
 use Rattle.job_bodies.specs.declared.action.Action.TheVariants.{Work, Submit}
 use Rattle.job_bodies.specs.Plan.{Plan}
 use Rattle.job_bodies.specs.WellFormed.{IsWellFormed}
-use Rattle.written_machine.specs.declared.event.Event.TheVariants as event
-use Rattle.written_machine.specs.State.{pool_part, threads}
-use Rattle.written_machine.specs.Reach.{start}
+use Rattle.pool_machine.specs.declared.event.Event.TheVariants as event
+use Rattle.pool_machine.specs.State.{pool_part, threads}
+use Rattle.pool_machine.specs.Reach.{start}
 use Rattle.soundness.specs.Execute.{JavaState, JavaEvent, java_replay, without_calls}
 use Rattle.soundness.specs.WithRoom.{WithRoom, RefusedWithRoom, StartedWithRoom}
 

@@ -4,10 +4,10 @@ use Rattle.std.specs.List.{count_by}
 use Rattle.std.specs.Option.{option_map}
 use Rattle.job_bodies.specs.declared.action.Action.TheVariants.{Work, Submit, Get}
 use Rattle.job_bodies.specs.Plan.{Plan, Pool}
-use Rattle.written_machine.specs.declared.event.Event.TheVariants as event
-use Rattle.written_machine.specs.State.{PoolPart, is_at, is_unfinished}
-use Rattle.written_machine.specs.Reach.{start}
-use Rattle.written_machine.specs.Waiting.{is_waiting_set}
+use Rattle.pool_machine.specs.declared.event.Event.TheVariants as event
+use Rattle.pool_machine.specs.State.{PoolPart, is_at, is_unfinished}
+use Rattle.pool_machine.specs.Reach.{start}
+use Rattle.pool_machine.specs.Waiting.{is_waiting_set}
 use Rattle.soundness.specs.Execute.{JavaState, without_calls}
 use Rattle.soundness.specs.Skipping.{Choice, choices_replay}
 use Rattle.soundness.specs.Skipping.Choice.{Acts, Skips, Misses}

@@ -3,10 +3,10 @@ use Rattle.std.proofs.Common.{◌≡◌, ℕ, List, [], ◌∷◌, ◌++◌, len
 use Rattle.std.specs.Option.{option_map}
 use Rattle.job_bodies.specs.declared.action.Action.TheVariants.{Work, Submit}
 use Rattle.job_bodies.specs.Plan.{Plan}
-use Rattle.written_machine.specs.declared.event.Event.TheVariants as event
-use Rattle.written_machine.specs.State.{pool_part, threads}
-use Rattle.written_machine.specs.Reach.{start}
-use Rattle.written_machine.specs.Waiting.{is_waiting_set}
+use Rattle.pool_machine.specs.declared.event.Event.TheVariants as event
+use Rattle.pool_machine.specs.State.{pool_part, threads}
+use Rattle.pool_machine.specs.Reach.{start}
+use Rattle.pool_machine.specs.Waiting.{is_waiting_set}
 use Rattle.soundness.specs.Execute.{JavaState, JavaEvent, java_replay, without_calls}
 use Rattle.soundness.specs.Execute.JavaEvent.{Acts, Leaves, Spares}
 

@@ -7,10 +7,10 @@ use Rattle.weights.specs.Row.{AllHold}
 use Rattle.weights.specs.Vector.{Vector, total}
 use Rattle.weights.specs.Blocked.{blocked_rows}
 use Rattle.weights.specs.Ranks.{Ranks, is_counted, rank_rows}
-use Rattle.written_machine.specs.State.{Stage, CreatedJob, State, pool_of}
-use Rattle.written_machine.specs.State.Stage.{At}
-use Rattle.written_machine.specs.Reach.{IsReached}
-use Rattle.written_machine.specs.LooseWaiting.{IsLooseWaitingSet}
+use Rattle.pool_machine.specs.State.{Stage, CreatedJob, State, pool_of}
+use Rattle.pool_machine.specs.State.Stage.{At}
+use Rattle.pool_machine.specs.Reach.{IsReached}
+use Rattle.pool_machine.specs.LooseWaiting.{IsLooseWaitingSet}
 
 -- the test passes for at least one of the n positions i, i + 1, .., i + n - 1
 abbrev pub passes_from : (ℕ → Bool) → ℕ → ℕ → Bool

@@ -6,13 +6,13 @@ use Rattle.job_bodies.specs.declared.action.Action.TheVariants.{Submit}
 use Rattle.job_bodies.specs.Plan.{Plan, class_at}
 use Rattle.weights.specs.Row.{AllHold}
 use Rattle.weights.specs.Ranks.{Ranks, level, rank_rows}
-use Rattle.written_machine.specs.declared.event.Event.{Event}
-use Rattle.written_machine.specs.declared.event.Event.TheVariants.{Client}
-use Rattle.written_machine.specs.State.{Stage, State, job_at, is_unfinished}
-use Rattle.written_machine.specs.State.Stage.{Queued, At}
-use Rattle.written_machine.specs.Step.{step}
-use Rattle.written_machine.specs.Reach.{replay, IsReached}
-use Rattle.written_machine.specs.Safe.{is_of_job_or_pool}
+use Rattle.pool_machine.specs.declared.event.Event.{Event}
+use Rattle.pool_machine.specs.declared.event.Event.TheVariants.{Client}
+use Rattle.pool_machine.specs.State.{Stage, State, job_at, is_unfinished}
+use Rattle.pool_machine.specs.State.Stage.{Queued, At}
+use Rattle.pool_machine.specs.Step.{step}
+use Rattle.pool_machine.specs.Reach.{replay, IsReached}
+use Rattle.pool_machine.specs.Safe.{is_of_job_or_pool}
 
 -- the value of f for the class that the action submits, or 0 if the action is not a submit
 abbrev pub of_submit : (ℕ → ℕ) → Action → ℕ

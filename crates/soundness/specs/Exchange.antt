@@ -1,9 +1,9 @@
 -- Exchanges of the jobs that an actor submitted at two positions of its body. A get of one submit then finds the job of the
 -- other one, so an actor can get jobs of one class in any order.
 use Rattle.std.specs.Prelude.{◌≡◌, ◌≢◌, ◌==◌, ◌&&◌, not, if◌then◌else◌, ℕ, Bool, true, false, map, Option, Some}
-use Rattle.written_machine.specs.declared.parent.Parent.{Parent}
-use Rattle.written_machine.specs.State.{Stage, CreatedJob, State, job_at, is_made_by, child}
-use Rattle.written_machine.specs.State.Stage.{Claimed}
+use Rattle.pool_machine.specs.declared.parent.Parent.{Parent}
+use Rattle.pool_machine.specs.State.{Stage, CreatedJob, State, job_at, is_made_by, child}
+use Rattle.pool_machine.specs.State.Stage.{Claimed}
 
 -- the job after an exchange of positions t and u of actor a: if actor a created the job at t, its recorded position becomes u,
 -- and the other way round

@@ -13,13 +13,13 @@ use Rattle.job_bodies.specs.Plan.{Plan, pool_at}
 use Rattle.pool_machine.specs.declared.offer.Offer.{Offer}
 use Rattle.pool_machine.specs.declared.offer.Offer.TheVariants.{Started, Queued, Refused}
 use Rattle.pool_machine.specs.PoolState.{PoolView, room_limit, has_spare_worker}
-use Rattle.written_machine.specs.declared.parent.Parent.{Parent}
-use Rattle.written_machine.specs.declared.parent.Parent.TheVariants as parent
-use Rattle.written_machine.specs.declared.event.Event.{Event}
-use Rattle.written_machine.specs.declared.event.Event.TheVariants.{Client, Job, Retire}
-use Rattle.written_machine.specs.declared.event.Outcome.{Outcome}
-use Rattle.written_machine.specs.State.{State, same_parent, pool_of, pool_part, pool_seen, threads}
-use Rattle.written_machine.specs.Step.{Point, point, with_pool, answered, step}
+use Rattle.pool_machine.specs.declared.parent.Parent.{Parent}
+use Rattle.pool_machine.specs.declared.parent.Parent.TheVariants as parent
+use Rattle.pool_machine.specs.declared.event.Event.{Event}
+use Rattle.pool_machine.specs.declared.event.Event.TheVariants.{Client, Job, Retire}
+use Rattle.pool_machine.specs.declared.event.Outcome.{Outcome}
+use Rattle.pool_machine.specs.State.{State, same_parent, pool_of, pool_part, pool_seen, threads}
+use Rattle.pool_machine.specs.Step.{Point, point, with_pool, answered, step}
 
 -- a call of `execute` in progress: the actor that submits, and the pool to which it submits
 pub record Call : Type 0 where

@@ -3,13 +3,13 @@ use Rattle.std.specs.Prelude.{◌≡◌, ◌≤◌, ◌<◌, ℕ, List, length, 
 use Rattle.job_bodies.specs.Plan.{Plan, pool_at, needs_no_bound}
 use Rattle.job_bodies.specs.WellFormed.{IsWellFormed}
 use Rattle.pool_machine.specs.PoolState.{queue_limit}
-use Rattle.written_machine.specs.declared.event.Event.{Event}
-use Rattle.written_machine.specs.declared.event.Outcome.TheVariants.{Rejected}
-use Rattle.written_machine.specs.declared.parent.Parent.{Parent}
-use Rattle.written_machine.specs.State.{State, pool_of, pool_part, threads}
-use Rattle.written_machine.specs.Step.{step}
-use Rattle.written_machine.specs.Reach.{Reaches}
-use Rattle.written_machine.specs.Safe.{Safe, MakesProgress}
+use Rattle.pool_machine.specs.declared.event.Event.{Event}
+use Rattle.pool_machine.specs.declared.event.Outcome.TheVariants.{Rejected}
+use Rattle.pool_machine.specs.declared.parent.Parent.{Parent}
+use Rattle.pool_machine.specs.State.{State, pool_of, pool_part, threads}
+use Rattle.pool_machine.specs.Step.{step}
+use Rattle.pool_machine.specs.Reach.{Reaches}
+use Rattle.pool_machine.specs.Safe.{Safe, MakesProgress}
 use Rattle.soundness.specs.Drain.{Drains}
 use Rattle.soundness.specs.Execute.{JavaState, JavaEvent, Submission, submission, is_calling}
 use Rattle.soundness.specs.JavaSafe.{JavaReaches, JavaSafe, JavaMakesProgress, JavaDrains}

@@ -5,12 +5,12 @@ use Rattle.job_bodies.specs.Plan.{Plan, pool_at}
 use Rattle.job_bodies.specs.WellFormed.{IsWellFormed}
 use Rattle.pool_machine.specs.PoolState.{queue_limit}
 use Rattle.weights.specs.Ranks.{Ranks}
-use Rattle.written_machine.specs.State.{State, job_at, pool_part, threads, is_unfinished}
-use Rattle.written_machine.specs.Reach.{start, IsReached}
-use Rattle.written_machine.specs.Waiting.{IsWaitingSet}
-use Rattle.written_machine.specs.LooseWaiting.{IsLooseWaitingSet}
-use Rattle.written_machine.specs.FullWaitingSets.{WhereMembersQueue}
-use Rattle.written_machine.specs.Safe.{is_of_job_or_pool}
+use Rattle.pool_machine.specs.State.{State, job_at, pool_part, threads, is_unfinished}
+use Rattle.pool_machine.specs.Reach.{start, IsReached}
+use Rattle.pool_machine.specs.Waiting.{IsWaitingSet}
+use Rattle.pool_machine.specs.LooseWaiting.{IsLooseWaitingSet}
+use Rattle.pool_machine.specs.FullWaitingSets.{WhereMembersQueue}
+use Rattle.pool_machine.specs.Safe.{is_of_job_or_pool}
 use Rattle.soundness.specs.Drain.{todo, is_of_no_client}
 use Rattle.soundness.specs.Execute.{JavaState, JavaEvent, is_looking, java_step, java_replay, without_calls}
 use Rattle.soundness.specs.Execute.JavaEvent.{Acts}

@@ -12,14 +12,14 @@ use Rattle.weights.specs.Row.{AllHold}
 use Rattle.weights.specs.Vector.{Vector, queued_weight, done_weight}
 use Rattle.weights.specs.Rows.{rows}
 use Rattle.weights.specs.Ranks.{Ranks, rank_rows}
-use Rattle.written_machine.specs.declared.event.Event.{Event}
-use Rattle.written_machine.specs.declared.event.Event.TheVariants as event
-use Rattle.written_machine.specs.declared.parent.Parent.{Parent}
-use Rattle.written_machine.specs.declared.parent.Parent.TheVariants as parent
-use Rattle.written_machine.specs.State.{Stage, State, job_at, pool_of, is_unfinished, child}
-use Rattle.written_machine.specs.Step.{point, with_stage, with_position, skipped}
-use Rattle.written_machine.specs.Reach.{start}
-use Rattle.written_machine.specs.Safe.{is_of_job_or_pool}
+use Rattle.pool_machine.specs.declared.event.Event.{Event}
+use Rattle.pool_machine.specs.declared.event.Event.TheVariants as event
+use Rattle.pool_machine.specs.declared.parent.Parent.{Parent}
+use Rattle.pool_machine.specs.declared.parent.Parent.TheVariants as parent
+use Rattle.pool_machine.specs.State.{Stage, State, job_at, pool_of, is_unfinished, child}
+use Rattle.pool_machine.specs.Step.{point, with_stage, with_position, skipped}
+use Rattle.pool_machine.specs.Reach.{start}
+use Rattle.pool_machine.specs.Safe.{is_of_job_or_pool}
 use Rattle.soundness.specs.Drain.{todo, is_of_no_client}
 use Rattle.soundness.specs.Execute.{JavaState, JavaEvent, Submission, is_calling, offer_fails, submission, java_step, without_calls}
 use Rattle.soundness.specs.JavaSafe.{IsJavaSafe, JavaCanProgress, IsJavaQuiescent}

@@ -2,13 +2,13 @@
 use Rattle.std.specs.Prelude.{◌≡◌, ◌≢◌, ◌≤◌, ◌<◌, ℕ, IsTrue, IsFalse, length, Some}
 use Rattle.job_bodies.specs.Plan.{Plan, pool_at}
 use Rattle.job_bodies.specs.WellFormed.{IsWellFormed}
-use Rattle.written_machine.specs.declared.event.Event.{Event}
-use Rattle.written_machine.specs.declared.event.Outcome.{Outcome}
-use Rattle.written_machine.specs.declared.event.Outcome.TheVariants.{Refused, Rejected}
-use Rattle.written_machine.specs.State.{State, pool_of, pool_part}
-use Rattle.written_machine.specs.Step.{step}
-use Rattle.written_machine.specs.Reach.{IsReached}
-use Rattle.written_machine.specs.JobsMade.{jobs_made}
+use Rattle.pool_machine.specs.declared.event.Event.{Event}
+use Rattle.pool_machine.specs.declared.event.Outcome.{Outcome}
+use Rattle.pool_machine.specs.declared.event.Outcome.TheVariants.{Refused, Rejected}
+use Rattle.pool_machine.specs.State.{State, pool_of, pool_part}
+use Rattle.pool_machine.specs.Step.{step}
+use Rattle.pool_machine.specs.Reach.{IsReached}
+use Rattle.pool_machine.specs.JobsMade.{jobs_made}
 use Rattle.weights.specs.declared.get_return.GetReturn.{GetReturn}
 use Rattle.weights.specs.declared.get_return.GetReturn.TheVariants.{DoneWeight}
 use Rattle.weights.specs.declared.bound.Bound.{Bound}

@@ -2,8 +2,8 @@
 use Rattle.std.specs.Prelude.{ℕ, ◌+◌, ◌-◌, ◌*◌, sum_by}
 use Rattle.std.specs.List.{enumerate_from}
 use Rattle.job_bodies.specs.Plan.{Plan}
-use Rattle.written_machine.specs.State.{Stage, State, busy}
-use Rattle.written_machine.specs.State.Stage.{Queued, At, Done, Claimed}
+use Rattle.pool_machine.specs.State.{Stage, State, busy}
+use Rattle.pool_machine.specs.State.Stage.{Queued, At, Done, Claimed}
 use Rattle.weights.specs.declared.get_return.GetReturn.{GetReturn}
 use Rattle.weights.specs.Vector.{Vector, workers_weight, queued_weight, job_weight, done_weight, client_weight}
 use Rattle.weights.specs.GetReturn.{claimed_weight}

@@ -3,7 +3,7 @@
 use Rattle.std.specs.Prelude.{◌≡◌, ◌≤◌, ◌<◌, ◌+◌, ℕ, length, Some}
 use Rattle.job_bodies.specs.Plan.{Plan, pool_at}
 use Rattle.job_bodies.specs.WellFormed.{IsWellFormed}
-use Rattle.written_machine.specs.State.{pool_part, threads}
+use Rattle.pool_machine.specs.State.{pool_part, threads}
 use Rattle.soundness.specs.Execute.{JavaState, JavaEvent, java_step}
 use Rattle.soundness.specs.JavaSafe.{IsJavaReached}
 

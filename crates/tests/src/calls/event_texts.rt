@@ -5,7 +5,7 @@ use job_bodies::{Plan, Pool};
 use std::alloc::Global;
 use std::test::Fail;
 use support::Counter;
-use written_machine::{Event, Outcome};
+use pool_machine::{Event, Outcome};
 
 fn plan_of_p_and_q(alloc: Global) -> Result<Plan, Fail> {
     let mut pools = Vec::new(alloc);

@@ -1,6 +1,6 @@
 use Rattle.std.proofs.Common.{List, take, subst}
 use Rattle.std.proofs.lemmas.List.{take_all}
-use Rattle.written_machine.specs.declared.event.Event.{Event}
+use Rattle.pool_machine.specs.declared.event.Event.{Event}
 use Rattle.counterexample.specs.ReplayResult.{ComesTo}
 use Rattle.counterexample.proofs.EventReplays.{comes_to_start, goes_on, refuses, stops}
 use Rattle.counterexample.proofs.replaying.replay.Goals as goal

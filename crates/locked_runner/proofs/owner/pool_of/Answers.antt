@@ -1,6 +1,6 @@
 use Rattle.std.proofs.Common.{◌≡◌, ◌≢◌, None, sym, ◌∙◌, subst}
-use Rattle.written_machine.specs.declared.event.Event.{Event}
-use Rattle.written_machine.specs.Step.{step}
+use Rattle.pool_machine.specs.declared.event.Event.{Event}
+use Rattle.pool_machine.specs.Step.{step}
 use Rattle.locked_runner.specs.Owner.{owner_by, owner_in}
 use Rattle.locked_runner.proofs.Owners.{job_is_live, class_exists, owner_of_job}
 use Rattle.locked_runner.proofs.owner.pool_of.Goals as goal

@@ -3,7 +3,7 @@ use Rattle.std.proofs.lemmas.Bool.{false≢true}
 use Rattle.std.proofs.lemmas.List.{take_all}
 use Rattle.std.proofs.lemmas.Result.{IfOk-weaker}
 use Rattle.interleaving.specs.LiveView.{View}
-use Rattle.written_machine.specs.declared.event.Event.{Event}
+use Rattle.pool_machine.specs.declared.event.Event.{Event}
 use Rattle.locked_runner.specs.HeldWorld.{IsReachedBy}
 use Rattle.locked_runner.specs.Owner.{lists_of}
 use Rattle.locked_runner.specs.Receipts.{AreListsOf, places_of}

@@ -1,6 +1,6 @@
 use Rattle.std.proofs.Common.{sym, ap, ◌∙◌, ◌≡◌, List}
-use Rattle.written_machine.specs.declared.client_state.ClientState.{ClientState}
-use Rattle.written_machine.specs.Reach.{start}
+use Rattle.pool_machine.specs.declared.client_state.ClientState.{ClientState}
+use Rattle.pool_machine.specs.Reach.{start}
 use Rattle.interleaving.specs.LiveView.{View}
 use Rattle.report.specs.EventSteps.{action_of, actor_of, changed_pool, position_of, taken_class}
 use Rattle.report.specs.Performed as seen

@@ -1,5 +1,5 @@
 use Rattle.std.proofs.Common.{List, subst, sym}
-use Rattle.written_machine.specs.declared.event.Event.{Event}
+use Rattle.pool_machine.specs.declared.event.Event.{Event}
 use Rattle.report.specs.declared.event_steps.EventStep.{EventStep}
 use Rattle.report.proofs.EventLists.{Goes, goes_on, goes_no_further}
 use Rattle.report.proofs.event_steps.push_steps.Goals as goal

@@ -1,5 +1,5 @@
 use Rattle.std.proofs.Common.{◌<◌, length, arith, sym, ap, ◌∙◌}
-use Rattle.written_machine.specs.declared.parent.Parent.TheVariants.{Job}
+use Rattle.pool_machine.specs.declared.parent.Parent.TheVariants.{Job}
 use Rattle.interleaving.specs.ViewStep.{is_live_child}
 use Rattle.report.proofs.JobsFound.{last_here, last_before}
 use Rattle.report.proofs.json_ending.child_of.Goals as goal

@@ -1,7 +1,7 @@
 -- The child is the latest of the jobs so far.
 use Rattle.std.proofs.Common.{◌≡◌, take}
 use Rattle.support.specs.Places.{places_where, last_of}
-use Rattle.written_machine.specs.declared.parent.Parent.TheVariants.{Job}
+use Rattle.pool_machine.specs.declared.parent.Parent.TheVariants.{Job}
 use Rattle.interleaving.specs.ViewStep.{is_live_child}
 use Rattle.report.proofs.json_ending.child_of.Given as goal
 

@@ -1,6 +1,6 @@
 use Rattle.std.proofs.Common.{◌≡◌, ◌++◌, ◌∙◌, ap, List, ℕ, map}
 use Rattle.serde_json.specs.View.{view}
-use Rattle.written_machine.specs.declared.event.Event.{Event}
+use Rattle.pool_machine.specs.declared.event.Event.{Event}
 use Rattle.interleaving.specs.EventLine.{Perform}
 use Rattle.counterexample.specs.EventLines.{stuck_members, question}
 use Rattle.report.specs.JsonEvents.{list_data}

@@ -2,7 +2,7 @@ use Rattle.std.proofs.Common.{◌≡◌, ◌∙◌, ap, ap₂, List, [], subst, 
 use Rattle.std.specs.Prelude.{IfOk}
 use Rattle.serde_json.specs.Data.{Data}
 use Rattle.serde_json.specs.View.{view}
-use Rattle.written_machine.specs.declared.event.Event.{Event}
+use Rattle.pool_machine.specs.declared.event.Event.{Event}
 use Rattle.report.specs.Performed.{PerformsAll}
 use Rattle.report.specs.declared.event_steps.EventStep.{EventStep}
 use Rattle.report.specs.EventRuns.{runs}

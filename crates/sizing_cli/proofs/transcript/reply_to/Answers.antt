@@ -1,5 +1,5 @@
 use Rattle.std.proofs.Common.{◌∙◌, ℕ, List, ap, sym}
-use Rattle.written_machine.specs.Waiting.{is_waiting_set}
+use Rattle.pool_machine.specs.Waiting.{is_waiting_set}
 use Rattle.interleaving.specs.declared.reply.Reply.TheVariants as reply
 use Rattle.sizing_cli.proofs.SameSets.{same_sets}
 use Rattle.sizing_cli.proofs.Answering.{replies_to_event, replies_not_possible}

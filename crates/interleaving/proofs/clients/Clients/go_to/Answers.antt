@@ -1,6 +1,6 @@
 use Rattle.std.proofs.Common.{◌≡◌, Some, None, is_some, false, slice_get, set, sym, ap, ◌∙◌, arith}
 use Rattle.std.proofs.lemmas.Grind.{common_steps}
-use Rattle.written_machine.specs.declared.client_state.ClientState.{ClientState}
+use Rattle.pool_machine.specs.declared.client_state.ClientState.{ClientState}
 use Rattle.interleaving.specs.MovedClients.{moved_at, at_position}
 use Rattle.interleaving.specs.Clients.{ClientList, client_of, starting}
 use Rattle.interleaving.proofs.ClientsStanding.{all_stay, goes_on, goes_out, out_inside, none_goes, client_at_start, start_position, none_there}

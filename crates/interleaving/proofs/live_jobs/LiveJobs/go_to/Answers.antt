@@ -1,5 +1,5 @@
 use Rattle.std.proofs.Common.{◌≡◌, true, IsSome, set, refl, sym, ap, subst, ◌∙◌}
-use Rattle.written_machine.specs.declared.parent.Parent.TheVariants.{Job}
+use Rattle.pool_machine.specs.declared.parent.Parent.TheVariants.{Job}
 use Rattle.interleaving.specs.declared.job_view.Phase.TheVariants.{At}
 use Rattle.interleaving.specs.ViewStep.{may_get_in, with_phase}
 use Rattle.interleaving.specs.JobEntry.{place_in_phase}

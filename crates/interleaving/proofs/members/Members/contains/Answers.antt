@@ -1,6 +1,6 @@
 use Rattle.std.proofs.Common.{List, ℕ, ap, ◌∙◌}
 use Rattle.std.proofs.lemmas.List.Sorted.{searched}
-use Rattle.written_machine.specs.Waiting.{is_member}
+use Rattle.pool_machine.specs.Waiting.{is_member}
 use Rattle.interleaving.proofs.Membership.{member_found}
 use Rattle.interleaving.proofs.members.Members.contains.Goals as goal
 

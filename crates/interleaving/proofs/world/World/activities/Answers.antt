@@ -1,7 +1,7 @@
 use Rattle.std.proofs.Common.{◌≡◌, ℕ, ◌+◌, ◌<◌, ◌≤◌, Bool, not, List, [], ◌∷◌, ◌++◌, length, take, set, get_or, Some, None, sym, ap, ap₂, subst, ◌∙◌, le_refl, arith, length-set}
 use Rattle.std.proofs.lemmas.List.{get_or-replicate, length-replicate, take_all, take_more}
-use Rattle.written_machine.specs.State.{pool_of}
-use Rattle.written_machine.specs.Waiting.{is_member}
+use Rattle.pool_machine.specs.State.{pool_of}
+use Rattle.pool_machine.specs.Waiting.{is_member}
 use Rattle.interleaving.specs.LiveView.{View}
 use Rattle.interleaving.specs.World.{WorldValue}
 use Rattle.interleaving.specs.ViewStep.{live_job}

@@ -1,5 +1,5 @@
 use Rattle.std.proofs.Common.{◌≡◌, false, sym, ap, subst, ◌∙◌}
-use Rattle.written_machine.specs.Waiting.{is_none}
+use Rattle.pool_machine.specs.Waiting.{is_none}
 use Rattle.interleaving.specs.Waiting.{is_waiting_set_in}
 use Rattle.interleaving.proofs.WaitingSets.{some_members}
 use Rattle.interleaving.proofs.ViewsToStates.{set_seen, set_in_words}

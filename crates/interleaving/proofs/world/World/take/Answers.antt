@@ -2,7 +2,7 @@ use Rattle.std.proofs.Common.{◌≡◌, Some, rules, ap, ◌∙◌, arith}
 use Rattle.std.proofs.lemmas.Grind.{common_steps}
 use Rattle.job_bodies.specs.WellFormed.{IsWellFormed}
 use Rattle.pool_machine.specs.PoolState.{taken}
-use Rattle.written_machine.specs.declared.parent.Parent.TheVariants.{Job}
+use Rattle.pool_machine.specs.declared.parent.Parent.TheVariants.{Job}
 use Rattle.interleaving.specs.World.{WorldValue}
 use Rattle.interleaving.specs.ViewStep.{pool_in, may_get_in}
 use Rattle.interleaving.proofs.JobsAtHeads.{waits_at_head}

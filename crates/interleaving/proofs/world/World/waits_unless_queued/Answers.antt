@@ -1,7 +1,7 @@
 use Rattle.std.proofs.Common.{ℕ, List, get_or, slice_get, sym, ap, ◌∙◌}
 use Rattle.job_bodies.specs.Plan.{Class, no_class}
 use Rattle.job_bodies.specs.declared.action.Action.{Action}
-use Rattle.written_machine.specs.declared.parent.Parent.TheVariants.{Job}
+use Rattle.pool_machine.specs.declared.parent.Parent.TheVariants.{Job}
 use Rattle.interleaving.specs.World.{WorldValue}
 use Rattle.interleaving.specs.ViewStep.{live_job}
 use Rattle.interleaving.specs.Waiting.{waits_at_in}

@@ -1,7 +1,7 @@
 use Rattle.std.proofs.Common.{◌≡◌, ◌∙◌, Option, sym, subst}
-use Rattle.written_machine.specs.declared.event.Outcome.{Outcome}
-use Rattle.written_machine.specs.State.{State}
-use Rattle.written_machine.specs.Reach.{IsReached}
+use Rattle.pool_machine.specs.declared.event.Outcome.{Outcome}
+use Rattle.pool_machine.specs.State.{State}
+use Rattle.pool_machine.specs.Reach.{IsReached}
 use Rattle.interleaving.specs.LiveView.{live_view}
 use Rattle.interleaving.specs.ViewAnswers.{AnswersAs}
 use Rattle.locked_runner.proofs.Replays.{goes_on, stays}

@@ -1,5 +1,0 @@
-use Rattle.written_machine.proofs.ReachedLaws.{full_sets_stay}
-use Rattle.written_machine.proofs.laws.full_waiting_sets_stay.Goals as goal
-
-pub returns : goal.returns
-returns c = full_sets_stay

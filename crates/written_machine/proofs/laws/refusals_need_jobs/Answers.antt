@@ -1,5 +1,0 @@
-use Rattle.written_machine.proofs.ReachedLaws.{refusals_need_made}
-use Rattle.written_machine.proofs.laws.refusals_need_jobs.Goals as goal
-
-pub returns : goal.returns
-returns c = refusals_need_made

@@ -1,5 +1,0 @@
-use Rattle.written_machine.proofs.ReachedLaws.{threads_have_made}
-use Rattle.written_machine.proofs.laws.threads_have_jobs.Goals as goal
-
-pub returns : goal.returns
-returns c = threads_have_made

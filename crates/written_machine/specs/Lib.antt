@@ -1,9 +1,0 @@
-pub mod State
-pub mod Step
-pub mod Reach
-pub mod Waiting
-pub mod LooseWaiting
-pub mod Safe
-pub mod Laws
-pub mod FullWaitingSets
-pub mod JobsMade
