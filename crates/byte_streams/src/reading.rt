@@ -28,7 +28,7 @@ pub trait Source {
 }
 
 /// The error of reading an input.
-#[derive(Clone, Copy, Debug, PartialEq, Eq)]
+#[derive(Clone, Copy, Debug)]
 pub enum InputError {
     /// Out of memory.
     Memory,

@@ -15,7 +15,7 @@ use std::alloc::{AllocError, Global};
 use std::marker::Model;
 
 /// The state of a pool on the board of a round.
-#[derive(Clone, Copy, PartialEq, Eq)]
+#[derive(Clone, Copy)]
 pub(crate) enum PoolStatus {
     /// A pool without a rank that no thread of the search has claimed.
     Free,
@@ -27,7 +27,7 @@ pub(crate) enum PoolStatus {
 }
 
 /// An action of a worker on the board of a round. A worker is a thread of the search.
-#[derive(Clone, Copy, PartialEq, Eq)]
+#[derive(Clone, Copy)]
 pub(crate) enum BoardEvent {
     /// Claims the free pool with this number.
     Claim(usize),

@@ -13,7 +13,7 @@ use support::ReadError;
 
 /// The fault of a text that is not in canonical form, which is the form that
 /// [`write_cert`](crate::write_cert) writes. The fault does not store the reason.
-#[derive(Clone, Copy, PartialEq, Eq)]
+#[derive(Clone, Copy)]
 pub struct NonCanonical;
 
 /// The error of a parser of canonical form: out of memory, or a text that is not in canonical form.

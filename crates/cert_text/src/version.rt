@@ -15,7 +15,7 @@ use support::number::VERSION;
 use weights::Bound;
 
 /// A supported version of the text of a certificate.
-#[derive(Clone, Copy, PartialEq, Eq)]
+#[derive(Clone, Copy)]
 pub enum Version {
     /// Each pool has a standing vector, which bounds the number of its queued jobs.
     One,

@@ -17,7 +17,7 @@ pub struct EventLines<'a> {
 }
 
 /// The error for a malformed line.
-#[derive(Clone, Copy, PartialEq, Eq)]
+#[derive(Clone, Copy)]
 pub struct BadEventLine;
 
 impl<'a> Model for EventLines<'a> {

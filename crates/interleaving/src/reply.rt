@@ -10,7 +10,7 @@ use support::{Counter, push_number};
 use pool_machine::Outcome;
 
 /// The reply to an event line.
-#[derive(Clone, Copy, PartialEq, Eq)]
+#[derive(Clone, Copy)]
 pub enum Reply {
     /// The event was performed, with this outcome.
     Performed(Outcome),

@@ -6,7 +6,7 @@ ghost use Rattle.plan_text.specs.ParsedActions as spec;
 use job_bodies::{MAX_WORK, is_valid_name, is_within};
 
 /// A parsed action, in which classes and slots are names.
-#[derive(Clone, Copy, PartialEq, Eq)]
+#[derive(Clone, Copy)]
 pub enum ParsedAction<'a> {
     Work(u32),
     Submit(&'a str),

@@ -7,7 +7,7 @@ ghost use Rattle.plan_text.specs.TextPlace.{IsPositionAfter, is_newline, begins_
 use std::fmt;
 
 /// A position in a text, as a line and a column.
-#[derive(Clone, Copy, PartialEq, Eq)]
+#[derive(Clone, Copy)]
 pub struct TextPlace {
     /// The line, counted from 1.
     pub line: usize,

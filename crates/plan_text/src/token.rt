@@ -1,7 +1,7 @@
 //! The tokens of a TOML text.
 
 /// The kind of a token.
-#[derive(Clone, Copy, PartialEq, Eq)]
+#[derive(Clone, Copy)]
 pub(crate) enum Kind {
     /// A number, a key without quotes, or any other token that is not of the kinds below. The token
     /// ends before white space, a quote, `#` or one of `[ ] { } = , .`
@@ -17,7 +17,7 @@ pub(crate) enum Kind {
 
 /// A token with its range in the text: from the byte at `start` up to, but not including, the byte
 /// at `end`.
-#[derive(Clone, Copy, PartialEq, Eq)]
+#[derive(Clone, Copy)]
 pub(crate) struct Token {
     pub(crate) kind: Kind,
     pub(crate) start: usize,

@@ -20,7 +20,7 @@ pub enum Event {
 }
 
 /// The outcome of an event that is possible.
-#[derive(Clone, Copy, PartialEq, Eq)]
+#[derive(Clone, Copy)]
 pub enum Outcome {
     /// A submit created the job with this number, and a new thread runs it.
     Started(usize),

@@ -1,7 +1,7 @@
 //! The answer of a pool to an offered job.
 
 /// The answer of a pool to an offered job.
-#[derive(Clone, Copy, Debug, PartialEq, Eq)]
+#[derive(Clone, Copy, Debug)]
 pub enum Offer {
     /// A new thread starts the job.
     Started,

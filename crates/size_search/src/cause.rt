@@ -1,7 +1,7 @@
 //! Causes: reasons why no certificate accepts a plan, whatever its sizes.
 
 /// A reason why no certificate accepts a plan, whatever its sizes.
-#[derive(Clone, Copy, PartialEq, Eq)]
+#[derive(Clone, Copy)]
 pub enum Cause {
     /// The number of a class that submits itself, directly or through other classes.
     Circle(usize),

@@ -18,7 +18,7 @@ pub enum SizesFound {
 }
 
 /// The reason why no sizes were found.
-#[derive(Clone, Copy, PartialEq, Eq)]
+#[derive(Clone, Copy)]
 pub enum NoSizes {
     /// A cause: a reason why no certificate accepts the plan with any sizes. The plan can still be
     /// safe.
@@ -40,7 +40,7 @@ pub enum NoSizes {
 }
 
 /// The point at which an attempt to find sizes failed.
-#[derive(Clone, Copy, PartialEq, Eq)]
+#[derive(Clone, Copy)]
 pub(crate) enum Obstacle {
     /// The pool with this number, for which no vector or no size was found.
     Pool(usize),

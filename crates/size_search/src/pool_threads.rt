@@ -4,7 +4,7 @@ use job_bodies::{Plan, Pool};
 use std::alloc::{AllocError, Global};
 
 /// The core and maximum of a pool.
-#[derive(Clone, Copy, PartialEq, Eq)]
+#[derive(Clone, Copy)]
 pub(crate) struct PoolThreads {
     pub(crate) core: u64,
     pub(crate) max: u64,

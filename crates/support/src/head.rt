@@ -9,7 +9,7 @@ use std::fmt;
 /// The start of the text of a fault: the number and the name of the fault, such as
 /// `fault 6 BadName`. The field is the number. In the whole text, the position of the fault can
 /// follow.
-#[derive(Clone, Copy, PartialEq, Eq)]
+#[derive(Clone, Copy)]
 pub struct FaultHead(pub u8);
 
 impl fmt::Display for FaultHead {

@@ -7,7 +7,7 @@ use crate::Rule;
 
 /// The weight that a get gives to its actor, which is the job or the client that performs the get.
 /// The kind of the vector decides which variant applies.
-#[derive(Clone, Copy, PartialEq, Eq)]
+#[derive(Clone, Copy)]
 pub enum GetReturn {
     /// The weight of the done job that the actor gets. Standing and blocked vectors use this
     /// variant.

@@ -31,7 +31,7 @@ pub(crate) enum WeightRequirement<'a> {
 
 /// The pools whose workers may have weight. These pools are called *lenders*. A worker adds its
 /// weight to the queued job that it takes, so the queued jobs of a lender can weigh less.
-#[derive(Clone, Copy, PartialEq, Eq)]
+#[derive(Clone, Copy)]
 pub(crate) enum Lenders {
     /// All pools.
     All,

@@ -3,7 +3,7 @@
 ghost use Rattle.std.specs.Prelude.{◌≡◌, ◌≤◌};
 
 /// The least weight of an actor at a position of its body.
-#[derive(Clone, Copy, PartialEq, Eq)]
+#[derive(Clone, Copy)]
 pub(crate) struct Weight {
     /// The least weight at this position. It depends on the weight that the actor has at the end of
     /// the body, which was passed to [`Weight::at_end`].
