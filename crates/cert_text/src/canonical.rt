@@ -16,8 +16,8 @@ ghost use Rattle.cert_text.specs.CertText as spec;
 ghost use Rattle.cert_text.specs.Canonical.{BeginsAs, bound_text, version_text, IsCanonical};
 
 use crate::canonical_numbers::{
-    CanonicalError, list_with_capacity, non_canonical_error, parse_numbers, strip_byte,
-    strip_bytes, strip_comma,
+    CanonicalError, NonCanonical, list_with_capacity, parse_numbers, strip_byte, strip_bytes,
+    strip_comma,
 };
 use crate::canonical_vectors::parse_vector;
 use crate::cert::needs_no_bound;
@@ -25,6 +25,7 @@ use crate::version::version_number;
 use crate::{Cert, PoolCert};
 use job_bodies::{MAX_CERT_BYTES, Plan};
 use std::alloc::Global;
+use support::ReadError;
 use weights::{Bound, Ranks};
 
 /// Parses the bound of the pool with this index, and returns the bound and the rest of the text.
@@ -48,7 +49,7 @@ fn parse_bound<'a>(
         return Ok((Some(Bound::Lifetime(vector)), rest));
     }
     if !needs_no_bound(plan, pool) {
-        return Err(non_canonical_error());
+        return Err(ReadError::Fault(NonCanonical));
     }
     Ok((None, text))
 }
@@ -168,11 +169,11 @@ pub fn parse_canonical_cert(alloc: Global, text: &[u8], plan: &Plan) -> Result<C
     ensures { IfOk result (IsCanonical plan.now text.now) }
 {
     if text.len() > MAX_CERT_BYTES {
-        return Err(non_canonical_error());
+        return Err(ReadError::Fault(NonCanonical));
     }
     let (cert, rest) = parse_cert(alloc, plan, text)?;
     if !is_blank(rest) {
-        return Err(non_canonical_error());
+        return Err(ReadError::Fault(NonCanonical));
     }
     Ok(cert)
 }

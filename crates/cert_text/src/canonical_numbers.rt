@@ -19,11 +19,6 @@ pub struct NonCanonical;
 /// The error of a parser of canonical form: out of memory, or a text that is not in canonical form.
 pub type CanonicalError = ReadError<NonCanonical>;
 
-/// Returns the error for a text that is not in canonical form.
-pub fn non_canonical_error() -> CanonicalError {
-    ReadError::Fault(NonCanonical)
-}
-
 /// Returns the rest of the text after the prefix, or an error if the text does not begin with the
 /// prefix.
 pub fn strip_bytes<'a>(text: &'a [u8], prefix: &[u8]) -> Result<&'a [u8], CanonicalError>
@@ -31,7 +26,7 @@ pub fn strip_bytes<'a>(text: &'a [u8], prefix: &[u8]) -> Result<&'a [u8], Canoni
 {
     match text.strip_prefix(prefix) {
         Some(rest) => Ok(rest),
-        None => Err(non_canonical_error()),
+        None => Err(ReadError::Fault(NonCanonical)),
     }
 }
 
@@ -42,7 +37,7 @@ pub fn strip_byte(text: &[u8], byte: u8) -> Result<&[u8], CanonicalError>
 {
     match text.split_first() {
         Some((first, rest)) if *first == byte => Ok(rest),
-        _ => Err(non_canonical_error()),
+        _ => Err(ReadError::Fault(NonCanonical)),
     }
 }
 
@@ -72,7 +67,7 @@ pub fn list_with_capacity<T>(
     ensures capacity { IfOk result (λ list. vec_capacity list ≡ count) }
 {
     if text.len() < count {
-        return Err(non_canonical_error());
+        return Err(ReadError::Fault(NonCanonical));
     }
     Ok(Vec::with_capacity(alloc, count)?)
 }
@@ -101,7 +96,7 @@ fn parse_number(text: &[u8]) -> Result<(u64, &[u8]), CanonicalError>
     ensures small { IfOk result (λ read. IsTrue (is_small read.0)) }
 {
     let Some((first, remaining)) = parse_digit(text) else {
-        return Err(non_canonical_error());
+        return Err(ReadError::Fault(NonCanonical));
     };
     if first == 0 {
         return Ok((0, remaining));
@@ -111,7 +106,7 @@ fn parse_number(text: &[u8]) -> Result<(u64, &[u8]), CanonicalError>
     'digits: while let Some((digit, remaining)) = parse_digit(rest) {
         value = value * 10 + digit;
         if value > MAX_WEIGHT {
-            return Err(non_canonical_error());
+            return Err(ReadError::Fault(NonCanonical));
         }
         rest = remaining;
     }
