@@ -5,8 +5,8 @@
 use crate::round::PoolVectors;
 use cert_text::{Cert, PoolCert};
 use job_bodies::Plan;
-use weights::{Bound, Levels, Ranks, Vector, reach};
 use std::alloc::{AllocError, Global};
+use weights::{Bound, Levels, Ranks, Vector, reach};
 
 /// The parts of a certificate that are known for one pool.
 #[derive(Drop)]

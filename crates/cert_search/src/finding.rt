@@ -13,10 +13,10 @@ use crate::workers::search_pools;
 use cert_check::{PoolGate, accepts};
 use cert_text::Cert;
 use job_bodies::Plan;
-use weights::{Levels, reach};
 use std::alloc::{AllocError, Global};
 use std::sync::Wait;
 use std::thread::Threads;
+use weights::{Levels, reach};
 
 /// The reason why a search for a certificate fails.
 #[derive(Clone, Copy, Debug)]

@@ -14,10 +14,10 @@ use crate::board::{Board, claim, give_back};
 use cert_check::PoolGate;
 use held_machines::Locked;
 use job_bodies::{Action, MAX_POOLS, Plan};
-use weights::{Bound, Levels, Vector, blocked_vector, pool_bound, submitted_class};
 use std::alloc::{AllocError, Global};
 use std::sync::Wait;
 use std::sync::atomic::{AtomicBool, Ordering};
+use weights::{Bound, Levels, Vector, blocked_vector, pool_bound, submitted_class};
 
 /// The data that all workers (threads of the search) share in a round.
 #[derive(Clone, Copy)]

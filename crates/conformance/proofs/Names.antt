@@ -5,7 +5,7 @@ use Rattle.std.specs.Str.{bytes_eq}
 use Rattle.std.proofs.lemmas.Bool.{and_parts, and_from, leb-true, le-leb, eqb-true}
 use Rattle.std.proofs.lemmas.List.{take-append-drop, take_at, drop_at}
 use Rattle.std.proofs.lemmas.Slice.Eq.{bytes_eq-Decides}
-use Rattle.job_bodies.specs.declared.limits.TheConstants.{MAX_LINE_NUMBER}
+use Rattle.support.specs.declared.line_number.TheConstants.{MAX_LINE_NUMBER}
 use Rattle.support.specs.LineNumber.{number_of}
 use Rattle.support.proofs.WrittenNumbers.{number_read, number_written}
 use Rattle.conformance.specs.Family.{is_family_end, is_of_family, IsOfFamily}

@@ -6,8 +6,8 @@ ghost use Rattle.job_bodies.specs.Plan.{pool_at, class_at};
 ghost use Rattle.conformance.specs.Family as spec;
 
 use job_bodies::Plan;
-use support::number_of;
 use std::alloc::{AllocError, Global};
+use support::number_of;
 
 /// Returns true if a class or a client kind with the name `name` belongs to the family of `label`.
 /// The label is the name of a class or client kind in a recording. The result is true exactly if

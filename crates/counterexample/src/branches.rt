@@ -7,8 +7,8 @@ use crate::machine::Phase;
 use crate::scripts::Script;
 use crate::vectors::Potential;
 use crate::walks::Walk;
-use std::alloc::{AllocError, Global};
 use pool_machine::Parent;
+use std::alloc::{AllocError, Global};
 
 /// The maximum number of actors that are tried for one choice.
 const MAX_ACTORS: usize = 8;

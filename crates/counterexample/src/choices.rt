@@ -3,8 +3,8 @@
 use crate::machine::Machine;
 use crate::queue_limits::{QueueLimit, QueueLimits};
 use job_bodies::{Action, Plan};
-use std::alloc::{AllocError, Global};
 use pool_machine::Parent;
+use std::alloc::{AllocError, Global};
 
 /// The index that [`Choices`] stores for an action that is not a submit. No choice has this index.
 const NO_CHOICE: usize = usize::MAX;

@@ -11,8 +11,8 @@
 
 use crate::choices::{Choice, Choices};
 use crate::machine::{Job, Machine, Phase};
-use std::alloc::{AllocError, Global};
 use pool_machine::Parent;
+use std::alloc::{AllocError, Global};
 
 /// The number by which the hash function multiplies its second input.
 const FACTOR: u64 = 0x9e37_79b9_7f4a_7c15;

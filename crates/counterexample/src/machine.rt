@@ -3,8 +3,8 @@
 
 use crate::pools::{Admission, SearchPool};
 use job_bodies::{Action, MAX_ACTIONS, Plan};
-use std::alloc::{AllocError, Global};
 use pool_machine::Parent;
+use std::alloc::{AllocError, Global};
 
 /// The phase of a job: queued, at a position of its body, or done.
 #[derive(Clone, Copy, PartialEq, Eq)]

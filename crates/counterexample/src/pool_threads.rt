@@ -1,8 +1,8 @@
 //! What the idle threads of pools do in a walk: take jobs and end.
 
 use crate::walks::{Walk, WalkStep};
-use std::alloc::AllocError;
 use pool_machine::Parent;
+use std::alloc::AllocError;
 
 impl Walk<'_> {
     /// Returns `true` if a thread of the class's pool is idle and the first job in the pool's queue

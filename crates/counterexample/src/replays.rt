@@ -6,8 +6,8 @@ use crate::scripts::Script;
 use crate::waiting_sets::JobSet;
 use crate::walks::Violation;
 use job_bodies::Plan;
-use std::alloc::{AllocError, Global};
 use pool_machine::{Event, Parent};
+use std::alloc::{AllocError, Global};
 
 /// The state of a replay of some events of a script. It has the machine, and maps the clients and
 /// jobs of the script to those of the replay, whose numbers can differ.

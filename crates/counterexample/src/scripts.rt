@@ -2,8 +2,8 @@
 
 use crate::machine::{Machine, StepOutcome};
 use job_bodies::Plan;
-use std::alloc::{AllocError, Global};
 use pool_machine::{Event, Parent};
+use std::alloc::{AllocError, Global};
 
 /// An event of a script, and the number of the job that the event created, if it created one.
 /// Clients are numbered in the order of their first steps, as in [`Machine`].

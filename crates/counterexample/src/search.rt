@@ -22,8 +22,8 @@ use crate::shorten::shorten_script;
 use crate::vectors::{Potential, missed_vectors};
 use crate::walks::{Rules, Violation, WalkResult, perform_walk};
 use job_bodies::Plan;
-use std::alloc::{AllocError, Global};
 use pool_machine::Event;
+use std::alloc::{AllocError, Global};
 
 /// The maximum number of guided walks for each vector. A guided walk prefers the choices that lose
 /// the least weight under the vector.

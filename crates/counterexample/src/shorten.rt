@@ -4,8 +4,8 @@ use crate::replays::Replay;
 use crate::scripts::Script;
 use crate::walks::Violation;
 use job_bodies::Plan;
-use std::alloc::{AllocError, Global};
 use pool_machine::Event;
+use std::alloc::{AllocError, Global};
 
 /// The fixed part of the limit on replayed events. To shorten a script of `n` events, at most
 /// [`WHOLE_REPLAYS`] times `n`, plus `MAX_REPLAYED`, events are replayed.

@@ -7,8 +7,8 @@
 //! - The blocked vector bounds how many threads of the pool wait at counted gets.
 
 use job_bodies::Plan;
-use weights::{Kind, Levels, ResizedPlan, Vector, reach};
 use std::alloc::{AllocError, Global};
+use weights::{Kind, Levels, ResizedPlan, Vector, reach};
 
 /// The weights of a vector that has a larger total than the plan's sizes allow. A walk uses these
 /// weights to compute how much weight a choice loses.

@@ -4,8 +4,8 @@
 
 use crate::machine::{Job, Machine, Phase};
 use job_bodies::MAX_POOLS;
-use std::alloc::{AllocError, Global};
 use pool_machine::Parent;
+use std::alloc::{AllocError, Global};
 
 /// The maximum work to find a minimal set. Each attempt to remove a member visits all jobs, so the
 /// work is the number of attempts times the number of jobs.

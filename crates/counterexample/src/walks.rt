@@ -10,8 +10,8 @@ use crate::scripts::Script;
 use crate::stuck_checks::StuckChecks;
 use crate::vectors::Potential;
 use job_bodies::{Action, Plan};
-use std::alloc::{AllocError, Global};
 use pool_machine::Parent;
+use std::alloc::{AllocError, Global};
 
 /// The violation in which a list of events ends. Every violation except `StuckNow` is *permanent*.
 #[derive(Clone, Copy)]

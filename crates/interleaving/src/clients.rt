@@ -11,9 +11,9 @@ ghost use Rattle.interleaving.specs.Clients.{client_of, IsClientAt, CanMove, IsF
 
 use crate::moved_clients::MovedClients;
 use job_bodies::Client;
+use pool_machine::{ClientState, Parent};
 use std::alloc::{AllocError, Global};
 use std::marker::Model;
-use pool_machine::{ClientState, Parent};
 
 /// The states of all clients of a world.
 ///

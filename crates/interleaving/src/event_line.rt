@@ -7,8 +7,8 @@ ghost use Rattle.interleaving.specs.EventLine as spec;
 
 use crate::named_jobs::NamedJobs;
 use job_bodies::Plan;
-use support::{leading_number, split_line};
 use pool_machine::Event;
+use support::{leading_number, split_line};
 
 /// The content of an event line: an event, or the question whether some jobs wait only for each
 /// other.

@@ -6,9 +6,9 @@ ghost use Rattle.pool_machine.specs.declared.parent.Parent.{Parent};
 ghost use Rattle.interleaving.specs.LatestJobs.{found, is_call, latest_room};
 
 use crate::submit_map::SubmitMap;
+use pool_machine::Parent;
 use std::alloc::{AllocError, Global};
 use std::marker::Model;
-use pool_machine::Parent;
 
 /// A map from submit calls to job numbers. A submit call consists of an actor and the position of a
 /// submit in the actor's body. For each submit call, the map has the number of the latest job that

@@ -3,7 +3,8 @@
 //! get it.
 //!
 //! A [`World`] stores the live jobs, the pools and the clients. Its contracts relate it to the
-//! states of the machine that `written_machine` defines.
+//! states of the machine that `pool_machine` defines. [`EventLines`] reads events from text, and
+//! [`push_reply`] writes what they did.
 #![tactic(auto)]
 
 mod activities;
@@ -44,6 +45,6 @@ pub use line_laws::event_lines_are_canonical;
 pub use lines::{BadEventLine, EventLines};
 pub use live_jobs::LiveJobs;
 pub use named_jobs::NamedJobs;
+pub use pool_machine::{ClientState, Event, Outcome, Parent};
 pub use reply::{Reply, push_reply, push_summary};
 pub use world::World;
-pub use pool_machine::{ClientState, Event, Outcome, Parent};

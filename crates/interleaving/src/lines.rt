@@ -5,8 +5,8 @@ ghost use Rattle.interleaving.specs.EventLine.{line_read, lines_read};
 
 use crate::event_line::{EventLine, split_event_line};
 use job_bodies::Plan;
-use support::split_line;
 use std::marker::Model;
+use support::split_line;
 
 /// A parser of the event lines of a text. Each call of [`next`](EventLines::next) parses one line.
 /// The parser allocates no memory.
@@ -35,7 +35,7 @@ impl<'a> EventLines<'a> {
     /// be missing.
     ///
     /// - `N` is a number without leading zeros, at most
-    ///   [`MAX_LINE_NUMBER`](job_bodies::MAX_LINE_NUMBER). A `stuck` line has at least one number.
+    ///   [`MAX_LINE_NUMBER`](support::MAX_LINE_NUMBER). A `stuck` line has at least one number.
     /// - `POOL` is the name of a pool of the plan.
     pub fn new(plan: &'a Plan, text: &'a [u8]) -> EventLines<'a>
         ensures lines { result ≡ lines_read plan.now text.now }

@@ -10,9 +10,9 @@ ghost use Rattle.interleaving.specs.LiveJobs.{room_for, WasMade, DoneAreLatest, 
 use crate::job_table::{JobEntry, JobTable};
 use crate::latest_jobs::LatestJobs;
 use crate::{JobView, Phase};
+use pool_machine::Parent;
 use std::alloc::{AllocError, Global};
 use std::marker::Model;
-use pool_machine::Parent;
 
 /// The live jobs of a world, and an index of them. For each submit of a client or of an unfinished
 /// job, the index has the latest live job that this submit created. It need not have such entries

@@ -6,10 +6,10 @@ ghost use Rattle.std.specs.Option.{option_map};
 ghost use Rattle.std.specs.HashMap.{get, spare};
 ghost use Rattle.interleaving.specs.MovedClients.{at_position, moved_at};
 
+use pool_machine::ClientState;
 use std::alloc::{AllocError, Global};
 use std::collections::HashMap;
 use std::marker::Model;
-use pool_machine::ClientState;
 
 /// A map from client numbers to the states of the clients that have moved.
 ///

@@ -3,9 +3,9 @@
 ghost use Rattle.std.specs.Prelude.{◌≡◌, IfOk};
 ghost use Rattle.interleaving.specs.Words.{members_in};
 
-use support::{number_of, split_space};
 use std::alloc::{AllocError, Global};
 use std::marker::Model;
+use support::{number_of, split_space};
 
 /// The job numbers of a `stuck` line, stored as text.
 #[derive(Drop)]

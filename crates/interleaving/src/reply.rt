@@ -5,9 +5,9 @@ ghost use Rattle.support.specs.Pushed.{Pushes};
 ghost use Rattle.interleaving.specs.Reply.{numbered, outcome_text, reply_text, summary};
 
 use job_bodies::Plan;
+use pool_machine::Outcome;
 use std::alloc::AllocError;
 use support::{Counter, push_number};
-use pool_machine::Outcome;
 
 /// The reply to an event line.
 #[derive(Clone, Copy)]

@@ -11,8 +11,8 @@ ghost use Rattle.interleaving.specs.ViewAnswers.{AnswersAs};
 use crate::World;
 use crate::moves::move_actor;
 use job_bodies::{Action, Plan};
-use std::alloc::AllocError;
 use pool_machine::{Event, Outcome, Parent};
+use std::alloc::AllocError;
 
 impl World {
     ghost use Rattle.interleaving.specs.Answers.{MatchesResult, AnswersIn};
@@ -39,7 +39,7 @@ impl World {
         requires { IsReachableView plan.now self.old.view }
 
         // In every reachable state whose live view was the world's view before the event, the
-        // machine of `written_machine` gives the same result.
+        // machine of `pool_machine` gives the same result.
         ensures answered { IfOk result (λ answer.
             (s : State)
             → IsReached plan.now s

@@ -1,6 +1,7 @@
 -- The documented values of the limits. All other definitions and the code use the constants.
 use Rattle.std.specs.Prelude.{◌≡◌}
-use Rattle.job_bodies.specs.declared.limits.TheConstants.{MAX_POOLS, MAX_CLASSES, MAX_CLIENT_KINDS, MAX_ACTIONS, MAX_SIZE, MAX_THREADS, MAX_WORK, MAX_NAME_BYTES, MAX_WEIGHT, MAX_PLAN_BYTES, MAX_CERT_BYTES, MAX_EVENT_BYTES, MAX_INPUT_BYTES, MAX_RECORDED_BYTES, MAX_LINE_NUMBER, MAX_RECORDED_ROUNDS, MAX_WORKERS, DEFAULT_WORKERS, MAX_ROUNDS, MAX_STATES, DEFAULT_STATES, MAX_RUN_CLIENTS, MAX_RUN_CARRIERS, MAX_RUN_EVENTS}
+use Rattle.support.specs.declared.line_number.TheConstants.{MAX_LINE_NUMBER}
+use Rattle.job_bodies.specs.declared.limits.TheConstants.{MAX_POOLS, MAX_CLASSES, MAX_CLIENT_KINDS, MAX_ACTIONS, MAX_SIZE, MAX_THREADS, MAX_WORK, MAX_NAME_BYTES, MAX_WEIGHT, MAX_PLAN_BYTES, MAX_CERT_BYTES, MAX_EVENT_BYTES, MAX_INPUT_BYTES, MAX_RECORDED_BYTES, MAX_RECORDED_ROUNDS, MAX_WORKERS, DEFAULT_WORKERS, MAX_ROUNDS, MAX_STATES, DEFAULT_STATES, MAX_RUN_CLIENTS, MAX_RUN_CARRIERS, MAX_RUN_EVENTS}
 
 -- the limits of a plan and of its numbers, and of the weights of a certificate
 pub record PlanLimitsAreStated : Type 0 where

@@ -44,10 +44,8 @@ pub const MAX_EVENT_BYTES: usize = 1_048_576;
 pub const MAX_INPUT_BYTES: usize = 2_097_155;
 /// The maximum length of a whole input that contains a recording, in bytes.
 pub const MAX_RECORDED_BYTES: usize = 268_435_456;
-/// The maximum of each number in event lines and in lines of recordings. The minimum is 0.
-pub const MAX_LINE_NUMBER: usize = 1_000_000_000;
 /// The maximum number of rounds in a recording. A round is one pass of a client through its body.
-/// Rounds are numbered from 0 to [`MAX_LINE_NUMBER`].
+/// Rounds are numbered from 0 to [`MAX_LINE_NUMBER`](support::MAX_LINE_NUMBER).
 pub const MAX_RECORDED_ROUNDS: u64 = 1_000_000_001;
 
 /// The maximum number of threads of a search or a check. The minimum is 1.

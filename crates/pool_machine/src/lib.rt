@@ -1,5 +1,8 @@
 //! A thread pool that behaves like Java's `ThreadPoolExecutor` with an `ArrayBlockingQueue`, a
 //! `SynchronousQueue` or an unbounded queue, and with `AbortPolicy`.
+//!
+//! Its `specs/` also define the reference machine of a plan, whose pools are such pools: its states,
+//! the effect of each event, and the states that lists of events reach. No code here runs it.
 #![tactic(auto)]
 
 mod client_state;
@@ -20,6 +23,6 @@ pub use laws::{
 pub use offer::Offer;
 pub use parent::Parent;
 pub use pool_laws::{
-    failure_conditions, load_is_offered, pools_stay_sound, queues_have_threads, sizes_stay,
+    failure_conditions, load_is_offered, pool_queues_have_threads, pools_stay_sound, sizes_stay,
 };
 pub use pool_state::PoolState;

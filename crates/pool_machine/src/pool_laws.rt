@@ -31,7 +31,7 @@ pub fn pools_stay_sound()
 ///
 /// - A pool queues a job only if it has at least as many threads as its core size.
 /// - While jobs are queued, no thread ends if the pool would then have too few.
-pub fn queues_have_threads()
+pub fn pool_queues_have_threads()
     ensures start { (pool : Pool) → QueuesHaveThreads (new_pool pool) }
     ensures kept { IsInvariant QueuesHaveThreads }
 {}

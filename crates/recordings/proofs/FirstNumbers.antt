@@ -5,7 +5,7 @@ use Rattle.std.specs.List.{list_all}
 use Rattle.std.specs.Str.Parse.{digits_value}
 use Rattle.std.proofs.lemmas.Bool.{and_parts}
 use Rattle.std.proofs.lemmas.Option.{cond_some, none-some, same_Some}
-use Rattle.job_bodies.specs.declared.limits.TheConstants.{MAX_LINE_NUMBER}
+use Rattle.support.specs.declared.line_number.TheConstants.{MAX_LINE_NUMBER}
 use Rattle.support.specs.LineNumber.{has_leading_zero, is_whole_number, number_of, digit_count, leading_number, is_valid_number}
 use Rattle.support.proofs.Numbers.{prefix_read}
 use Rattle.support.proofs.WrittenNumbers.{number_read, number_written}

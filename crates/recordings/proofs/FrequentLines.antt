@@ -9,7 +9,8 @@ use Rattle.std.proofs.lemmas.Bool.Decides.{nat_tests}
 use Rattle.std.proofs.lemmas.List.{get_or-take, length-take-le, take_rest}
 use Rattle.std.proofs.lemmas.Slice.Eq.{HasBytesAt}
 use Rattle.job_bodies.specs.WellFormed.{is_name_byte, is_valid_name}
-use Rattle.job_bodies.specs.declared.limits.TheConstants.{MAX_LINE_NUMBER, MAX_NAME_BYTES}
+use Rattle.job_bodies.specs.declared.limits.TheConstants.{MAX_NAME_BYTES}
+use Rattle.support.specs.declared.line_number.TheConstants.{MAX_LINE_NUMBER}
 use Rattle.support.specs.LineNumber.{is_valid_number, is_whole_number, number_of}
 use Rattle.support.proofs.Splits.{has_no, has_no-append}
 use Rattle.support.proofs.WrittenNumbers.{number_read, decimal_has_no}

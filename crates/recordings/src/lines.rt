@@ -46,7 +46,7 @@ impl<'a> RecordingLines<'a> {
     /// Returns [`BadLine`] if the next line has none of the forms in `docs/RECORDING.md`. This
     /// includes a line with one of these faults:
     ///
-    /// - A number is above [`MAX_LINE_NUMBER`](job_bodies::MAX_LINE_NUMBER) or has a leading zero.
+    /// - A number is above [`MAX_LINE_NUMBER`](support::MAX_LINE_NUMBER) or has a leading zero.
     /// - A name is not valid in plans.
     ///
     /// The iterator then continues with the line after the bad line.

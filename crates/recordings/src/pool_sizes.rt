@@ -5,8 +5,7 @@ ghost use Rattle.std.specs.Prelude.{◌≡◌, option_map};
 ghost use Rattle.recordings.specs.PoolSizes as spec;
 
 use crate::words::{is_word, parse_number, parse_word_and_number, strip_word};
-use job_bodies::MAX_LINE_NUMBER;
-use support::split_space;
+use support::{MAX_LINE_NUMBER, split_space};
 
 /// The capacity of an unbounded queue in a `pool` line. A `LinkedBlockingQueue` with this capacity
 /// counts as unbounded.
@@ -16,7 +15,7 @@ use support::split_space;
 pub const UNBOUNDED_CAPACITY: usize = MAX_LINE_NUMBER;
 
 /// The settings of a pool in a `pool` line. If a value is above
-/// [`MAX_LINE_NUMBER`](job_bodies::MAX_LINE_NUMBER), a recorder writes this limit instead, so no
+/// [`MAX_LINE_NUMBER`](support::MAX_LINE_NUMBER), a recorder writes this limit instead, so no
 /// number in a line is larger.
 #[derive(Clone, Copy)]
 pub struct PoolSizes {

@@ -4,7 +4,8 @@
 ghost use Rattle.std.specs.Prelude.{IfOk, string_bytes};
 ghost use Rattle.report.specs.HtmlReport as spec;
 
-use crate::{PlanFinding, fault_json, faults_json, finding_json, page_of};
+use crate::html_page::page_of;
+use crate::{PlanFinding, fault_json, faults_json, finding_json};
 use diagnostics::{Faults, PlanPlaces, Warning};
 use job_bodies::Plan;
 use std::alloc::{AllocError, Global};

@@ -63,7 +63,6 @@ pub use cause_lines::push_no_sizes;
 pub use description::describe;
 pub use finding::PlanFinding;
 pub use github::{fault_github, faults_github, finding_github};
-pub use html_page::page_of;
 pub use html_report::{fault_html, faults_html, finding_html};
 pub use json_answers::{fault_json, faults_json, finding_json};
 pub use picture::picture_of;

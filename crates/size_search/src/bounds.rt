@@ -5,8 +5,8 @@ use crate::found::{AttemptError, Obstacle};
 use crate::pool_threads::PoolThreads;
 use crate::vector_cache::VectorCache;
 use job_bodies::Pool;
-use weights::{Bound, Kind};
 use std::alloc::Global;
+use weights::{Bound, Kind};
 
 /// Returns the vector that bounds the pool's queue:
 ///

@@ -7,8 +7,8 @@ use crate::pool_threads::maxes_of;
 use crate::rounds::RankAssignment;
 use crate::vector_cache::{CacheHit, VectorCache};
 use cert_text::{Cert, PoolCert};
-use weights::{Kind, Ranks, Vector, reach};
 use std::alloc::{AllocError, Global};
+use weights::{Kind, Ranks, Vector, reach};
 
 /// Returns the certificate that results from a [`RankAssignment`] in which every pool has a rank.
 /// The certificate can need smaller cores and maximums than the assignment has. So the caller

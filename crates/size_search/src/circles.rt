@@ -4,7 +4,7 @@ ghost use Rattle.std.specs.Prelude.{◌≤◌, ◌<◌, ◌≡◌, ◌↔◌, �
 ghost use Rattle.size_search.specs.Graph as spec;
 ghost use Rattle.size_search.specs.Graph.{IsClosed};
 
-use crate::Graph;
+use crate::graph::Graph;
 use crate::node_set::NodeSet;
 use std::alloc::{AllocError, Global};
 

@@ -4,7 +4,7 @@
 ghost use Rattle.std.specs.Prelude.{◌≡◌, ◌≤◌, ◌<◌, ◌^◌, ℕ, IfOk, length, map, slice_index};
 ghost use Rattle.size_search.specs.Levels as spec;
 
-use crate::Graph;
+use crate::graph::Graph;
 use std::alloc::{AllocError, Global};
 
 /// Returns the number at index `place`, or 0 if the list has no such index.

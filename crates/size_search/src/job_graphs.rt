@@ -14,7 +14,7 @@ ghost use Rattle.job_bodies.specs.WellFormed.{IsWellFormed};
 ghost use Rattle.size_search.specs.Graph.{AreNodes, IsClosed};
 ghost use Rattle.size_search.specs.JobGraphs as spec;
 
-use crate::Graph;
+use crate::graph::Graph;
 use job_bodies::{Action, Plan};
 use std::alloc::{AllocError, Global};
 use weights::submitted_class;

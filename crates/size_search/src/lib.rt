@@ -47,7 +47,6 @@ pub use fitted_laws::{
     reported_cores_need_larger_maxes, smallest_fit_is_least, widened_maxes_are_least,
 };
 pub use found::{NoSizes, SizesFound};
-pub use graph::Graph;
 pub use search::search_sizes;
 pub use steady_laws::steady_certificates_accept;
 pub use submitted::{submitted_by_clients, submitted_repeatedly};

@@ -6,7 +6,7 @@ ghost use Rattle.support.specs.In.{In};
 ghost use Rattle.size_search.specs.Graph.{AreNodes, IsClosed};
 ghost use Rattle.size_search.specs.Marks.{Has, Covers, Grows, IsReaching, MarksReached, unfound};
 
-use crate::Graph;
+use crate::graph::Graph;
 use std::alloc::{AllocError, Global};
 
 /// A set of nodes, with a list of those of its nodes whose successors were not added yet.

@@ -4,7 +4,7 @@ ghost use Rattle.std.specs.Prelude.{IfOk};
 ghost use Rattle.size_search.specs.Graph.{AreNodes, IsClosed};
 ghost use Rattle.size_search.specs.Marks.{MarksReached};
 
-use crate::Graph;
+use crate::graph::Graph;
 use crate::node_set::NodeSet;
 use std::alloc::{AllocError, Global};
 

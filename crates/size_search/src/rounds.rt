@@ -7,8 +7,8 @@ use crate::found::{AttemptError, Obstacle};
 use crate::pool_threads::{PoolThreads, maxes_of};
 use crate::vector_cache::{CacheHit, VectorCache};
 use job_bodies::MAX_SIZE;
-use weights::{Kind, reach};
 use std::alloc::{AllocError, Global};
+use weights::{Kind, reach};
 
 /// The cores, maximums and ranks of the pools after some rounds.
 #[derive(Drop)]

@@ -19,8 +19,8 @@ use crate::vector_cache::VectorCache;
 use cert_check::accepts;
 use cert_text::Cert;
 use job_bodies::{MAX_POOLS, Plan};
-use weights::Levels;
 use std::alloc::{AllocError, Global};
+use weights::Levels;
 
 /// The maximum number of attempts that start with the declared sizes, in addition to the first
 /// attempt. These attempts differ in the pool whose core they raise first. In a plan with more than

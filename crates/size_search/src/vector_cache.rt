@@ -2,8 +2,8 @@
 
 use crate::found::{AttemptError, Obstacle};
 use job_bodies::{Action, Plan};
-use weights::{Kind, Levels, ResizedPlan, VectorSummary, submitted_class};
 use std::alloc::{AllocError, Global};
+use weights::{Kind, Levels, ResizedPlan, VectorSummary, submitted_class};
 
 /// The maximum number of vectors that one search computes. This limit bounds the time of the
 /// search. All known plans need less than a quarter of this number.

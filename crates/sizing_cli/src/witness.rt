@@ -6,8 +6,8 @@ ghost use Rattle.sizing_cli.specs.Refute.{IsWitnessOf};
 
 use counterexample::{CandidateWitness, Witness, confirmed, search_witness};
 use job_bodies::Plan;
-use weights::{Bound, Levels, Vector, pool_bound};
 use std::alloc::{AllocError, Global};
+use weights::{Bound, Levels, Vector, pool_bound};
 
 /// The result of a search for a witness. A witness is a list of events that shows that a plan is
 /// not safe.

@@ -10,7 +10,7 @@ use Rattle.std.proofs.lemmas.List.Folds.{list_all_more}
 use Rattle.std.proofs.lemmas.List.Sums.{prefix_len_passes, prefix_len_stops, prefix_len-le-length, passes_at_first, fails_before_first}
 use Rattle.std.proofs.lemmas.Int.Digits.{digits_value_more}
 use Rattle.std.proofs.lemmas.Str.Parse.{digits_value-take-le}
-use Rattle.job_bodies.specs.declared.limits.TheConstants.{MAX_LINE_NUMBER}
+use Rattle.support.specs.declared.line_number.TheConstants.{MAX_LINE_NUMBER}
 use Rattle.support.specs.Pieces.{is_newline, first_line, after_line}
 use Rattle.support.specs.LineNumber.{has_leading_zero, is_whole_number, number_of, digit_count, leading_number, split_number_line}
 use Rattle.support.proofs.FirstPieces.{place, no_more_before}

@@ -8,7 +8,7 @@ use Rattle.std.proofs.lemmas.Bool.Decides.{nat_tests}
 use Rattle.std.proofs.lemmas.Option.{cond_some}
 use Rattle.std.proofs.lemmas.Str.Parse.{IsNumeralModel, numerals_by_value}
 use Rattle.std.proofs.lemmas.Fmt.{decimal_nonempty, first_decimal, digits_decimal, digits_value-decimal, decimal_digit, decimal-digits_value}
-use Rattle.job_bodies.specs.declared.limits.TheConstants.{MAX_LINE_NUMBER}
+use Rattle.support.specs.declared.line_number.TheConstants.{MAX_LINE_NUMBER}
 use Rattle.support.specs.LineNumber.{has_leading_zero, is_whole_number, number_of, is_valid_number}
 use Rattle.support.proofs.Splits.{has_no}
 

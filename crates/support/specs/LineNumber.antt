@@ -4,7 +4,7 @@ use Rattle.std.specs.Char.{is_ascii_digit}
 use Rattle.std.specs.List.{list_all, prefix_len}
 use Rattle.std.specs.Str.Parse.{digits_value}
 use Rattle.support.specs.Pieces.{first_line, after_line}
-use Rattle.job_bodies.specs.declared.limits.TheConstants.{MAX_LINE_NUMBER}
+use Rattle.support.specs.declared.line_number.TheConstants.{MAX_LINE_NUMBER}
 
 -- whether the number is at most the limit
 abbrev pub is_valid_number : ℕ → Bool

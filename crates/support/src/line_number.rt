@@ -3,7 +3,8 @@
 ghost use Rattle.std.specs.Prelude.{◌≡◌, ◌==◌, ◌&&◌, not, length, option_map};
 ghost use Rattle.support.specs.LineNumber as spec;
 
-use job_bodies::MAX_LINE_NUMBER;
+/// The maximum of each number in event lines and in lines of recordings. The minimum is 0.
+pub const MAX_LINE_NUMBER: usize = 1_000_000_000;
 
 /// Returns the number that the text spells in decimal digits. Returns `None` if
 ///

@@ -4,13 +4,13 @@
 ghost use Rattle.std.specs.Prelude.{IfOk, IfSome, IsTrue};
 ghost use Rattle.weights.specs.Vector.{vector_fits};
 
+use crate::Vector;
 use crate::numbers::number_at;
 use crate::sketch::Sketch;
 use crate::target::Target;
 use crate::weight::Weight;
 use job_bodies::{Class, Client, Plan};
 use std::alloc::{AllocError, Global};
-use crate::Vector;
 
 /// Returns the complete vector of a sketch, with the worker weights `workers`. Returns `None` if
 /// the vector has a number above `MAX_WEIGHT`, or if `workers` does not have one weight for each

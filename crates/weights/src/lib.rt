@@ -4,6 +4,12 @@
 //! A [`Row`] is one condition at one place of the plan. A walk over the conditions passes each row
 //! to a [`RowVisitor`]. Functions such as [`Vector::standing_fault`] return the first condition
 //! that fails.
+//!
+//! The crate also searches for vectors with small totals ([`pool_bound`], [`blocked_vector`]). The
+//! weights are chosen so that no event increases the sum of the weights in a state. For example, if
+//! each queued job of a pool weighs at least 1, this sum bounds the number of queued jobs of the
+//! pool. The contracts of the search promise only the shape of a vector, so each vector must be
+//! checked before its use, for example with `cert_check::accepts`.
 #![tactic(auto)]
 
 mod blocked;

@@ -8,13 +8,13 @@
 ghost use Rattle.std.specs.Prelude.{◌≡◌, ◌<◌, ◌≤◌, length, IfOk, IfSome, IsTrue, vec_len};
 ghost use Rattle.weights.specs.Vector.{vector_fits};
 
-use crate::{Levels, Vector};
+use crate::complete_vector::vector_of;
 use crate::numbers::{number_at, put_at};
 use crate::relief::relieving_loan;
-use crate::complete_vector::vector_of;
 use crate::sketch::{Sketch, TOO_HEAVY};
 use crate::sketch_cache::SketchCache;
 use crate::target::Target;
+use crate::{Levels, Vector};
 use job_bodies::Plan;
 use std::alloc::{AllocError, Global};
 

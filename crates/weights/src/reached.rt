@@ -6,8 +6,8 @@
 
 ghost use Rattle.std.specs.Prelude.{◌≡◌, IfOk, length, vec_len};
 
-use crate::{Levels, submitted_class};
 use crate::numbers::{number_at, put_at};
+use crate::{Levels, submitted_class};
 use job_bodies::{Action, Class, Plan};
 use std::alloc::{AllocError, Global};
 

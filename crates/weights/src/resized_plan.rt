@@ -9,11 +9,11 @@
 ghost use Rattle.std.specs.Prelude.{◌≡◌, ◌<◌, length, IfOk, IfSome, IsTrue, vec_len};
 ghost use Rattle.weights.specs.Vector.{vector_fits};
 
-use crate::{Levels, Vector};
-use crate::minimize_total::{Loans, minimize_total};
 use crate::complete_vector::vector_of;
+use crate::minimize_total::{Loans, minimize_total};
 use crate::sketch::{Sketch, TOO_HEAVY};
 use crate::target::{Lenders, Target};
+use crate::{Levels, Vector};
 use job_bodies::Plan;
 use std::alloc::{AllocError, Global};
 

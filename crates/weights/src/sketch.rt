@@ -1,10 +1,10 @@
 //! Sketches of vectors. A sketch has the weights of queued jobs, of done jobs, and of clients at
 //! the start of their bodies. It is computed in one pass over the bodies.
 
-use crate::{Levels, submitted_class};
 use crate::numbers::{number_at, put_at};
 use crate::target::Target;
 use crate::weight::Weight;
+use crate::{Levels, submitted_class};
 use job_bodies::{Action, Class, Client, MAX_WEIGHT, Plan};
 use std::alloc::{AllocError, Global};
 

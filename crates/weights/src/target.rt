@@ -6,8 +6,8 @@
 //!   wait for jobs of classes with a high reach (see [`WeightRequirement::AtGets`]).
 
 use crate::numbers::number_at;
-use job_bodies::{Action, Class, Plan, Pool};
 use crate::submitted_class;
+use job_bodies::{Action, Class, Plan, Pool};
 
 /// The requirement of a vector: the points at which each job of the target's pool must weigh at
 /// least 1.

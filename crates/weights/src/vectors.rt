@@ -14,9 +14,9 @@ ghost use Rattle.std.specs.Prelude.{◌<◌, IfOk, IfSome, IsTrue, length};
 ghost use Rattle.weights.specs.Vector.{vector_fits};
 ghost use Rattle.weights.specs.Bound.{bound_vector};
 
-use crate::{Bound, Levels, Vector};
 use crate::minimize_total::{least_vector, lightest_vector};
 use crate::target::Target;
+use crate::{Bound, Levels, Vector};
 use job_bodies::{Plan, Pool};
 use std::alloc::{AllocError, Global};
 

@@ -2,10 +2,10 @@
 
 use interleaving::{BadEventLine, EventLine, EventLines, Reply, push_reply, push_summary};
 use job_bodies::{Plan, Pool};
+use pool_machine::{Event, Outcome};
 use std::alloc::Global;
 use std::test::Fail;
 use support::Counter;
-use pool_machine::{Event, Outcome};
 
 fn plan_of_p_and_q(alloc: Global) -> Result<Plan, Fail> {
     let mut pools = Vec::new(alloc);
