@@ -3,8 +3,10 @@
 //! get it.
 //!
 //! A [`World`] stores the live jobs, the pools and the clients. Its contracts relate it to the
-//! states of the machine that `pool_machine` defines. [`EventLines`] reads events from text, and
-//! [`push_reply`] writes what they did.
+//! states of the machine that `pool_machine` defines.
+//!
+//! [`EventLines`] parses the lines that `replay` reads: events, and questions whether jobs wait only
+//! for each other. [`push_reply`] writes the answer to a line, and [`push_summary`] the last line.
 #![tactic(auto)]
 
 mod activities;

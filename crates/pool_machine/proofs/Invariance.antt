@@ -1,4 +1,4 @@
--- The laws of a single pool as lemmas, for the crates that depend on this one.
+-- The laws of a single pool as lemmas, for the proofs about the machine of many pools.
 use Rattle.std.proofs.Common.{◌≡◌, ℕ, suc, ◌+◌, ◌-◌, ◌<◌, ◌≤◌, Bool, true, false, cond, inl, inr, length, Some, refl, ap, ◌∙◌, arith, rules}
 use Rattle.std.proofs.lemmas.Grind.{common_steps}
 use Rattle.std.specs.Prelude.{IsTrue}

@@ -97,7 +97,7 @@ part_of pool = record { queue = pool.queue; idle = pool.idle }
 abbrev pub pool_view : Pool → PoolPart → ℕ → PoolView
 pool_view pool part threads = record { core = pool.core; max = pool.max; capacity = pool.queue; unbounded = pool.unbounded; core_timeout = pool.core_timeout; threads = threads; idle = part.idle; queue = part.queue }
 
--- the view of pool p in state s, for the definitions of `pool_machine`
+-- the view of pool p in state s, for the definitions of one pool (PoolState.antt)
 abbrev pub pool_seen : Plan → State → ℕ → PoolView
 pool_seen plan s p = pool_view (pool_at plan p) (pool_part s p) (threads plan s p)
 

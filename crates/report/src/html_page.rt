@@ -1,5 +1,5 @@
-//! The HTML page of an answer. The page is a template in which the answer's JSON text replaces a
-//! placeholder.
+//! The HTML page that contains a JSON text. The page is a template in which the JSON text replaces
+//! a placeholder.
 
 ghost use Rattle.std.specs.Prelude.{◌≡◌, ◌++◌, IfOk, string_bytes};
 ghost use Rattle.support.specs.Pushed.{Pushes};

@@ -1,5 +1,6 @@
 //! The search for pool sizes with which a certificate accepts a plan. If no sizes can be enough,
-//! the search returns the cause.
+//! the search returns the cause. The causes and the waits between pools are found in graphs of the
+//! plan's classes and pools (`Graph`).
 //!
 //! The heuristics of the search are not trusted: [`search_sizes`] returns only sizes that
 //! [`fitted`] or [`cert_check::accepts`] has checked.

@@ -1,4 +1,4 @@
--- The answer of a replay. It is defined by the steps of the written machine from a state, and by the waiting sets.
+-- The answer of a replay. It is defined by the steps of the machine (`pool_machine`) from a state, and by the waiting sets.
 use Rattle.std.specs.Prelude.{ℕ, suc, ◌+◌, Bool, true, false, if◌then◌else◌, List, [], ◌∷◌, count_by, Option, Some, None}
 use Rattle.job_bodies.specs.Plan.{Plan}
 use Rattle.pool_machine.specs.declared.event.Outcome.{Outcome}

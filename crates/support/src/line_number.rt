@@ -1,4 +1,4 @@
-//! Unsigned integers in a text.
+//! The parsing of unsigned integers in the lines of a text.
 
 ghost use Rattle.std.specs.Prelude.{◌≡◌, ◌==◌, ◌&&◌, not, length, option_map};
 ghost use Rattle.support.specs.LineNumber as spec;
