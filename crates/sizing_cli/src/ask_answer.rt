@@ -7,14 +7,13 @@ ghost use Rattle.sizing_cli.specs.Ask as spec;
 ghost use Rattle.sizing_cli.specs.ServeFault.{is_of_search};
 
 use crate::ServeFault;
-use crate::answer::{input_too_long, no_separator};
+use crate::answer::{Output, input_too_long, no_separator};
 use crate::ask_faults::{cert_fault_answer, faults_answer};
 use crate::bundle::bundle_of;
 use crate::finding::finding_of;
 use crate::finding_answer::answer_of;
+use crate::input::{cert_in, plan_in};
 use crate::lowered_plan::lowered_plan;
-use crate::output::Output;
-use crate::texts::{cert_in, plan_in};
 use cert_text::Cert;
 use command_line::{AskInput, AskOptions};
 use job_bodies::{MAX_INPUT_BYTES, Plan};

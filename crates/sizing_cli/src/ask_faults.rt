@@ -6,8 +6,7 @@ ghost use Rattle.diagnostics.specs.Diagnostic.{faults_text};
 ghost use Rattle.sizing_cli.specs.Ask as spec;
 
 use crate::Status;
-use crate::answer::Answer;
-use crate::output::Output;
+use crate::answer::{Answer, Output};
 use cert_text::CertFault;
 use command_line::Form;
 use diagnostics::{Faults, faults_of, one_line, push_faults};

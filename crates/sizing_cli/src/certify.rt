@@ -7,11 +7,10 @@ ghost use Rattle.plan_text.specs.PlanOf.{plan_of};
 ghost use Rattle.sizing_cli.specs.Certify as spec;
 ghost use Rattle.sizing_cli.specs.ServeFault.{is_of_search};
 
-use crate::answer::{Answer, input_too_long, plan_fault};
+use crate::answer::{Answer, Output, input_too_long, plan_fault};
 use crate::certificate::certificate_of;
 use crate::certified_bundle::certified_bundle;
-use crate::output::Output;
-use crate::texts::plan_in;
+use crate::input::plan_in;
 use crate::{ServeFault, Status};
 use cert_text::write_cert;
 use job_bodies::{MAX_CERT_BYTES, MAX_INPUT_BYTES, Plan, PlanFault};

@@ -10,7 +10,7 @@ ghost use Rattle.sizing_cli.specs.Report as spec;
 
 use crate::Status;
 use crate::answer::{Answer, cert_fault};
-use crate::texts::cert_in;
+use crate::input::cert_in;
 use cert_check::{push_verdict, verdict};
 use cert_text::Cert;
 use job_bodies::Plan;

@@ -8,7 +8,7 @@ ghost use Rattle.sizing_cli.specs.Conform as spec;
 use crate::Status;
 use crate::answer::{Answer, bad_recording, input_too_long, no_separator, plan_fault};
 use crate::bundle::first_bundle_of;
-use crate::texts::plan_in;
+use crate::input::plan_in;
 use conformance::{Conformance, Finding, PoolRejections, conform, push_findings};
 use job_bodies::{MAX_RECORDED_BYTES, Plan};
 use std::alloc::{AllocError, Global};

@@ -7,12 +7,12 @@ ghost use Rattle.sizing_cli.specs.ServeFault.{is_of_search, is_of_threads};
 ghost use Rattle.sizing_cli.specs.Ask.{IsAskAnswer};
 ghost use Rattle.sizing_cli.specs.CommandResult.{IsTaskAnswerWith, IsTaskAnswer, WritesWithCertificate, Serves, ServesInput, stream_change};
 
+use crate::answer::Output;
 use crate::ask_answer::{AskOutput, ask};
 use crate::certify::certify;
 use crate::fit::fit;
 use crate::most_bytes;
 use crate::named_texts::NO_FILE;
-use crate::output::Output;
 use crate::recording_commands::write_reading;
 use crate::refute::refute;
 use crate::run::run_report;

@@ -6,7 +6,7 @@ ghost use Rattle.sizing_cli.specs.Report as spec;
 
 use crate::Status;
 use crate::answer::{Answer, cert_fault};
-use crate::texts::cert_in;
+use crate::input::cert_in;
 use cert_text::Cert;
 use job_bodies::Plan;
 use refusal_notes::push_explanation;

@@ -14,10 +14,9 @@ ghost use Rattle.report.specs.Places.{needed_places};
 ghost use Rattle.sizing_cli.specs.Ask as spec;
 
 use crate::Status;
-use crate::answer::Answer;
+use crate::answer::{Answer, Output};
 use crate::ask_answer::AskOutput;
 use crate::lowered_plan::LoweredPlan;
-use crate::output::Output;
 use cert_text::{Cert, write_cert};
 use command_line::{AskOptions, Form};
 use diagnostics::{Lint, Warning, has_warning, one_line, plan_places, push_warnings, warnings_of};

@@ -10,12 +10,11 @@ ghost use Rattle.sizing_cli.specs.Fit as spec;
 ghost use Rattle.plan_text.specs.EffectivePlan.{effective_plan};
 ghost use Rattle.sizing_cli.specs.ServeFault.{is_of_search};
 
-use crate::answer::{Answer, input_too_long, plan_fault};
+use crate::answer::{Answer, Output, input_too_long, plan_fault};
 use crate::certificate::WORKERS;
 use crate::certified_bundle::certified_bundle;
+use crate::input::plan_in;
 use crate::noop_gate::NoopGate;
-use crate::output::Output;
-use crate::texts::plan_in;
 use crate::{ServeFault, Status};
 use cert_search::search;
 use cert_text::{Cert, write_cert};

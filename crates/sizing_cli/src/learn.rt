@@ -14,7 +14,7 @@ ghost use Rattle.sizing_cli.specs.Learn as spec;
 
 use crate::Status;
 use crate::answer::{Answer, bad_recording, input_too_long};
-use crate::texts::plan_in;
+use crate::input::plan_in;
 use conformance::{
     Conformance, Finding, PoolRejections, conform, mark_rejecting_pools, push_finding,
     push_findings,

@@ -22,16 +22,13 @@ mod finding;
 mod finding_answer;
 mod fit;
 mod input;
-mod input_laws;
-mod input_length;
 mod join;
-mod join_laws;
+mod laws;
 mod learn;
 mod line_ends;
 mod lowered_plan;
 mod named_texts;
 mod noop_gate;
-mod output;
 mod recording_commands;
 mod refute;
 mod rejections;
@@ -42,10 +39,9 @@ mod sequential;
 mod status;
 mod std_files;
 mod text_files;
-mod texts;
-mod transcript;
 mod witness;
 
+pub use answer::Output;
 pub use arguments::serve_words;
 pub use ask_answer::{AskOutput, ask};
 pub use bundle::{Bundle, bundle_of};
@@ -58,13 +54,12 @@ pub use command_line::{
 pub use entry_points::{serve, serve_named};
 pub use fault::CliError;
 pub use fit::answer_of_sizes;
-pub use input_laws::{
-    a_yes_means_safe, inputs_split_at_the_last_separator, no_bundle_without_a_separator,
-};
-pub use input_length::most_bytes;
+pub use input::most_bytes;
 pub use join::join_texts;
-pub use join_laws::joined_texts_split_again;
-pub use output::Output;
+pub use laws::{
+    a_yes_means_safe, inputs_split_at_the_last_separator, joined_texts_split_again,
+    no_bundle_without_a_separator,
+};
 pub use recording_commands::serve_recording;
 pub use sequential::serve_alone;
 pub use status::{ServeFault, Status};

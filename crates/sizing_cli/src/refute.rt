@@ -7,11 +7,10 @@ ghost use Rattle.sizing_cli.specs.Certify.{IsUncertified};
 ghost use Rattle.sizing_cli.specs.Refute as spec;
 ghost use Rattle.sizing_cli.specs.ServeFault.{is_of_search};
 
-use crate::answer::{Answer, input_too_long, plan_fault};
+use crate::answer::{Answer, Output, input_too_long, plan_fault};
 use crate::certificate::{WORKERS, certificate_of};
 use crate::certify::whole_lines;
-use crate::output::Output;
-use crate::texts::plan_in;
+use crate::input::plan_in;
 use crate::witness::{WitnessSearch, witness_of};
 use crate::{ServeFault, Status};
 use command_line::RefuteFormat;

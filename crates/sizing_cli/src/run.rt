@@ -5,9 +5,8 @@ ghost use Rattle.sizing_cli.specs.Report as spec;
 ghost use Rattle.sizing_cli.specs.ServeFault.{is_of_run};
 
 use crate::answer::{Answer, cert_fault, too_large};
-use crate::input::read_input;
+use crate::input::{cert_in, read_input};
 use crate::noop_gate::NoopGate;
-use crate::texts::cert_in;
 use crate::{ServeFault, Status};
 use cert_check::Certified;
 use cert_text::Cert;

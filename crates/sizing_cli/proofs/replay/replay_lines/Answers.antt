@@ -1,7 +1,7 @@
 use Rattle.std.proofs.Common.{ℕ, Option, subst, ◌∙◌}
 use Rattle.sizing_cli.specs.PartialTranscript.{IsTranscribed}
 use Rattle.sizing_cli.proofs.Answering.{if_ok_map}
-use Rattle.sizing_cli.proofs.transcript.replay_lines.Goals as goal
+use Rattle.sizing_cli.proofs.replay.replay_lines.Goals as goal
 
 pub returns-in-None : goal.returns-in-None
 returns-in-None c =

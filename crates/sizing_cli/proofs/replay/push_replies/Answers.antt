@@ -1,5 +1,5 @@
 use Rattle.sizing_cli.proofs.Answering.{replayed_at_start, replayed_one_more, replayed_to_end}
-use Rattle.sizing_cli.proofs.transcript.push_replies.Goals as goal
+use Rattle.sizing_cli.proofs.replay.push_replies.Goals as goal
 
 pub loop-line-init : goal.loop-line-init
 loop-line-init c =

@@ -3,7 +3,7 @@ use Rattle.pool_machine.specs.Waiting.{is_waiting_set}
 use Rattle.interleaving.specs.declared.reply.Reply.TheVariants as reply
 use Rattle.sizing_cli.proofs.SameSets.{same_sets}
 use Rattle.sizing_cli.proofs.Answering.{replies_to_event, replies_not_possible}
-use Rattle.sizing_cli.proofs.transcript.reply_to.Goals as goal
+use Rattle.sizing_cli.proofs.replay.reply_to.Goals as goal
 
 pub returns-in-Some : goal.returns-in-Some
 returns-in-Some c = λ s reached live.

@@ -2,6 +2,7 @@
 
 ghost use Rattle.sizing_cli.specs.Laws.{InputsSplitAtTheLastSeparator, NoBundleWithoutASeparator};
 ghost use Rattle.sizing_cli.specs.SafeInput.{YesMeansSafe};
+ghost use Rattle.sizing_cli.specs.Texts.{JoinedTextsSplitAgain};
 
 /// States which inputs are bundles. An input is a bundle if it consists of these three parts, and
 /// no other input is a bundle:
@@ -26,4 +27,11 @@ pub fn no_bundle_without_a_separator()
 /// - No unfinished jobs wait only for each other.
 pub fn a_yes_means_safe()
     ensures { YesMeansSafe }
+{}
+
+/// States that a split undoes a join. If the second text has no line `%%`, the joined text splits
+/// into the plan's text and the second text again. The plan's text then has the newline that the
+/// join appended, if any.
+pub fn joined_texts_split_again()
+    ensures { JoinedTextsSplitAgain }
 {}
