@@ -82,12 +82,14 @@ TOGETHER = [["a_level", "no_mark", "fewer", "once", "the_last", "no_level"]]
 # `Levels::next` is not proved either, but not by an error in its own proof.
 REFUSED = ["a_level", "fewer", "the_last"]
 
-# Tasks of a crate with four mutants, and the number of those that start at once on four processors: all if no proof is left, and
-# none while a proof can use all processors.
+# Tasks of a crate with four mutants, and the number of those that start at once on four processors: all if no proof is left, none
+# while the proof of a large crate uses all processors, three beside the last proof of a small crate, and one if another proof waits.
 FOUR = {("set", "edits", number): ((), 1, 1, None) for number in range(4)}
 AFTER = {("set", "sound"): (tuple(FOUR), 1, 1, None)}
-PROOF = {("graph", "proof"): ((), 1, 1, None)}
-STARTED = [4, 0]
+LARGE = {("graph", "proof"): ((), 5000, 1, None)}
+SMALL = {("tree", "proof"): ((), 100, 1, None)}
+ABOVE = {("program", "proof"): ((("tree", "proof"),), 100, 1, None)}
+STARTED = [4, 0, 3, 1]
 
 
 def started(tasks):
@@ -110,7 +112,7 @@ def main():
         batches = batches_of(paths, room)
         together = [[Path(mutant).stem for mutant, _ in batch] for batch in batches]
         refused = [Path(mutant).stem for mutant, _ in refused_in(SimpleNamespace(name="graphs"), batches[0], LINES)]
-    parallel = [started({**FOUR, **AFTER}), started({**PROOF, **FOUR, **AFTER})]
+    parallel = [started({**proofs, **FOUR, **AFTER}) for proofs in ({}, LARGE, SMALL, {**SMALL, **ABOVE})]
     cases = ("tried together", together, TOGETHER), ("refused", refused, REFUSED), ("in parallel", parallel, STARTED)
     wrong = [f"{what}: {found}, and not {right}" for what, found, right in cases if found != right]
     print(*wrong, f"{len(cases) - len(wrong)} passed, {len(wrong)} failed", sep="\n")

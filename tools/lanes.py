@@ -1,8 +1,8 @@
 """The checks that `rt ci` runs in parallel, and the number of jobs of each.
 
 `rt ci` starts a check if its estimate of the memory fits. Its estimates are 1.3 to 5.5 times what a check of these crates takes, so
-that processors stay idle; `realistic_need` replaces them if the machine has enough memory. It also lets mutants fill each idle
-processor, so that a crate on the longest chain gets one job; `in_lanes` gives mutants one processor while a proof is left."""
+that processors stay idle; `realistic_need` replaces them. It also lets mutants fill each idle processor, so that a crate on the
+longest chain gets one job; `in_lanes` gives mutants one processor while a proof waits."""
 from concurrent.futures import FIRST_COMPLETED, ThreadPoolExecutor, wait
 
 # The largest check takes a little more than this, and nearly all others 1 to 3 GiB (docs/GATE.md).
@@ -12,6 +12,8 @@ USUAL_GIB = 2.5
 MORE = 0.5
 # The most jobs of a check: more save little time, and each costs the reading of the libraries.
 MOST_JOBS = 4
+# A crate with fewer lines gets one job: most of its time goes into the reading of the libraries, or into a compiler.
+MANY_LINES = 1000
 # The jobs of the check with the longest chain of work after it, even if other checks take all processors: the number of jobs of
 # a check is fixed when it starts, and the end of a run depends on this chain. Two jobs do the work of 1.8. On two processors it is
 # one job, since a second check that runs beside it saves more.
@@ -24,17 +26,16 @@ def side_by_side(rt, gib):
 
 
 def realistic_need(rt):
-    """Makes rt expect the usual memory of a check, if there is enough memory for the largest check on each processor."""
-    if side_by_side(rt, CHECK_GIB) == rt.processors():
-        rt.need = lambda crate: int(USUAL_GIB * 2**30)
-        rt.in_lanes = lambda tasks: in_lanes(rt, tasks)
+    """Makes rt expect the usual memory of a check, and use so many processors that the largest check fits into the memory on each."""
+    rt.need = lambda crate: int(USUAL_GIB * 2**30)
+    rt.in_lanes = lambda tasks: in_lanes(rt, tasks)
 
 
 def in_lanes(rt, tasks):
     """Runs tasks in parallel and returns what each gave. A task is the keys of those that it waits for, its work, its memory, and a
     call that takes what was given and a number of jobs. Those with the longest chain of work after them start first; mutants come last,
     one crate after the other, so that an interrupted run has finished some crates."""
-    lanes, memory = rt.processors(), 0.85 * rt.free()
+    lanes, memory = side_by_side(rt, CHECK_GIB), 0.85 * rt.free()
     after = chains(tasks)
     turns = {crate: turn for turn, crate in enumerate(dict.fromkeys(key[0] for key in tasks))}
     waiting = sorted(tasks, key=lambda key: (turns[key[0]] + 1 if is_of_mutants(key) else 0, -after[key]))
@@ -61,8 +62,8 @@ def startable(tasks, waiting, running, given, lanes, memory):
         if idle <= 0 or (running and need > room):
             return
         if is_of_mutants(key):
-            proof_is_left = any(not is_of_mutants(it) for it in [*waiting, *(it for it, _, _ in running.values())])
-            if proof_is_left and any(is_of_mutants(it) for it, _, _ in running.values()):
+            proof_waits = any(not is_of_mutants(it) for it in waiting)
+            if proof_waits and any(is_of_mutants(it) for it, _, _ in running.values()):
                 return
             yield key, 1
         else:
@@ -70,7 +71,8 @@ def startable(tasks, waiting, running, given, lanes, memory):
             fitting = 1 + int((room / need - 1) / MORE)
             # `waiting` is sorted by the chains
             wanted = max(idle // others, JOBS_OF_CHAIN if key == waiting[0] and lanes > JOBS_OF_CHAIN else 1)
-            yield key, max(1, min(MOST_JOBS, lanes, wanted, fitting))
+            useful = MOST_JOBS if tasks[key][1] >= MANY_LINES else 1
+            yield key, max(1, min(useful, lanes, wanted, fitting))
 
 
 def chains(tasks):
