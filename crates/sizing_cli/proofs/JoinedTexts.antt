@@ -5,10 +5,10 @@ use Rattle.std.specs.List.{ends_with}
 use Rattle.std.specs.Prelude.{nat_eq}
 use Rattle.std.proofs.lemmas.Slice.Eq.{ends_is}
 use Rattle.std.proofs.lemmas.Bool.Decides.{Decides-eqb}
-use Rattle.sizing_cli.specs.Certify.{whole_lines}
+use Rattle.sizing_cli.specs.Bundle.{whole_lines, join_texts}
 use Rattle.sizing_cli.specs.Laws.{IsWholeLines}
 use Rattle.sizing_cli.proofs.LastSeparator.{split_is}
-use Rattle.sizing_cli.specs.Texts.{JoinedTextsSplitAgain, join_texts}
+use Rattle.sizing_cli.specs.Laws.{JoinedTextsSplitAgain}
 
 nothing_in : (text : List ℕ) → (length text == 0) ≡ true → text ≡ []
 nothing_in [] is = refl

@@ -1,5 +1,5 @@
 -- Bytes after the maximum length of an input do not change the answer.
-use Rattle.std.proofs.Common.{◌≡◌, ℕ, ◌+◌, ◌<◌, inl, inr, Bool, cond, List, length, take, Option, Some, None, Result, Ok, Err, IfSome, IfErr, sym, ap, ◌∙◌, arith}
+use Rattle.std.proofs.Common.{◌≡◌, ℕ, ◌+◌, ◌<◌, inl, inr, Bool, cond, List, length, take, Option, Some, None, IfSome, sym, ap, ◌∙◌, arith}
 use Rattle.std.proofs.lemmas.Bool.{cases_lt, lt-ltb}
 use Rattle.std.proofs.lemmas.List.{take_all, length-take-le}
 use Rattle.job_bodies.specs.Plan.{Plan}
@@ -27,7 +27,3 @@ pub answered_whole : (remaining : Option (List ℕ)) (items slice : List ℕ) (a
 answered_whole None items slice answers answer front same is = tt
 answered_whole (Some input) items slice answers answer front same is =
     is ∙ (ap (λ (bytes : List ℕ). answer_by answers bytes) (same ∙ front) ∙ answer-take answers input)
-
-pub if_err : {T E : Type 0} (result : Result T E) (P : E → Type 0) (Q : Type 0) → Q → IfErr result (λ e. P e → Q)
-if_err (Ok x) P Q q = tt
-if_err (Err e) P Q q = λ _. q

@@ -5,6 +5,7 @@ use Rattle.clap.specs.Words.{Text}
 use Rattle.byte_streams.specs.Reading.{ConsumesAtMost}
 use Rattle.command_line.specs.declared.command.Command.{Command}
 use Rattle.command_line.specs.declared.command.Command.TheVariants.{Sequential, OnRecording, OnThreads}
+use Rattle.command_line.specs.declared.command.Task.TheVariants.{Certify, Fit, Run, Refute, Ask}
 use Rattle.support.specs.declared.number.TheConstants.{READ_FAILED, WRITE_FAILED}
 use Rattle.sizing_cli.specs.declared.status.ServeFault.{ServeFault}
 use Rattle.sizing_cli.specs.declared.status.Status.{Status}
@@ -12,12 +13,12 @@ use Rattle.sizing_cli.specs.declared.status.Status.TheVariants.{Done}
 use Rattle.sizing_cli.specs.Answer.{Answer}
 use Rattle.sizing_cli.specs.CliError.{IsWrittenBefore}
 use Rattle.sizing_cli.specs.declared.fault.CliError.TheVariants.{Serve}
-use Rattle.sizing_cli.specs.CommandResult.{IsAnswer, MeansSafe, Serves, ServesInput, StreamChange, WritesAnswer, WritesPrefix, WritesWithCertificate}
+use Rattle.sizing_cli.specs.CommandResult.{IsAnswer, IsAnswerWith, MeansSafe, Serves, ServesInput, StreamChange, WritesAnswer, WritesPrefix, WritesWithCertificate}
 use Rattle.sizing_cli.specs.InputLength.{most_bytes}
 use Rattle.sizing_cli.specs.Report.{answer_of}
 use Rattle.sizing_cli.specs.Texts.{IsReadOf, read_part}
 use Rattle.sizing_cli.proofs.PastTheLimit.{answered_whole}
-use Rattle.sizing_cli.proofs.ServedAnswers.{answered_by_front, left_by_front, means_safe, recorded_by_front}
+use Rattle.sizing_cli.proofs.ServedAnswers.{answered_by_front, asked_by_front, means_safe, recorded_by_front}
 
 -- ---- one answer
 
@@ -54,19 +55,25 @@ pub safe_read : (known : Option (List ℕ)) (command : Command) (file : Text) (i
 safe_read None command file items status old new read writes done = tt
 safe_read (Some input) command file items status old new read writes done = means_safe command file input status old new (wrote_read (Some input) command file items status old new read writes) done
 
--- the certificate that is left
-left_part : (command : Command) (file : Text) (input items : List ℕ) (status : Status) (left old new : Option (List ℕ)) → items ≡ read_part command input → WritesWithCertificate command file items status left old new
-    → WritesWithCertificate command file input status left old new
-left_part (Sequential review) file input items status left old new front leaves = tt
-left_part (OnRecording reading) file input items status left old new front leaves = tt
-left_part (OnThreads task) file input items status left old new front leaves =
-    record { answer = leaves.answer; is_left = left_by_front (Some input) items task file leaves.answer left front leaves.is_left; written = leaves.written; status_is = leaves.status_is }
+-- the certificate that is returned with the answer
+left_part : (command : Command) (file : Text) (input items : List ℕ) (answer : Answer) (left : Option (List ℕ)) → items ≡ read_part command input → IsAnswerWith command file items answer left → IsAnswerWith command file input answer left
+left_part (Sequential review) file input items answer left front is = tt
+left_part (OnRecording reading) file input items answer left front is = tt
+left_part (OnThreads (Certify workers)) file input items answer left front is = tt
+left_part (OnThreads (Fit sizes_form)) file input items answer left front is = tt
+left_part (OnThreads (Run rounds)) file input items answer left front is = tt
+left_part (OnThreads (Refute states refute_format)) file input items answer left front is = tt
+left_part (OnThreads (Ask given options)) file input items answer left front is = asked_by_front (Some input) items given options file left answer front is
+
+left_of : (command : Command) (file : Text) (input items : List ℕ) (answer : Answer) (left : Option (List ℕ)) → IsReadOf command items input → IsAnswerWith command file items answer left → IsAnswerWith command file input answer left
+left_of command file input items answer left (inl same) is = subst (λ (text : List ℕ). IsAnswerWith command file text answer left) same is
+left_of command file input items answer left (inr part) is = left_part command file input items answer left part is
 
 pub left_read : (known : Option (List ℕ)) (command : Command) (file : Text) (items : List ℕ) (status : Status) (left old new : Option (List ℕ)) → IfSome known (IsReadOf command items) → WritesWithCertificate command file items status left old new
     → IfSome known (λ input. WritesWithCertificate command file input status left old new)
 left_read None command file items status left old new read leaves = tt
-left_read (Some input) command file items status left old new (inl same) leaves = subst (λ (text : List ℕ). WritesWithCertificate command file text status left old new) same leaves
-left_read (Some input) command file items status left old new (inr part) leaves = left_part command file input items status left old new part leaves
+left_read (Some input) command file items status left old new read leaves =
+    record { answer = leaves.answer; is_left = left_of command file input items leaves.answer left read leaves.is_left; written = leaves.written; status_is = leaves.status_is }
 
 -- ---- whole calls
 
@@ -102,8 +109,3 @@ serves_whole command file items source sink (Err fault) front at_most calm serve
       write_failed = serves.write_failed;
       at_most = at_most;
     }
-
-pub leaves_whole : (command : Command) (file : Text) (items : List ℕ) (known old new left : Option (List ℕ)) (result : Result Status ServeFault) → IfSome known (λ input. items ≡ take (most_bytes command + 1) input)
-    → IfOk result (λ status. WritesWithCertificate command file items status left old new) → IfOk result (λ status. IfSome known (λ input. WritesWithCertificate command file input status left old new))
-leaves_whole command file items known old new left (Ok status) front leaves = left_read known command file items status left old new (front_read known command items front) leaves
-leaves_whole command file items known old new left (Err fault) front leaves = tt

@@ -13,7 +13,8 @@ use Rattle.job_bodies.specs.declared.limits.TheConstants.{MAX_INPUT_BYTES}
 use Rattle.sizing_cli.specs.declared.status.Status.TheVariants.{Done, Refused, Undecided}
 use Rattle.sizing_cli.specs.Answer.{Answer, input_too_long}
 use Rattle.sizing_cli.specs.SafeInput.{IsSafePlan}
-use Rattle.sizing_cli.specs.Certify.{IsUncertified, whole_lines}
+use Rattle.sizing_cli.specs.Certify.{IsUncertified}
+use Rattle.sizing_cli.specs.Bundle.{whole_lines}
 use Rattle.sizing_cli.specs.Refute.{not_decided, AnswersPlan, AnswersReading, BundlesWitness, IsRefuteAnswer, IsWitnessBundle, IsWitnessOf, Refutes, ShowsWitness}
 use Rattle.sizing_cli.proofs.FittedAnswers.{bad_text_is_not_done}
 

@@ -1,5 +1,5 @@
 -- A command writes a possible answer to what it read, and what status 0 then means.
-use Rattle.std.proofs.Common.{◌≡◌, ℕ, ◌+◌, inl, inr, Bool, true, false, List, length, take, Option, Some, None, Result, Ok, Err, IfSome, refl, sym, ap, subst, ◌∙◌, arith}
+use Rattle.std.proofs.Common.{◌≡◌, ℕ, ◌+◌, inl, inr, Bool, true, false, List, length, take, Option, Some, None, Result, Ok, Err, IfSome, IfOk, IfErr, IsTrue, refl, sym, ap, subst, ◌∙◌, arith}
 use Rattle.std.specs.Prelude.{MatchBool, nat_lt}
 use Rattle.std.specs.Io.KnownBytes.{Appends}
 use Rattle.std.proofs.lemmas.Bool.{cases_lt, lt-ltb}
@@ -25,13 +25,16 @@ use Rattle.sizing_cli.specs.declared.status.Status.{Status}
 use Rattle.sizing_cli.specs.declared.status.Status.TheVariants.{Done, Refused, BadText}
 use Rattle.sizing_cli.specs.Answer.{Answer, input_too_long}
 use Rattle.sizing_cli.specs.Report.{run}
-use Rattle.sizing_cli.specs.Certify.{IsCertifyAnswer, IsCertifiedBundle, AnswersReading, AnswersPlan, whole_lines}
+use Rattle.sizing_cli.specs.Certify.{IsCertifyAnswer, IsCertifiedBundle, AnswersReading, AnswersPlan}
 use Rattle.sizing_cli.specs.Fit as fit
 use Rattle.sizing_cli.specs.Refute as refute
-use Rattle.sizing_cli.specs.Bundle.{first_bundle_of}
+use Rattle.sizing_cli.specs.Bundle.{first_bundle_of, whole_lines}
 use Rattle.sizing_cli.specs.Conform.{AnswersBundle}
 use Rattle.sizing_cli.specs.Learn.{AnswersLines}
-use Rattle.sizing_cli.specs.CommandResult.{IsAnswer, IsTaskAnswerWith, IsRecordingAnswer, IsTaskAnswer, WritesAnswer, WritesPrefix, TaskWritesWithCertificate, MeansSafe}
+use Rattle.sizing_cli.specs.CommandResult.{IsAnswer, IsRecordingAnswer, IsTaskAnswer, WritesAnswer, WritesPrefix, MeansSafe, ServesInput, StreamChange}
+use Rattle.sizing_cli.specs.declared.status.ServeFault.{ServeFault}
+use Rattle.sizing_cli.specs.ServeFault.{count_of, is_known_of}
+use Rattle.support.specs.declared.number.TheConstants.{WRITE_FAILED}
 use Rattle.sizing_cli.proofs.PastTheLimit.{answered_whole}
 use Rattle.sizing_cli.proofs.SafeInputs.{yes_means_safe, run_means_safe}
 use Rattle.sizing_cli.proofs.FittedAnswers.{sizes_mean_safe, bundle_means_fitted}
@@ -75,7 +78,7 @@ pub recorded_by_front : (remaining : Option (List ℕ)) (items : List ℕ) (read
 recorded_by_front remaining items Conform answer front is = answered_within MAX_RECORDED_BYTES (answer ≡ input_too_long) (λ bytes. AnswersBundle (first_bundle_of bytes) answer) remaining items front is
 recorded_by_front remaining items (Learn strict) answer front is = answered_within MAX_RECORDED_BYTES (answer ≡ input_too_long) (λ bytes. AnswersLines strict bytes answer) remaining items front is
 
-asked_by_front : (remaining : Option (List ℕ)) (items : List ℕ) (given : AskInput) (options : AskOptions) (file : Text) (left : Option (List ℕ)) (answer : Answer)
+pub asked_by_front : (remaining : Option (List ℕ)) (items : List ℕ) (given : AskInput) (options : AskOptions) (file : Text) (left : Option (List ℕ)) (answer : Answer)
     → IfSome remaining (λ input. items ≡ take (MAX_INPUT_BYTES + 1) input) → IsAskAnswer given options file items left answer → IfSome remaining (λ input. IsAskAnswer given options file input left answer)
 asked_by_front remaining items given options file left answer front is =
     answered_by_length ((left ≡ None) × (answer ≡ input_too_long)) (λ bytes. AnswersInput given options file bytes left answer) remaining items front is
@@ -94,36 +97,6 @@ answered_by_front remaining items (Ask given options) file answer front is = lef
     left_somehow : (known : Option (List ℕ)) → IfSome known (λ input. IsAskAnswer given options file input is.0 answer) → IfSome known (λ input. IsTaskAnswer (Ask given options) file input answer)
     left_somehow None asked = tt
     left_somehow (Some input) asked = (is.0, asked)
-
--- for the certificate that is left
-pub left_by_front : (remaining : Option (List ℕ)) (items : List ℕ) (task : Task) (file : Text) (answer : Answer) (left : Option (List ℕ)) → IfSome remaining (λ input. items ≡ take (MAX_INPUT_BYTES + 1) input)
-    → IsTaskAnswerWith task file items answer left → IfSome remaining (λ input. IsTaskAnswerWith task file input answer left)
-left_by_front None items task file answer left front is = tt
-left_by_front (Some input) items (Certify workers) file answer left front is = is
-left_by_front (Some input) items (Fit sizes_form) file answer left front is = is
-left_by_front (Some input) items (Run rounds) file answer left front is = is
-left_by_front (Some input) items (Refute states refute_format) file answer left front is = is
-left_by_front (Some input) items (Ask given options) file answer left front is = asked_by_front (Some input) items given options file left answer front is
-
--- ---- the written answer
-
-pub wrote_answer : (input : List ℕ) (old new : Option (List ℕ)) (command : Command) (file : Text) (answer : Answer) (bytes : List ℕ) (status : Status)
-    → IsAnswer command file input answer → bytes ≡ answer.text → status ≡ answer.status → Appends old new bytes → WritesAnswer command file input status old new
-wrote_answer input old new command file answer bytes status is text same written =
-    let Written : List ℕ → Type 0 = λ t. Appends old new t in
-    record { answer = answer; is_answer = is; written = subst Written text written; status_is = same }
-
-pub wrote_answer_front : (input : List ℕ) (old new : Option (List ℕ)) (command : Command) (file : Text) (answer : Answer) (bytes : List ℕ)
-    → IsAnswer command file input answer → bytes ≡ answer.text → AppendsFront old new bytes → WritesPrefix command file input old new
-wrote_answer_front input old new command file answer bytes is text written =
-    let Written : List ℕ → Type 0 = λ t. AppendsFront old new t in
-    record { answer = answer; is_answer = is; written = subst Written text written }
-
-pub wrote_leaving : (input : List ℕ) (old new left : Option (List ℕ)) (task : Task) (file : Text) (answer : Answer) (bytes : List ℕ) (status : Status)
-    → IsTaskAnswerWith task file input answer left → bytes ≡ answer.text → status ≡ answer.status → Appends old new bytes → TaskWritesWithCertificate task file input status left old new
-wrote_leaving input old new left task file answer bytes status is text same written =
-    let Written : List ℕ → Type 0 = λ t. Appends old new t in
-    record { answer = answer; is_left = is; written = subst Written text written; status_is = same }
 
 -- ---- what status 0 means
 
@@ -169,3 +142,30 @@ means_safe (OnThreads (Refute states refute_format.Bundle)) file input status ol
 means_safe (OnThreads (Ask given options)) file input status old new writes done = asked_means_safe given options file input writes.is_answer.0 writes.answer writes.is_answer.1 (sym writes.status_is ∙ done)
 means_safe (OnThreads (Certify workers)) file input status old new writes done =
     record { text = writes.answer.text; certified = certified_answer input writes.answer writes.is_answer (sym writes.status_is ∙ done); written = writes.written }
+
+-- ---- the written answer
+
+-- the number of a fault of the sink is known to every command
+known_of_sink : (command : Command) (number : ℕ) → number ≡ WRITE_FAILED → IsTrue (is_known_of command number)
+known_of_sink (Sequential review) number same = rw same refl
+known_of_sink (OnRecording reading) number same = rw same refl
+known_of_sink (OnThreads task) number same = rw same refl
+
+-- an answer of the command was written, or a prefix of it if the sink failed
+pub serves_written : (command : Command) (file : Text) (input : List ℕ) (answer : Answer) (sink : StreamChange) (result : Result Status ServeFault) → IsAnswer command file input answer
+    → IfOk result (λ status. status ≡ answer.status) → IfOk result (λ _. Appends sink.before sink.after answer.text)
+    → IfErr result (λ fault. fault.number ≡ WRITE_FAILED) → IfErr result (λ _. AppendsFront sink.before sink.after answer.text)
+    → sink.failed_after ≡ sink.failed_before + count_of WRITE_FAILED result → ServesInput command file input sink result
+serves_written command file input answer sink (Ok status) is same written number prefix failed =
+    let writes : WritesAnswer command file input status sink.before sink.after = record { answer = answer; is_answer = is; written = written; status_is = same } in
+    record { answered = writes; prefix = tt; nothing = tt; safe = means_safe command file input status sink.before sink.after writes; known = tt; unread = tt; write_failed = failed }
+serves_written command file input answer sink (Err fault) is same written number prefix failed =
+    record {
+      answered = tt;
+      prefix = λ _. record { answer = answer; is_answer = is; written = prefix };
+      nothing = λ other. absurd (other number);
+      safe = tt;
+      known = known_of_sink command fault.number number;
+      unread = λ read. absurd (omega (arith, number, read));
+      write_failed = failed;
+    }

@@ -1,7 +1,7 @@
 -- A bundle: a plan's text, a line that is exactly `%%`, and a second part. An input is split at its last such line. `conform`
 -- splits its input at the first one.
-use Rattle.std.specs.Prelude.{ℕ, Bool, true, false, ◌==◌, nat_eq, if◌then◌else◌, List, [], ◌∷◌, drop, Option, Some, None}
-use Rattle.std.specs.List.{starts_with}
+use Rattle.std.specs.Prelude.{ℕ, Bool, true, false, ◌==◌, ◌||◌, nat_eq, if◌then◌else◌, List, [], ◌∷◌, ◌++◌, length, drop, codes, Option, Some, None}
+use Rattle.std.specs.List.{ends_with, starts_with}
 use Rattle.std.specs.Str.{bytes_eq}
 
 pub record Bundle : Type 0 where
@@ -59,3 +59,12 @@ first_from at_line (b ∷ bs) = here_or b (split_here at_line (b ∷ bs)) (first
 -- the split of an input at its first line `%%`; None if no line is `%%`
 abbrev pub first_bundle_of : List ℕ → Option Bundle
 first_bundle_of input = first_from true input
+
+-- ---- the bundle of two texts
+-- the text with a newline appended, unless it is empty or already ends with one
+abbrev pub whole_lines : List ℕ → List ℕ
+whole_lines text = if length text == 0 || ends_with nat_eq text (10 ∷ []) then text else text ++ 10 ∷ []
+
+-- the bundle of a plan's text and a second text
+abbrev pub join_texts : List ℕ → List ℕ → List ℕ
+join_texts plan second = whole_lines plan ++ (codes "%%" ++ 10 ∷ second)

@@ -1,7 +1,6 @@
 -- The possible answers of `certify` to an input. The definition is a relation, because it does not fix which certificate is
 -- found.
-use Rattle.std.specs.Prelude.{◌≡◌, ◌⊎◌, ◌<◌, ℕ, nat_eq, nat_lt, ◌==◌, ◌||◌, List, [], ◌∷◌, ◌++◌, length, codes, if◌then◌else◌, Some, Result, Ok, Err, IsTrue, MatchBool}
-use Rattle.std.specs.List.{ends_with}
+use Rattle.std.specs.Prelude.{◌≡◌, ◌⊎◌, ◌<◌, ℕ, nat_lt, List, [], ◌∷◌, ◌++◌, length, codes, Option, Some, None, Result, Ok, Err, IsTrue, MatchBool}
 use Rattle.job_bodies.specs.Plan.{Plan}
 use Rattle.job_bodies.specs.FaultText.{fault_line}
 use Rattle.job_bodies.specs.declared.fault.PlanFault.{PlanFault}
@@ -18,11 +17,7 @@ use Rattle.sizing_cli.specs.declared.certify.CertificateSearch.{CertificateSearc
 use Rattle.sizing_cli.specs.declared.certify.CertificateSearch.TheVariants.{Text, NotFound, TooLong}
 use Rattle.sizing_cli.specs.declared.status.Status.TheVariants.{Done, Refused}
 use Rattle.sizing_cli.specs.Answer.{Answer, fault, input_too_long}
-use Rattle.sizing_cli.specs.Bundle.{bundle_of}
-
--- the text with a newline appended, unless it is empty or already ends with one
-abbrev pub whole_lines : List ℕ → List ℕ
-whole_lines text = if length text == 0 || ends_with nat_eq text (10 ∷ []) then text else text ++ 10 ∷ []
+use Rattle.sizing_cli.specs.Bundle.{bundle_of, whole_lines}
 
 abbrev pub none_found : Answer
 none_found = record { text = codes "no certificate found" ++ 10 ∷ []; status = Refused }
@@ -61,6 +56,11 @@ pub record IsCertified (plan : List ℕ) (answer : Answer) : Type 0 where
 -- the certificate's text with its newline is too long to be read back
 abbrev pub HasLongText : Cert → Type 0
 HasLongText cert = MAX_CERT_BYTES < length (cert_text cert ++ 10 ∷ [])
+
+-- the text of the certificate with a newline at its end, or None if this text is too long to be read back
+abbrev pub IsLineOf : Cert → Option (List ℕ) → Type 0
+IsLineOf cert (Some line) = line ≡ cert_text cert ++ 10 ∷ []
+IsLineOf cert None = HasLongText cert
 
 -- a certificate accepts the plan, and its text is too long
 pub record IsTooLong (plan : Plan) : Type 0 where

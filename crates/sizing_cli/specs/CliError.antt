@@ -16,43 +16,20 @@ use Rattle.sizing_cli.specs.declared.fault.CliError.TheVariants.{Words, NoComman
 
 -- Whether the sink failed or the certificate file could not be written. Only then may something have been written to the sink.
 abbrev pub is_of_sink : CliError → Bool
-is_of_sink (Words error) = false
-is_of_sink NoCommand = false
-is_of_sink InputTwice = false
-is_of_sink (Bundle name) = false
-is_of_sink (Unread name) = false
-is_of_sink CertificateNeedsFile = false
-is_of_sink (Directory name) = false
-is_of_sink (Occupied name) = false
 is_of_sink (Unwritten name) = true
 is_of_sink (Serve fault) = fault.number == WRITE_FAILED
+is_of_sink error = false
 
 -- the certificate could not be written to its file
 abbrev pub is_unwritten : CliError → Bool
-is_unwritten (Words error) = false
-is_unwritten NoCommand = false
-is_unwritten InputTwice = false
-is_unwritten (Bundle name) = false
-is_unwritten (Unread name) = false
-is_unwritten CertificateNeedsFile = false
-is_unwritten (Directory name) = false
-is_unwritten (Occupied name) = false
 is_unwritten (Unwritten name) = true
-is_unwritten (Serve fault) = false
+is_unwritten error = false
 
 -- Whether the error is the fault with this number. The errors about a file that could not be read or written count as other
 -- errors.
 abbrev pub is_fault : ℕ → CliError → Bool
-is_fault number (Words error) = false
-is_fault number NoCommand = false
-is_fault number InputTwice = false
-is_fault number (Bundle name) = false
-is_fault number (Unread name) = false
-is_fault number CertificateNeedsFile = false
-is_fault number (Directory name) = false
-is_fault number (Occupied name) = false
-is_fault number (Unwritten name) = false
 is_fault number (Serve fault) = fault.number == number
+is_fault number error = false
 
 -- 1 if the call ended with the fault of this number, otherwise 0
 abbrev pub count_in : {T : Type 0} → ℕ → Result T CliError → ℕ
@@ -62,15 +39,10 @@ count_in number (Err error) = if is_fault number error then 1 else 0
 -- the exit status: 2 for bad arguments and for help, 3 for any other error
 abbrev pub IsCode : CliError → ℕ → Type 0
 IsCode (Words error) status = ((kind_of error ≡ OutOfMemory) × (status ≡ 3)) ⊎ ((kind_of error ≢ OutOfMemory) × (status ≡ 2))
-IsCode NoCommand status = status ≡ 2
-IsCode InputTwice status = status ≡ 2
-IsCode (Bundle name) status = status ≡ 2
 IsCode (Unread name) status = status ≡ 3
-IsCode CertificateNeedsFile status = status ≡ 2
-IsCode (Directory name) status = status ≡ 2
-IsCode (Occupied name) status = status ≡ 2
 IsCode (Unwritten name) status = status ≡ 3
 IsCode (Serve fault) status = status ≡ 3
+IsCode error status = status ≡ 2
 
 -- both texts are to come from standard input
 abbrev pub IsTwice : Option Text × Option Text → Type 0
@@ -90,149 +62,73 @@ is_of_reading number = number == MEMORY || number == READ_FAILED
 
 -- a possible fault of reading standard input
 abbrev pub IsOfReading : CliError → Type 0
-IsOfReading (Words error) = ⊥
-IsOfReading NoCommand = ⊥
-IsOfReading InputTwice = ⊥
-IsOfReading (Bundle name) = ⊥
-IsOfReading (Unread name) = ⊥
-IsOfReading CertificateNeedsFile = ⊥
-IsOfReading (Directory name) = ⊥
-IsOfReading (Occupied name) = ⊥
-IsOfReading (Unwritten name) = ⊥
 IsOfReading (Serve fault) = IsTrue (is_of_reading fault.number)
+IsOfReading error = ⊥
 
 -- a possible fault of reading this file
 abbrev pub IsOfFile : Text → CliError → Type 0
-IsOfFile file (Words error) = ⊥
-IsOfFile file NoCommand = ⊥
-IsOfFile file InputTwice = ⊥
-IsOfFile file (Bundle name) = ⊥
 IsOfFile file (Unread name) = name.now ≡ file
-IsOfFile file CertificateNeedsFile = ⊥
-IsOfFile file (Directory name) = ⊥
-IsOfFile file (Occupied name) = ⊥
-IsOfFile file (Unwritten name) = ⊥
 IsOfFile file (Serve fault) = fault.number ≡ MEMORY
+IsOfFile file error = ⊥
 
 -- a possible fault of a command that reads these files
 abbrev pub IsOfTexts : Command → Option Text × Option Text → CliError → Type 0
-IsOfTexts command files (Words error) = ⊥
-IsOfTexts command files NoCommand = ⊥
 IsOfTexts command files InputTwice = IsTwice files
 IsOfTexts command files (Bundle name) = IsNamedAs files name.now
 IsOfTexts command files (Unread name) = IsNamed files name.now
-IsOfTexts command files CertificateNeedsFile = ⊥
-IsOfTexts command files (Directory name) = ⊥
-IsOfTexts command files (Occupied name) = ⊥
-IsOfTexts command files (Unwritten name) = ⊥
 IsOfTexts command files (Serve fault) = IsTrue (is_known_of command fault.number)
+IsOfTexts command files error = ⊥
 
 -- the error is that the certificate could not be written to the named file
 abbrev pub IsUnwritten : Option Text → CliError → Type 0
-IsUnwritten named (Words error) = ⊥
-IsUnwritten named NoCommand = ⊥
-IsUnwritten named InputTwice = ⊥
-IsUnwritten named (Bundle name) = ⊥
-IsUnwritten named (Unread name) = ⊥
-IsUnwritten named CertificateNeedsFile = ⊥
-IsUnwritten named (Directory name) = ⊥
-IsUnwritten named (Occupied name) = ⊥
 IsUnwritten named (Unwritten name) = named ≡ Some name.now
-IsUnwritten named (Serve fault) = ⊥
+IsUnwritten named error = ⊥
 
 -- If the error is `Occupied`, a certificate may not replace the content of the file that it names. If the error is `Directory`,
 -- there is a directory with that name. Neither is claimed if the content or the directory is not known.
 abbrev pub IsOccupied : (Text → Option (List ℕ)) → (Text → Option Bool) → CliError → Type 0
-IsOccupied content directory (Words error) = Unit {0}
-IsOccupied content directory NoCommand = Unit {0}
-IsOccupied content directory InputTwice = Unit {0}
-IsOccupied content directory (Bundle name) = Unit {0}
-IsOccupied content directory (Unread name) = Unit {0}
-IsOccupied content directory CertificateNeedsFile = Unit {0}
 IsOccupied content directory (Directory name) = IfSome (directory name.now) (λ known. known ≡ true)
 IsOccupied content directory (Occupied name) = IfSome (content name.now) (λ text. is_replaceable text ≡ false)
-IsOccupied content directory (Unwritten name) = Unit {0}
-IsOccupied content directory (Serve fault) = Unit {0}
+IsOccupied content directory error = Unit {0}
 
 -- if the error is `Unread`, the content of the file that it names is not known
 abbrev pub IsUnreadable : (Text → Option (List ℕ)) → CliError → Type 0
-IsUnreadable content (Words error) = Unit {0}
-IsUnreadable content NoCommand = Unit {0}
-IsUnreadable content InputTwice = Unit {0}
-IsUnreadable content (Bundle name) = Unit {0}
 IsUnreadable content (Unread name) = content name.now ≡ None
-IsUnreadable content CertificateNeedsFile = Unit {0}
-IsUnreadable content (Directory name) = Unit {0}
-IsUnreadable content (Occupied name) = Unit {0}
-IsUnreadable content (Unwritten name) = Unit {0}
-IsUnreadable content (Serve fault) = Unit {0}
+IsUnreadable content error = Unit {0}
 
 -- A possible error of the check that a certificate may replace the file `named`, whose content is `text`. Either a certificate
 -- may not replace this content, or memory ran out.
 abbrev pub IsOfText : Text → List ℕ → CliError → Type 0
-IsOfText named text (Words error) = ⊥
-IsOfText named text NoCommand = ⊥
-IsOfText named text InputTwice = ⊥
-IsOfText named text (Bundle name) = ⊥
-IsOfText named text (Unread name) = ⊥
-IsOfText named text CertificateNeedsFile = ⊥
-IsOfText named text (Directory name) = ⊥
 IsOfText named text (Occupied name) = (name.now ≡ named) × (is_replaceable text ≡ false)
-IsOfText named text (Unwritten name) = ⊥
 IsOfText named text (Serve fault) = fault.number ≡ MEMORY
+IsOfText named text error = ⊥
 
 -- A possible error of the check that a certificate may replace the file `named`. The file could not be read, a certificate may
 -- not replace its content, or memory ran out. `content` is the content of the file, if it is known.
 abbrev pub IsOfContent : Option (List ℕ) → Text → CliError → Type 0
-IsOfContent content named (Words error) = ⊥
-IsOfContent content named NoCommand = ⊥
-IsOfContent content named InputTwice = ⊥
-IsOfContent content named (Bundle name) = ⊥
 IsOfContent content named (Unread name) = (name.now ≡ named) × (content ≡ None)
-IsOfContent content named CertificateNeedsFile = ⊥
-IsOfContent content named (Directory name) = ⊥
 IsOfContent content named (Occupied name) = (name.now ≡ named) × IfSome content (λ text. is_replaceable text ≡ false)
-IsOfContent content named (Unwritten name) = ⊥
 IsOfContent content named (Serve fault) = fault.number ≡ MEMORY
+IsOfContent content named error = ⊥
 
 -- If the error is `Bundle`, the text that it names is a bundle. This is not claimed if that text is not known.
 abbrev pub IsBundled : Command → (Text → Option (List ℕ)) → Option (List ℕ) → Option Text × Option Text → CliError → Type 0
-IsBundled command content input files (Words error) = Unit {0}
-IsBundled command content input files NoCommand = Unit {0}
-IsBundled command content input files InputTwice = Unit {0}
 IsBundled command content input files (Bundle name) = IsBundleNamed command content input files name.now
-IsBundled command content input files (Unread name) = Unit {0}
-IsBundled command content input files CertificateNeedsFile = Unit {0}
-IsBundled command content input files (Directory name) = Unit {0}
-IsBundled command content input files (Occupied name) = Unit {0}
-IsBundled command content input files (Unwritten name) = Unit {0}
-IsBundled command content input files (Serve fault) = Unit {0}
+IsBundled command content input files error = Unit {0}
 
 -- the error is `Bundle` with the name of this text, and the text is a bundle
 abbrev pub IsOfBundle : Option Text → List ℕ → CliError → Type 0
-IsOfBundle named text (Words error) = ⊥
-IsOfBundle named text NoCommand = ⊥
-IsOfBundle named text InputTwice = ⊥
 IsOfBundle named text (Bundle name) = (name.now ≡ name_or_none (file_named named)) × (is_some (bundle_of text) ≡ true)
-IsOfBundle named text (Unread name) = ⊥
-IsOfBundle named text CertificateNeedsFile = ⊥
-IsOfBundle named text (Directory name) = ⊥
-IsOfBundle named text (Occupied name) = ⊥
-IsOfBundle named text (Unwritten name) = ⊥
-IsOfBundle named text (Serve fault) = ⊥
+IsOfBundle named text error = ⊥
 
 -- a possible error of the check that a certificate may be written to the named file
 abbrev pub IsOfReplacing : Option Text → CliError → Type 0
-IsOfReplacing named (Words error) = ⊥
-IsOfReplacing named NoCommand = ⊥
-IsOfReplacing named InputTwice = ⊥
-IsOfReplacing named (Bundle name) = ⊥
 IsOfReplacing named (Unread name) = named ≡ Some name.now
 IsOfReplacing named CertificateNeedsFile = named ≡ Some (codes "-")
 IsOfReplacing named (Directory name) = named ≡ Some name.now
 IsOfReplacing named (Occupied name) = named ≡ Some name.now
-IsOfReplacing named (Unwritten name) = ⊥
 IsOfReplacing named (Serve fault) = fault.number ≡ MEMORY
+IsOfReplacing named error = ⊥
 
 -- a possible error for these arguments
 abbrev pub IsFaultOf : List Text → CliError → Type 0
@@ -248,13 +144,6 @@ IsFaultOf words fault = IfSome (command_of words) (λ command. IsOfTexts command
 -- What was written before the error. If the sink failed, this is a prefix of an answer. If the certificate file could not be
 -- written, it is a whole answer. `file` is the name of the plan's file in messages.
 abbrev pub IsWrittenBefore : CliError → Command → Text → List ℕ → Option (List ℕ) → Option (List ℕ) → Type 0
-IsWrittenBefore (Words error) command file input old new = Unit {0}
-IsWrittenBefore NoCommand command file input old new = Unit {0}
-IsWrittenBefore InputTwice command file input old new = Unit {0}
-IsWrittenBefore (Bundle name) command file input old new = Unit {0}
-IsWrittenBefore (Unread name) command file input old new = Unit {0}
-IsWrittenBefore CertificateNeedsFile command file input old new = Unit {0}
-IsWrittenBefore (Directory name) command file input old new = Unit {0}
-IsWrittenBefore (Occupied name) command file input old new = Unit {0}
 IsWrittenBefore (Unwritten name) command file input old new = (status : Status) × WritesAnswer command file input status old new
 IsWrittenBefore (Serve fault) command file input old new = fault.number ≡ WRITE_FAILED → WritesPrefix command file input old new
+IsWrittenBefore error command file input old new = Unit {0}

@@ -24,7 +24,8 @@ use Rattle.sizing_cli.specs.InputLength.{most_bytes}
 use Rattle.sizing_cli.specs.Answer.{Answer}
 use Rattle.sizing_cli.specs.Report.{report, run_report}
 use Rattle.sizing_cli.specs.SafeInput.{IsSafeInput, IsSafePlan}
-use Rattle.sizing_cli.specs.Certify.{IsCertifyAnswer, IsCertifiedBundle, whole_lines}
+use Rattle.sizing_cli.specs.Certify.{IsCertifyAnswer, IsCertifiedBundle}
+use Rattle.sizing_cli.specs.Bundle.{whole_lines}
 use Rattle.sizing_cli.specs.Fit.{IsFitAnswer, IsFittedBundle}
 use Rattle.sizing_cli.specs.Refute.{IsRefuteAnswer, IsWitnessBundle}
 use Rattle.sizing_cli.specs.Ask.{IsAskAnswer, IsSafeAskInput}
@@ -108,29 +109,24 @@ MeansSafe (OnThreads (Refute states refute_format.Story)) input old new = IsSafe
 MeansSafe (OnThreads (Refute states refute_format.Bundle)) input old new = WritesWitness input old new
 MeansSafe (OnThreads (Ask given options)) input old new = IsSafeAskInput given input
 
--- For `ask`, the answer is a possible answer, and `left` is the text of the certificate that is returned with it. For other
--- tasks, nothing is claimed.
-abbrev pub IsTaskAnswerWith : Task → Text → List ℕ → Answer → Option (List ℕ) → Type 0
-IsTaskAnswerWith (Certify workers) file input answer left = Unit {0}
-IsTaskAnswerWith (Fit sizes_form) file input answer left = Unit {0}
-IsTaskAnswerWith (Run rounds) file input answer left = Unit {0}
-IsTaskAnswerWith (Refute states refute_format) file input answer left = Unit {0}
-IsTaskAnswerWith (Ask given options) file input answer left = IsAskAnswer given options file input left answer
+-- What a command returns besides its output. For `ask`, the answer is a possible answer, and `left` is the text of the
+-- certificate that shows that the plan is safe. It is None for any other answer, or if the text is too long to be read back.
+-- For other commands, nothing is claimed of `left`.
+abbrev pub IsAnswerWith : Command → Text → List ℕ → Answer → Option (List ℕ) → Type 0
+IsAnswerWith (Sequential review) file input answer left = Unit {0}
+IsAnswerWith (OnRecording reading) file input answer left = Unit {0}
+IsAnswerWith (OnThreads (Certify workers)) file input answer left = Unit {0}
+IsAnswerWith (OnThreads (Fit sizes_form)) file input answer left = Unit {0}
+IsAnswerWith (OnThreads (Run rounds)) file input answer left = Unit {0}
+IsAnswerWith (OnThreads (Refute states refute_format)) file input answer left = Unit {0}
+IsAnswerWith (OnThreads (Ask given options)) file input answer left = IsAskAnswer given options file input left answer
 
--- An answer was written, and `status` is the status of this answer. For `ask`, `left` is the text of the certificate that is
--- returned with it (`IsTaskAnswerWith`).
-pub record TaskWritesWithCertificate (task : Task) (file : Text) (input : List ℕ) (status : Status) (left old new : Option (List ℕ)) : Type 0 where
+-- An answer was written, `status` is the status of this answer, and `left` is returned with it (`IsAnswerWith`).
+pub record WritesWithCertificate (command : Command) (file : Text) (input : List ℕ) (status : Status) (left old new : Option (List ℕ)) : Type 0 where
   pub answer : Answer
-  pub is_left : IsTaskAnswerWith task file input answer left
+  pub is_left : IsAnswerWith command file input answer left
   pub written : Appends old new answer.text
   pub status_is : status ≡ answer.status
-
--- What a command returns besides its output. For `ask`, `left` is the text of the certificate that shows that the plan is safe.
--- It is None for any other answer, or if the text is too long to be read back. For other commands, nothing is claimed.
-abbrev pub WritesWithCertificate : Command → Text → List ℕ → Status → Option (List ℕ) → Option (List ℕ) → Option (List ℕ) → Type 0
-WritesWithCertificate (Sequential review) file input status left old new = Unit {0}
-WritesWithCertificate (OnRecording reading) file input status left old new = Unit {0}
-WritesWithCertificate (OnThreads task) file input status left old new = TaskWritesWithCertificate task file input status left old new
 
 -- ---- whole calls
 

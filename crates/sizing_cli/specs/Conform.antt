@@ -37,12 +37,7 @@ bad_recording recording found = fault (head BAD_RECORDING ++ (codes " at " ++ (f
 
 abbrev pub is_undecided : Finding → Bool
 is_undecided (finding.NotDecided actor name) = true
-is_undecided (finding.Pool deviation) = false
-is_undecided (finding.UnplannedLabel name) = false
-is_undecided (finding.PathMismatch line mismatch) = false
-is_undecided (finding.TooMany excess) = false
-is_undecided (finding.ForeignGet get name job) = false
-is_undecided (finding.Invalidation void name) = false
+is_undecided _ = false
 
 -- the status: Done if there are no findings, Undecided if all findings are undecided, and otherwise Refused
 abbrev pub status_of : List Finding → Status

@@ -2,7 +2,7 @@
 use Rattle.std.specs.Prelude.{◌≡◌, ◌⊎◌, ◌↔◌, ℕ, Bool, false, ◌==◌, List, [], ◌∷◌, ◌++◌, codes, Some, None}
 use Rattle.std.specs.List.{list_any, slice_split}
 use Rattle.std.specs.Str.{bytes_eq}
-use Rattle.sizing_cli.specs.Bundle.{Bundle, bundle_of}
+use Rattle.sizing_cli.specs.Bundle.{Bundle, bundle_of, join_texts, whole_lines}
 
 -- a line of the text is `%%`
 abbrev pub has_separator : List ℕ → Bool
@@ -30,3 +30,8 @@ InputsSplitAtTheLastSeparator = (input : List ℕ) (bundle : Bundle) → bundle_
 -- `bundle_of` finds no bundle exactly if no line of the input is `%%`
 abbrev pub NoBundleWithoutASeparator : Type 0
 NoBundleWithoutASeparator = (input : List ℕ) → bundle_of input ≡ None ↔ has_separator input ≡ false
+
+-- if the second text has no line `%%`, the bundle splits into the two texts again
+abbrev pub JoinedTextsSplitAgain : Type 0
+JoinedTextsSplitAgain = (plan second : List ℕ) → has_separator second ≡ false
+    → bundle_of (join_texts plan second) ≡ Some (record { plan = whole_lines plan; second = second })

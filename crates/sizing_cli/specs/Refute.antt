@@ -19,7 +19,8 @@ use Rattle.job_bodies.specs.declared.limits.TheConstants.{MAX_INPUT_BYTES, MAX_E
 use Rattle.sizing_cli.specs.declared.status.Status.{Status}
 use Rattle.sizing_cli.specs.declared.status.Status.TheVariants.{Done, Refused, Undecided}
 use Rattle.sizing_cli.specs.Answer.{Answer, fault, input_too_long}
-use Rattle.sizing_cli.specs.Certify.{IsUncertified, whole_lines}
+use Rattle.sizing_cli.specs.Certify.{IsUncertified}
+use Rattle.sizing_cli.specs.Bundle.{whole_lines}
 
 -- a certificate accepts the plan
 pub record HasCertificate (plan : Plan) : Type 0 where

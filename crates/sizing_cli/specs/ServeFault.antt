@@ -53,3 +53,9 @@ abbrev pub is_known_of : Command → ℕ → Bool
 is_known_of (Sequential review) number = is_known number
 is_known_of (OnRecording reading) number = is_known number
 is_known_of (OnThreads task) number = is_known number || is_of_threads task number
+
+-- the faults of a command, except those of reading the input and writing the answer
+abbrev pub is_of_answer : Command → ℕ → Bool
+is_of_answer (Sequential review) number = number == MEMORY
+is_of_answer (OnRecording reading) number = number == MEMORY
+is_of_answer (OnThreads task) number = is_of_threads task number

@@ -1,23 +1,12 @@
 -- The texts that the arguments of a command line name, and the input that they form.
-use Rattle.std.specs.Prelude.{◌≡◌, ◌⊎◌, ℕ, ◌+◌, Bool, false, ◌++◌, List, ◌∷◌, take, codes, Option, Some, None, if◌then◌else◌, option_and_then, option_map, IfSome, is_some, true}
+use Rattle.std.specs.Prelude.{◌≡◌, ◌⊎◌, ℕ, ◌+◌, Bool, false, List, take, codes, Option, Some, None, if◌then◌else◌, option_and_then, option_map, IfSome, is_some, true}
 use Rattle.std.specs.Str.{bytes_eq}
 use Rattle.clap.specs.Words.{Text}
 use Rattle.command_line.specs.declared.command.Command.{Command}
 use Rattle.command_line.specs.declared.command.Command.TheVariants.{Sequential, OnRecording, OnThreads}
 use Rattle.command_line.specs.declared.command.RecordingCommand.TheVariants.{Conform, Learn}
-use Rattle.sizing_cli.specs.Bundle.{bundle_of}
-use Rattle.sizing_cli.specs.Certify.{whole_lines}
-use Rattle.sizing_cli.specs.Laws.{has_separator}
+use Rattle.sizing_cli.specs.Bundle.{bundle_of, join_texts}
 use Rattle.sizing_cli.specs.InputLength.{most_bytes}
-
--- the bundle of a plan's text and a second text
-abbrev pub join_texts : List ℕ → List ℕ → List ℕ
-join_texts plan second = whole_lines plan ++ (codes "%%" ++ 10 ∷ second)
-
--- if the second text has no line `%%`, the bundle splits into the two texts again
-abbrev pub JoinedTextsSplitAgain : Type 0
-JoinedTextsSplitAgain = (plan second : List ℕ) → has_separator second ≡ false
-    → bundle_of (join_texts plan second) ≡ Some (record { plan = whole_lines plan; second = second })
 
 -- The part of a text that the command reads. It ends at most one byte after the longest valid input. This byte shows that the
 -- text is too long.

@@ -1,15 +1,20 @@
 //! The answer of a command: its text and its status.
 
-ghost use Rattle.std.specs.Prelude.{◌≡◌, ◌++◌, [], IfOk, string_bytes};
+ghost use Rattle.std.specs.Prelude.{◌≡◌, ◌++◌, [], IfOk, string_bytes, ◌+◌, IfErr};
 ghost use Rattle.support.specs.Name.{head};
 ghost use Rattle.job_bodies.specs.FaultText.{fault_line};
 ghost use Rattle.sizing_cli.specs.Answer as spec;
 ghost use Rattle.sizing_cli.specs.Conform.{bad_recording as bad_recording_spec};
 ghost use Rattle.sizing_cli.specs.Report.{limit_words, too_large};
 ghost use Rattle.sizing_cli.specs.Transcript.{is_no, reply_answer};
+ghost use Rattle.std.specs.Io.KnownBytes.{Appends};
+ghost use Rattle.byte_streams.specs.Writing.{AppendsFront};
+ghost use Rattle.support.specs.declared.number.TheConstants.{WRITE_FAILED};
+ghost use Rattle.sizing_cli.specs.ServeFault.{count_of};
 
-use crate::Status;
 use crate::line_ends::line_end_hint;
+use crate::{ServeFault, Status};
+use byte_streams::{Sink, write_all};
 use cert_text::CertFault;
 use interleaving::{Outcome, Reply, push_reply};
 use job_bodies::{Plan, PlanFault};
@@ -189,4 +194,20 @@ impl Output {
             status: answer.status,
         }
     }
+}
+
+/// Writes an output to the sink, and returns its status.
+///
+/// # Errors
+///
+/// Fails with fault 61 if the sink fails. A prefix of the output was then written.
+pub(crate) fn write_output<K: Sink>(output: &Output, sink: &mut K) -> Result<Status, ServeFault>
+    ensures status { IfOk result (λ status. status ≡ output.now.status) }
+    ensures written { IfOk result (λ _. Appends (K.written sink.old) (K.written sink.new) output.now.text) }
+    ensures number { IfErr result (λ fault. fault.number ≡ WRITE_FAILED) }
+    ensures prefix { IfErr result (λ _. AppendsFront (K.written sink.old) (K.written sink.new) output.now.text) }
+    ensures failed { K.failures sink.new ≡ K.failures sink.old + count_of WRITE_FAILED result }
+{
+    write_all(sink, &output.bytes)?;
+    Ok(output.status)
 }

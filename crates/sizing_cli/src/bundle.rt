@@ -1,11 +1,13 @@
-//! Bundles: a plan's text, a line that is exactly `%%`, and a second part. A text with several such
-//! lines is split at the last one or, for `conform`, at the first one.
+//! Bundles: a plan's text, a line that is exactly `%%`, and a second part. Two texts are joined to a
+//! bundle. A text with several such lines is split at the last one or, for `conform`, at the first
+//! one.
 
-ghost use Rattle.std.specs.Prelude.{◌≡◌, ◌≤◌, ◌==◌, length, option_map};
+ghost use Rattle.std.specs.Prelude.{◌≡◌, ◌≤◌, ◌==◌, IfOk, length, option_map};
 ghost use Rattle.std.specs.List.{IsAfterLastMatch};
 ghost use Rattle.sizing_cli.specs.Bundle as spec;
 
 use memchr::{memchr, memrchr};
+use std::alloc::AllocError;
 
 /// A plan's text, and the text after the line `%%` at which the input is split.
 #[derive(Clone, Copy)]
@@ -85,4 +87,40 @@ fn after_separator(text: &[u8]) -> Option<&[u8]>
         return Some(&text[2..]);
     }
     None
+}
+
+/// Joins a plan's text and a second text. The result has three parts:
+///
+/// - the plan's text, with a newline appended if its last line has none;
+/// - a line `%%`;
+/// - the second text.
+///
+/// # Errors
+///
+/// Returns [`AllocError`] if memory runs out.
+pub fn join_texts(plan: Vec<u8>, second: &[u8]) -> Result<Vec<u8>, AllocError>
+    ensures { IfOk result (λ input. input.items ≡ spec.join_texts plan.items second.now) }
+{
+    let mut input = whole_lines(plan)?;
+    // An exact reservation. `extend_from_slice` alone could double the memory of the plan's text.
+    input.reserve_exact(second.len().saturating_add(3))?;
+    input.extend_from_slice(b"%%\n")?;
+    input.extend_from_slice(second)?;
+    Ok(input)
+}
+
+/// Returns the text with a newline at its end. If the text is empty or already ends with a newline,
+/// returns it unchanged.
+///
+/// # Errors
+///
+/// Returns [`AllocError`] if memory runs out.
+pub fn whole_lines(mut text: Vec<u8>) -> Result<Vec<u8>, AllocError>
+    ensures { IfOk result (λ lines. lines.items ≡ spec.whole_lines text.items) }
+{
+    if text.is_empty() || text.ends_with(b"\n") {
+        return Ok(text);
+    }
+    text.push(b'\n')?;
+    Ok(text)
 }

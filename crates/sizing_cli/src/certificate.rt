@@ -1,11 +1,15 @@
-//! The search for a certificate that accepts a plan with its declared sizes.
+//! The search for a certificate that accepts a plan with its declared sizes, and the text of a
+//! certificate.
 
-ghost use Rattle.std.specs.Prelude.{◌≡◌, ◌≤◌, IfOk, IfErr, IfSome, IfNone, IsTrue, false};
+ghost use Rattle.std.specs.Prelude.{◌≡◌, ◌≤◌, IfOk, IfErr, IfSome, IfNone, IsTrue, Ok, false, option_map};
 ghost use Rattle.job_bodies.specs.declared.limits.TheConstants.{MAX_WORKERS};
 ghost use Rattle.soundness.specs.Accepted.{accepted};
 ghost use Rattle.size_search.specs.Steady.{steady_cert};
 ghost use Rattle.report.specs.Finding.{IsKnown};
-ghost use Rattle.sizing_cli.specs.Certify.{IsUncertified};
+ghost use Rattle.job_bodies.specs.Plan.{Plan as PlanValue};
+ghost use Rattle.cert_text.specs.Cert.{cert_fits};
+ghost use Rattle.cert_text.specs.CertOf.{cert_of};
+ghost use Rattle.sizing_cli.specs.Certify.{IsLineOf, IsUncertified};
 ghost use Rattle.sizing_cli.specs.DeclaredSizes as spec;
 ghost use Rattle.sizing_cli.specs.ServeFault.{is_of_search};
 
@@ -13,8 +17,8 @@ use crate::ServeFault;
 use crate::noop_gate::NoopGate;
 use cert_check::accepts;
 use cert_search::search;
-use cert_text::Cert;
-use job_bodies::{DEFAULT_WORKERS, Plan};
+use cert_text::{Cert, write_cert};
+use job_bodies::{DEFAULT_WORKERS, MAX_CERT_BYTES, Plan};
 use size_search::{SizesFound, search_sizes};
 use std::alloc::{AllocError, Global};
 use std::sync::Wait;
@@ -112,4 +116,22 @@ pub(crate) fn as_declared(plan: &Plan, sizes: SizesFound) -> SizesComparison
         }
         SizesFound::NotFound(cause) => SizesComparison::Other(SizesFound::NotFound(cause)),
     }
+}
+
+/// Returns the text of a certificate with a newline at its end, or `None` if this text is too long
+/// to be read back.
+#[tactic(auto, using(crate::proofs::FittedAnswers::long_with_newline))]
+pub(crate) fn certificate_line(alloc: Global, cert: &Cert) -> Result<Option<Vec<u8>>, AllocError>
+    ensures line { IfOk result
+        (λ line. IsLineOf cert.now (option_map (λ text. text.items) line)) }
+    ensures reads_back { IfOk result (λ line.
+        IfSome line (λ text.
+        (plan : PlanValue) → IsTrue (cert_fits plan cert.now) → cert_of text.items plan ≡ Ok cert.now)) }
+{
+    let mut text = write_cert(alloc, cert)?;
+    if text.len() >= MAX_CERT_BYTES {
+        return Ok(None);
+    }
+    text.push(b'\n')?;
+    Ok(Some(text))
 }

@@ -1,61 +1,56 @@
 //! Bundles that `check` accepts. A bundle is a plan's text, a line `%%`, and a certificate.
 
-ghost use Rattle.std.specs.Prelude.{◌≡◌, ◌≤◌, ◌++◌, ◌∷◌, codes, IfOk, IfErr, IfSome, IsTrue};
+ghost use Rattle.std.specs.Prelude.{◌≡◌, ◌≤◌, IfOk, IfErr, IsTrue};
 ghost use Rattle.job_bodies.specs.declared.limits.TheConstants.{MAX_WORKERS};
 ghost use Rattle.sizing_cli.specs.Certify.{IsBundleWith, IsYes};
 ghost use Rattle.sizing_cli.specs.CertifiedSplit.{IsCertifiedSplit};
 ghost use Rattle.sizing_cli.specs.ServeFault.{is_of_search};
 
-use crate::ServeFault;
-use crate::bundle::{Bundle, bundle_of};
+use crate::answer::Output;
+use crate::bundle::{Bundle, bundle_of, join_texts};
 use crate::noop_gate::NoopGate;
+use crate::{ServeFault, Status};
 use cert_check::{CheckFault, check_on};
-use std::alloc::{AllocError, Global};
+use std::alloc::Global;
 use std::sync::Wait;
 use std::thread::Threads;
-use support::number::{GATE, MEMORY};
+use support::number::{GATE, MEMORY, MIXED};
 
-/// Returns the bundle of a plan's text and a certificate's text. Returns `None` if the bundle fails
-/// one of these tests:
+/// Returns the bundle of a plan's text and a certificate's text, after these two tests:
 ///
 /// - The bundle splits into the same two texts again.
 /// - `check` accepts the bundle. The check runs in at most `workers` threads.
 ///
 /// # Errors
 ///
-/// Fails with fault 20 if memory runs out, and with fault 43 if the check ends with that fault.
-pub fn certified_bundle<R: Threads + Wait + Sync>(
+/// - Fails with fault 20 if memory runs out.
+/// - Fails with fault 42 if the bundle fails a test. This contradicts the search that found the
+///   certificate.
+/// - Fails with fault 43 if the check ends with that fault.
+pub(crate) fn certified_bundle<R: Threads + Wait + Sync>(
     rt: &R,
     alloc: Global,
     workers: usize,
     plan: Vec<u8>,
     cert: Vec<u8>,
-) -> Result<Option<Vec<u8>>, ServeFault>
+) -> Result<Output, ServeFault>
     requires some { 1 ≤ workers }
     requires most { workers ≤ MAX_WORKERS }
-    ensures bundle { IfOk result
-        (λ found. IfSome found (λ text. IsBundleWith plan.items cert.items text.items)) }
+    ensures bundle { IfOk result (λ output. IsBundleWith plan.items cert.items output.text) }
+    ensures done { IfOk result (λ output. output.status ≡ Status.Done) }
     ensures fault { IfErr result (λ fault. IsTrue (is_of_search fault.number)) }
 {
     let plan_len = plan.len();
-    let text = join_texts(plan, cert)?;
-    if is_certified(rt, alloc, workers, &text, plan_len)? {
-        Ok(Some(text))
+    let bytes = join_texts(plan, &cert)?;
+    drop(cert);
+    if is_certified(rt, alloc, workers, &bytes, plan_len)? {
+        Ok(Output {
+            bytes,
+            status: Status::Done,
+        })
     } else {
-        Ok(None)
+        Err(ServeFault { number: MIXED })
     }
-}
-
-/// Joins the two texts, with `%%` and a newline between them. Frees the second text.
-fn join_texts(plan: Vec<u8>, cert: Vec<u8>) -> Result<Vec<u8>, AllocError>
-    ensures { IfOk result (λ text. text.items ≡ plan.items ++ (codes "%%" ++ 10 ∷ cert.items)) }
-{
-    let mut text = plan;
-    // An exact reservation. `extend_from_slice` alone could double the memory of the plan's text.
-    text.reserve_exact(cert.len().saturating_add(3))?;
-    text.extend_from_slice(b"%%\n")?;
-    text.extend_from_slice(&cert)?;
-    Ok(text)
 }
 
 /// Returns true if two conditions hold: the text is a bundle whose plan has `plan_len` bytes, and

@@ -7,17 +7,16 @@ ghost use Rattle.plan_text.specs.PlanOf.{plan_of};
 ghost use Rattle.sizing_cli.specs.Certify as spec;
 ghost use Rattle.sizing_cli.specs.ServeFault.{is_of_search};
 
+use crate::ServeFault;
 use crate::answer::{Answer, Output, input_too_long, plan_fault};
-use crate::certificate::certificate_of;
+use crate::bundle::whole_lines;
+use crate::certificate::{certificate_line, certificate_of};
 use crate::certified_bundle::certified_bundle;
 use crate::input::plan_in;
-use crate::{ServeFault, Status};
-use cert_text::write_cert;
-use job_bodies::{MAX_CERT_BYTES, MAX_INPUT_BYTES, Plan, PlanFault};
+use job_bodies::{MAX_INPUT_BYTES, Plan, PlanFault};
 use std::alloc::{AllocError, Global};
 use std::sync::Wait;
 use std::thread::Threads;
-use support::number::MIXED;
 
 /// The result of the search for a certificate.
 enum CertificateSearch {
@@ -57,27 +56,11 @@ pub fn certify<R: Threads + Wait + Sync>(
     let text = whole_lines(input)?;
     let found = search_text(rt, alloc, workers, &text)?;
     match found {
-        Ok(CertificateSearch::Text(cert)) => bundle(rt, alloc, workers, text, cert),
+        Ok(CertificateSearch::Text(cert)) => certified_bundle(rt, alloc, workers, text, cert),
         Ok(CertificateSearch::NotFound) => Ok(Output::of(none_found(alloc)?)),
         Ok(CertificateSearch::TooLong) => Ok(Output::of(text_too_long(alloc)?)),
         Err(fault) => Ok(Output::of(plan_fault(alloc, fault)?)),
     }
-}
-
-/// Returns the text with a newline at its end. If the text is empty or already ends with a newline,
-/// returns it unchanged.
-///
-/// # Errors
-///
-/// Returns [`AllocError`] if memory runs out.
-pub fn whole_lines(mut text: Vec<u8>) -> Result<Vec<u8>, AllocError>
-    ensures { IfOk result (λ lines. lines.items ≡ spec.whole_lines text.items) }
-{
-    if text.is_empty() || text.ends_with(b"\n") {
-        return Ok(text);
-    }
-    text.push(b'\n')?;
-    Ok(text)
 }
 
 /// Parses the plan in `text`, and searches for a certificate that accepts the plan. If the text has
@@ -114,43 +97,9 @@ fn found_text<R: Threads + Wait + Sync>(
     let Some(cert) = certificate_of(rt, alloc, workers, plan)? else {
         return Ok(CertificateSearch::NotFound);
     };
-    let mut text = write_cert(alloc, &cert)?;
-    if text.len() >= MAX_CERT_BYTES {
-        return Ok(CertificateSearch::TooLong);
-    }
-    text.extend_from_slice(b"\n")?;
-    Ok(CertificateSearch::Text(text))
-}
-
-/// Returns the bundle of the plan's text and the certificate's text, after `check` accepted this
-/// bundle.
-///
-/// # Errors
-///
-/// - Fails with fault 20 if memory runs out.
-/// - Fails with fault 42 if `check` does not accept the bundle. The check then contradicts the
-///   search that found the certificate.
-/// - Fails with fault 43 if the check ends with fault 43.
-fn bundle<R: Threads + Wait + Sync>(
-    rt: &R,
-    alloc: Global,
-    workers: usize,
-    plan: Vec<u8>,
-    cert: Vec<u8>,
-) -> Result<Output, ServeFault>
-    requires some { 1 ≤ workers }
-    requires most { workers ≤ MAX_WORKERS }
-    requires line { spec.IsCertLine cert.items }
-    ensures answer { IfOk result (spec.IsCertified plan.items) }
-    ensures fault { IfErr result (λ fault. IsTrue (is_of_search fault.number)) }
-{
-    match certified_bundle(rt, alloc, workers, plan, cert)? {
-        Some(bytes) => Ok(Output {
-            bytes,
-            status: Status::Done,
-        }),
-        // The check does not accept the bundle, which contradicts the search.
-        None => Err(ServeFault { number: MIXED }),
+    match certificate_line(alloc, &cert)? {
+        Some(text) => Ok(CertificateSearch::Text(text)),
+        None => Ok(CertificateSearch::TooLong),
     }
 }
 

@@ -3,22 +3,22 @@
 ghost use Rattle.std.specs.Prelude.{IfOk, IfErr, IfSome, IsTrue, codes, option_map};
 ghost use Rattle.command_line.specs.Command.{IsInRange, IsTaskInRange};
 ghost use Rattle.command_line.specs.declared.command.Command.TheVariants.{OnThreads};
-ghost use Rattle.sizing_cli.specs.ServeFault.{is_of_search, is_of_threads};
+ghost use Rattle.sizing_cli.specs.ServeFault.{is_of_answer, is_of_search, is_of_threads};
 ghost use Rattle.sizing_cli.specs.Ask.{IsAskAnswer};
-ghost use Rattle.sizing_cli.specs.CommandResult.{IsTaskAnswerWith, IsTaskAnswer, WritesWithCertificate, Serves, ServesInput, stream_change};
+ghost use Rattle.sizing_cli.specs.CommandResult.{IsAnswer, IsAnswerWith, IsTaskAnswer, WritesWithCertificate, Serves, ServesInput, stream_change};
 
-use crate::answer::Output;
+use crate::answer::{Output, write_output};
 use crate::ask_answer::{AskOutput, ask};
 use crate::certify::certify;
 use crate::fit::fit;
 use crate::most_bytes;
 use crate::named_texts::NO_FILE;
-use crate::recording_commands::write_reading;
+use crate::recording_commands::recording_report;
 use crate::refute::refute;
+use crate::review_commands::review_report;
 use crate::run::run_report;
-use crate::sequential::write_review;
 use crate::status::{ServeFault, Status};
-use byte_streams::{Sink, Source, read_up_to, write_all};
+use byte_streams::{Sink, Source, read_up_to};
 use command_line::{AskInput, AskOptions, Command, Task};
 use std::alloc::Global;
 use std::sync::Wait;
@@ -61,48 +61,22 @@ pub fn serve<R: Threads + Wait + Sync, S: Source, K: Sink>(
     ensures { Serves command (codes "<stdin>") (stream_change S.remaining S.failures source.old source.new)
         (stream_change K.written K.failures sink.old sink.new) result }
 {
+    let input = read_up_to(alloc, source, most_bytes(command) + 1)?;
     let mut certificate = None;
-    serve_named(rt, alloc, command, NO_FILE, &mut certificate, source, sink)
+    write_answer(rt, alloc, command, NO_FILE, &mut certificate, input, sink)
 }
 
-/// Runs the command as [`serve`] does, with two differences for [`Task::Ask`]:
+/// Runs the command on this input, and writes the answer to the sink. Messages use `file` as the
+/// name of the plan's file.
 ///
-/// - Messages use `file` as the name of the plan's file.
-/// - If the call succeeds, `certificate` becomes the text of the certificate that the answer is
-///   based on, with a newline at its end. `certificate` becomes `None` if the answer is based on no
-///   certificate, or if the text is too long to be read back.
-///
-/// For any other command, `certificate` is unchanged.
+/// If the command is `ask` and this call succeeds, `certificate` becomes the text of the
+/// certificate that the answer is based on, with a newline at its end. `certificate` becomes `None`
+/// if the answer is based on no certificate, or if the text is too long to be read back. Any other
+/// command leaves `certificate` unchanged.
 ///
 /// # Errors
 ///
-/// Fails with the faults of [`serve`].
-pub fn serve_named<R: Threads + Wait + Sync, S: Source, K: Sink>(
-    rt: &R,
-    alloc: Global,
-    command: Command,
-    file: &str,
-    certificate: &mut Option<Vec<u8>>,
-    source: &mut S,
-    sink: &mut K,
-) -> Result<Status, ServeFault>
-    requires { IsInRange command }
-    ensures serves { Serves command file.now (stream_change S.remaining S.failures source.old source.new)
-        (stream_change K.written K.failures sink.old sink.new) result }
-
-    // If `ask` says that the plan is safe, `certificate` is the text of the certificate that proves
-    // this, unless this text is too long to be read back.
-    ensures left { IfOk result (λ status.
-        IfSome (S.remaining source.old) (λ input.
-        WritesWithCertificate command file.now input status (option_map (λ text. text.items) certificate.new)
-        (K.written sink.old) (K.written sink.new))) }
-{
-    let input = read_up_to(alloc, source, most_bytes(command) + 1)?;
-    write_answer(rt, alloc, command, file, certificate, input, sink)
-}
-
-/// Runs the command on this input, and writes the answer to the sink. `file` and `certificate` have
-/// the same meaning as in [`serve_named`].
+/// Fails with the faults of [`serve`], except fault 60.
 pub(crate) fn write_answer<R: Threads + Wait + Sync, K: Sink>(
     rt: &R,
     alloc: Global,
@@ -119,39 +93,36 @@ pub(crate) fn write_answer<R: Threads + Wait + Sync, K: Sink>(
         WritesWithCertificate command file.now input.items status (option_map (λ text. text.items) certificate.new)
         (K.written sink.old) (K.written sink.new)) }
 {
-    match command {
-        Command::Sequential(review) => write_review(alloc, review, &input, sink),
-        Command::OnRecording(reading) => write_reading(alloc, reading, &input, sink),
-        Command::OnThreads(task) => write_task(rt, alloc, task, file, certificate, input, sink),
-    }
+    let output = output_of(rt, alloc, command, file, certificate, input)?;
+    write_output(&output, sink)
 }
 
-/// Runs the task on this input, and writes the answer to the sink. The task may use threads. `file`
-/// and `certificate` have the same meaning as in [`serve_named`].
-fn write_task<R: Threads + Wait + Sync, K: Sink>(
+/// Runs the command on this input, and returns its output. `file` and `certificate` have the same
+/// meaning as in [`write_answer`].
+fn output_of<R: Threads + Wait + Sync>(
     rt: &R,
     alloc: Global,
-    task: Task,
+    command: Command,
     file: &str,
     certificate: &mut Option<Vec<u8>>,
     input: Vec<u8>,
-    sink: &mut K,
-) -> Result<Status, ServeFault>
-    requires { IsTaskInRange task }
-    ensures serves { ServesInput (OnThreads task) file.now input.items (stream_change K.written K.failures sink.old sink.new)
-        result }
-    ensures left { IfOk result (λ status.
-        WritesWithCertificate (OnThreads task) file.now input.items status (option_map (λ text. text.items) certificate.new)
-        (K.written sink.old) (K.written sink.new)) }
+) -> Result<Output, ServeFault>
+    requires { IsInRange command }
+    ensures answer { IfOk result (IsAnswer command file.now input.items) }
+    ensures left { IfOk result (λ output.
+        IsAnswerWith command file.now input.items output (option_map (λ text. text.items) certificate.new)) }
+    ensures fault { IfErr result (λ fault. IsTrue (is_of_answer command fault.number)) }
 {
-    let output = answer_on_threads(rt, alloc, task, file, certificate, input)?;
-    write_all(sink, &output.bytes)?;
-    Ok(output.status)
+    match command {
+        Command::Sequential(review) => Ok(Output::of(review_report(alloc, review, &input)?)),
+        Command::OnRecording(reading) => Ok(Output::of(recording_report(alloc, reading, &input)?)),
+        Command::OnThreads(task) => output_on_threads(rt, alloc, task, file, certificate, input),
+    }
 }
 
-/// Runs the task on this input, and returns the answer. `file` and `certificate` have the same
-/// meaning as in [`serve_named`].
-fn answer_on_threads<R: Threads + Wait + Sync>(
+/// Runs the task on this input, and returns its output. The task may use threads. `file` and
+/// `certificate` have the same meaning as in [`write_answer`].
+fn output_on_threads<R: Threads + Wait + Sync>(
     rt: &R,
     alloc: Global,
     task: Task,
@@ -162,7 +133,7 @@ fn answer_on_threads<R: Threads + Wait + Sync>(
     requires { IsTaskInRange task }
     ensures answer { IfOk result (IsTaskAnswer task file.now input.items) }
     ensures left { IfOk result (λ output.
-        IsTaskAnswerWith task file.now input.items output (option_map (λ text. text.items) certificate.new)) }
+        IsAnswerWith (OnThreads task) file.now input.items output (option_map (λ text. text.items) certificate.new)) }
     ensures fault { IfErr result (λ fault. IsTrue (is_of_threads task fault.number)) }
 {
     match task {
@@ -179,7 +150,7 @@ fn answer_on_threads<R: Threads + Wait + Sync>(
     }
 }
 
-/// Runs `ask` and returns its output. Sets `certificate` as [`serve_named`] does.
+/// Runs `ask` and returns its output. Sets `certificate` as [`write_answer`] does.
 fn answer_question<R: Threads + Wait + Sync>(
     rt: &R,
     alloc: Global,

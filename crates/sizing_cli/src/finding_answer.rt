@@ -1,8 +1,7 @@
 //! The answer of `ask` about a plan, written from a finding.
 
-ghost use Rattle.std.specs.Prelude.{◌≡◌, ◌++◌, IfOk, IsTrue, true, false, option_map, string_bytes};
+ghost use Rattle.std.specs.Prelude.{◌≡◌, ◌++◌, IfOk, true, false, option_map, string_bytes};
 ghost use Rattle.std.specs.List.{All};
-ghost use Rattle.soundness.specs.Accepted.{accepted};
 ghost use Rattle.command_line.specs.declared.command.Form.TheVariants as forms;
 ghost use Rattle.diagnostics.specs.Diagnostic.{WarnInSingleLines};
 ghost use Rattle.diagnostics.specs.Lines.{HasNoNewline};
@@ -16,11 +15,11 @@ ghost use Rattle.sizing_cli.specs.Ask as spec;
 use crate::Status;
 use crate::answer::{Answer, Output};
 use crate::ask_answer::AskOutput;
+use crate::certificate::certificate_line;
 use crate::lowered_plan::LoweredPlan;
-use cert_text::{Cert, write_cert};
 use command_line::{AskOptions, Form};
 use diagnostics::{Lint, Warning, has_warning, one_line, plan_places, push_warnings, warnings_of};
-use job_bodies::{MAX_CERT_BYTES, Plan};
+use job_bodies::Plan;
 use plan_text::TextPlace;
 use report::{
     PlanFinding, finding_github, finding_html, finding_json, finding_sarif, needed_places,
@@ -344,26 +343,10 @@ fn certificate_text(alloc: Global, finding: &PlanFinding) -> Result<Option<Vec<u
         → spec.IsFindingCertificate plan finding.now (option_map (λ text. text.items) left)) }
 {
     match finding {
-        PlanFinding::Safe(cert, _) => readable_text(alloc, cert),
+        PlanFinding::Safe(cert, _) => certificate_line(alloc, cert),
         PlanFinding::NotSafe(_, _) => Ok(None),
         PlanFinding::NotDecided(_) => Ok(None),
     }
-}
-
-/// Returns the text of a certificate with a newline at its end, or `None` if this text is too long
-/// to be read back.
-fn readable_text(alloc: Global, cert: &Cert) -> Result<Option<Vec<u8>>, AllocError>
-    ensures { IfOk result (λ left.
-        (plan : PlanValue)
-        → IsTrue (accepted plan cert.now)
-        → spec.IsCertificateText plan cert.now (option_map (λ text. text.items) left)) }
-{
-    let mut text = write_cert(alloc, cert)?;
-    if text.len() >= MAX_CERT_BYTES {
-        return Ok(None);
-    }
-    text.extend_from_slice(b"\n")?;
-    Ok(Some(text))
 }
 
 /// Returns the warning that the given certificate does not accept the plan.

@@ -11,22 +11,21 @@ ghost use Rattle.plan_text.specs.EffectivePlan.{effective_plan};
 ghost use Rattle.sizing_cli.specs.ServeFault.{is_of_search};
 
 use crate::answer::{Answer, Output, input_too_long, plan_fault};
-use crate::certificate::WORKERS;
+use crate::certificate::{WORKERS, certificate_line};
 use crate::certified_bundle::certified_bundle;
 use crate::input::plan_in;
 use crate::noop_gate::NoopGate;
 use crate::{ServeFault, Status};
 use cert_search::search;
-use cert_text::{Cert, write_cert};
+use cert_text::Cert;
 use command_line::SizesForm;
-use job_bodies::{MAX_CERT_BYTES, MAX_INPUT_BYTES, MAX_PLAN_BYTES, Plan};
+use job_bodies::{MAX_INPUT_BYTES, MAX_PLAN_BYTES, Plan};
 use plan_text::write_plan;
 use report::{push_no_sizes, push_sizes};
 use size_search::{NoSizes, SizesFound, search_sizes};
 use std::alloc::{AllocError, Global};
 use std::sync::Wait;
 use std::thread::Threads;
-use support::number::MIXED;
 
 /// Searches for sizes that a certificate accepts, and returns the answer. The input is a plan's
 /// text. `sizes_form` selects the form of the answer:
@@ -189,18 +188,9 @@ fn bundle_of_sizes<R: Threads + Wait + Sync>(
     if fit_text.len() > MAX_PLAN_BYTES {
         return Ok(Output::of(text_too_long(alloc)?));
     }
-    let mut cert_text = write_cert(alloc, cert)?;
-    if cert_text.len() >= MAX_CERT_BYTES {
-        return Ok(Output::of(text_too_long(alloc)?));
-    }
-    cert_text.extend_from_slice(b"\n")?;
-    match certified_bundle(rt, alloc, WORKERS, fit_text.into_bytes(), cert_text)? {
-        Some(bytes) => Ok(Output {
-            bytes,
-            status: Status::Done,
-        }),
-        // The check does not accept the bundle, which contradicts the search.
-        None => Err(ServeFault { number: MIXED }),
+    match certificate_line(alloc, cert)? {
+        Some(line) => certified_bundle(rt, alloc, WORKERS, fit_text.into_bytes(), line),
+        None => Ok(Output::of(text_too_long(alloc)?)),
     }
 }
 

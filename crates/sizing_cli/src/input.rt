@@ -1,4 +1,5 @@
-//! The parsing of an input that is a bundle: a plan's text, a line `%%`, and a second part.
+//! Inputs: their maximum length, and the parsing of the plans and certificates in them. A fault of a
+//! text is a result, and running out of memory is an error.
 
 ghost use Rattle.std.specs.Prelude.{◌≡◌, ℕ, IfOk, IfErr, List, IsTrue};
 ghost use Rattle.job_bodies.specs.Plan.{Plan as PlanValue};

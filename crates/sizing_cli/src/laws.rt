@@ -1,8 +1,7 @@
 //! Laws about inputs and answers. Each is the contract of a function with an empty body.
 
-ghost use Rattle.sizing_cli.specs.Laws.{InputsSplitAtTheLastSeparator, NoBundleWithoutASeparator};
+ghost use Rattle.sizing_cli.specs.Laws.{InputsSplitAtTheLastSeparator, NoBundleWithoutASeparator, JoinedTextsSplitAgain};
 ghost use Rattle.sizing_cli.specs.SafeInput.{YesMeansSafe};
-ghost use Rattle.sizing_cli.specs.Texts.{JoinedTextsSplitAgain};
 
 /// States which inputs are bundles. An input is a bundle if it consists of these three parts, and
 /// no other input is a bundle:

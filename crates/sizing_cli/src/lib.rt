@@ -22,7 +22,6 @@ mod finding;
 mod finding_answer;
 mod fit;
 mod input;
-mod join;
 mod laws;
 mod learn;
 mod line_ends;
@@ -33,9 +32,8 @@ mod recording_commands;
 mod refute;
 mod rejections;
 mod replay;
-mod review_answer;
+mod review_commands;
 mod run;
-mod sequential;
 mod status;
 mod std_files;
 mod text_files;
@@ -44,24 +42,22 @@ mod witness;
 pub use answer::Output;
 pub use arguments::serve_words;
 pub use ask_answer::{AskOutput, ask};
-pub use bundle::{Bundle, bundle_of};
+pub use bundle::{Bundle, bundle_of, join_texts, whole_lines};
 pub use byte_streams::{IoFault, MemorySink, MemorySource, Sink, Source, StdSink, StdSource};
-pub use certify::whole_lines;
 pub use command_line::{
     AskInput, AskOptions, Command, Form, RecordingCommand, RefuteFormat, ReviewCommand, SizesForm,
     Task, read_words,
 };
-pub use entry_points::{serve, serve_named};
+pub use entry_points::serve;
 pub use fault::CliError;
 pub use fit::answer_of_sizes;
 pub use input::most_bytes;
-pub use join::join_texts;
 pub use laws::{
     a_yes_means_safe, inputs_split_at_the_last_separator, joined_texts_split_again,
     no_bundle_without_a_separator,
 };
 pub use recording_commands::serve_recording;
-pub use sequential::serve_alone;
+pub use review_commands::serve_alone;
 pub use status::{ServeFault, Status};
 pub use std_files::StdFiles;
 pub use text_files::TextFiles;

@@ -9,9 +9,8 @@ ghost use Rattle.sizing_cli.specs.Bundle.{bundle_of};
 ghost use Rattle.sizing_cli.specs.Texts as spec;
 ghost use Rattle.sizing_cli.specs.CliError.{IsBundled, IsOfBundle, IsOfFile, IsOfReading, IsOfTexts, IsUnreadable, count_in, is_of_sink};
 
-use crate::bundle::bundle_of;
+use crate::bundle::{bundle_of, join_texts};
 use crate::fault::CliError;
-use crate::join::join_texts;
 use crate::text_files::TextFiles;
 use crate::{ServeFault, most_bytes};
 use byte_streams::{InputError, Source, read_up_to};

@@ -1,15 +1,15 @@
-//! The entry point of the commands on recordings.
+//! The commands on recordings, `conform` and `learn`, which need no threads.
 
 ghost use Rattle.std.specs.Prelude.{IfOk};
 ghost use Rattle.clap.specs.Words.{Text};
 ghost use Rattle.command_line.specs.declared.command.Command.TheVariants.{OnRecording};
-ghost use Rattle.sizing_cli.specs.CommandResult.{IsRecordingAnswer, Serves, ServesInput, stream_change};
+ghost use Rattle.sizing_cli.specs.CommandResult.{IsRecordingAnswer, Serves, stream_change};
 
-use crate::answer::Answer;
+use crate::answer::{Answer, Output, write_output};
 use crate::conform::conform_report;
 use crate::learn::learn_report;
 use crate::status::{ServeFault, Status};
-use byte_streams::{Sink, Source, read_up_to, write_all};
+use byte_streams::{Sink, Source, read_up_to};
 use command_line::RecordingCommand;
 use job_bodies::MAX_RECORDED_BYTES;
 use std::alloc::{AllocError, Global};
@@ -37,25 +37,16 @@ pub fn serve_recording<S: Source, K: Sink>(
         (stream_change K.written K.failures sink.old sink.new) result }
 {
     let input = read_up_to(alloc, source, MAX_RECORDED_BYTES + 1)?;
-    write_reading(alloc, reading, &input, sink)
+    let output = Output::of(recording_report(alloc, reading, &input)?);
+    write_output(&output, sink)
 }
 
-/// Runs the command on the recording in `input`, and writes the answer to the sink.
-pub(crate) fn write_reading<K: Sink>(
+/// Runs the command on an input with a recording, and returns the answer.
+pub(crate) fn recording_report(
     alloc: Global,
     reading: RecordingCommand,
     input: &[u8],
-    sink: &mut K,
-) -> Result<Status, ServeFault>
-    ensures { (file : Text) → ServesInput (OnRecording reading) file input.now
-        (stream_change K.written K.failures sink.old sink.new) result }
-{
-    let answer = report(alloc, reading, input)?;
-    write_all(sink, answer.text.as_bytes())?;
-    Ok(answer.status)
-}
-
-fn report(alloc: Global, reading: RecordingCommand, input: &[u8]) -> Result<Answer, AllocError>
+) -> Result<Answer, AllocError>
     ensures { IfOk result (IsRecordingAnswer reading input.now) }
 {
     match reading {

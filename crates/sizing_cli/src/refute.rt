@@ -8,8 +8,8 @@ ghost use Rattle.sizing_cli.specs.Refute as spec;
 ghost use Rattle.sizing_cli.specs.ServeFault.{is_of_search};
 
 use crate::answer::{Answer, Output, input_too_long, plan_fault};
+use crate::bundle::whole_lines;
 use crate::certificate::{WORKERS, certificate_of};
-use crate::certify::whole_lines;
 use crate::input::plan_in;
 use crate::witness::{WitnessSearch, witness_of};
 use crate::{ServeFault, Status};

@@ -35,7 +35,7 @@ pub fn replay(alloc: Global, plan: &Plan, lines: &[u8]) -> Result<Answer, AllocE
 ///
 /// If a line is malformed, the answer reports only the first malformed line, without any replies.
 /// So the answer is known only after all lines are read.
-pub fn replay_lines(alloc: Global, plan: &Plan, lines: EventLines<'_>) -> Result<Answer, AllocError>
+fn replay_lines(alloc: Global, plan: &Plan, lines: EventLines<'_>) -> Result<Answer, AllocError>
     requires { length lines < 2 ^ 64 }
     ensures { IfOk result (λ answer. answer ≡ replay_of_lines plan.now (all_from 0 lines.entry)) }
 {

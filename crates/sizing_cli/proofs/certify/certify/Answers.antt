@@ -2,7 +2,8 @@ use Rattle.std.proofs.Common.{◌∙◌, subst, ℕ, List, Result, Err, arith}
 use Rattle.job_bodies.specs.declared.fault.PlanFault.{PlanFault}
 use Rattle.plan_text.specs.PlanOf.{plan_of}
 use Rattle.sizing_cli.specs.declared.certify.CertificateSearch.{CertificateSearch}
-use Rattle.sizing_cli.specs.Certify.{IsSearched, whole_lines}
+use Rattle.sizing_cli.specs.Certify.{IsSearched}
+use Rattle.sizing_cli.specs.Bundle.{whole_lines}
 use Rattle.sizing_cli.proofs.SearchedPlans.{searched_fault, within_limit}
 use Rattle.sizing_cli.proofs.certify.certify.Goals as goal
 
