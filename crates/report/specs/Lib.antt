@@ -1,4 +1,3 @@
-pub mod HtmlPage
 pub mod Sizes
 pub mod Cause
 pub mod Finding
@@ -31,7 +30,7 @@ pub mod Annotations
 pub mod Remarks
 pub mod Github
 pub mod Sarif
-pub mod HtmlReport
+pub mod Html
 pub mod Story
 pub mod StorySeen
 pub mod SubmitsTo

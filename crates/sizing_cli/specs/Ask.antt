@@ -32,7 +32,7 @@ use Rattle.report.specs.Finding.{IsFinding}
 use Rattle.report.specs.Places.{needed_places}
 use Rattle.report.specs.AnswerText.{ReportsAnswer}
 use Rattle.report.specs.Json as json
-use Rattle.report.specs.HtmlReport as page
+use Rattle.report.specs.Html as page
 use Rattle.report.specs.Github as github
 use Rattle.report.specs.Sarif as sarif
 use Rattle.report.specs.Remarks.{fault_remarks, single_fault}

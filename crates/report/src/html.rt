@@ -1,10 +1,11 @@
-//! The answer of `ask` as an HTML page. The page contains the JSON answer and shows it in a
-//! browser.
+//! The answer of `ask` as an HTML page. The page is a template in which the JSON answer replaces a
+//! placeholder, and shows this answer in a browser.
 
-ghost use Rattle.std.specs.Prelude.{IfOk, string_bytes};
-ghost use Rattle.report.specs.HtmlReport as spec;
+ghost use Rattle.std.specs.Prelude.{◌≡◌, ◌++◌, IfOk, string_bytes};
+ghost use Rattle.report.specs.Html as spec;
+ghost use Rattle.support.specs.Pushed.{Pushes};
 
-use crate::html_page::page_of;
+use crate::page_template::{AFTER, BEFORE};
 use crate::{PlanFinding, fault_json, faults_json, finding_json};
 use diagnostics::{Faults, PlanPlaces, Warning};
 use job_bodies::Plan;
@@ -71,4 +72,45 @@ pub fn fault_html(
 {
     let line = fault_json(alloc, file, text, number, words)?;
     page_of(alloc, &line)
+}
+
+/// Returns the HTML page of an answer. `json` is the JSON text of the answer, on one line.
+fn page_of(alloc: Global, json: &str) -> Result<String, AllocError>
+    ensures { IfOk result (λ page. string_bytes page ≡ spec.page_of json.now) }
+{
+    page_between(alloc, BEFORE, json, AFTER)
+}
+
+/// Returns a page that consists of the text `before`, the JSON text `json` and the text `after`, in
+/// this order. The JSON text is escaped for a script element.
+fn page_between(alloc: Global, before: &str, json: &str, after: &str) -> Result<String, AllocError>
+    ensures { IfOk result (λ page.
+        string_bytes page ≡ (before.now ++ spec.script_text json.now) ++ after.now) }
+{
+    let mut page = String::from_str(alloc, before)?;
+    push_script_text(&mut page, json)?;
+    page.push_str(after)?;
+    Ok(page)
+}
+
+/// Appends a JSON text, escaped for a script element.
+fn push_script_text(page: &mut String, json: &str) -> Result<(), AllocError>
+    ensures { Pushes result page.old page.new (spec.script_text json.now) }
+{
+    for c in json.chars() {
+        push_script_char(page, c)?;
+    }
+    Ok(())
+}
+
+/// Appends a character, escaped for a script element. `<` is replaced by an escape, so that no tag
+/// begins in the text. A newline is omitted, because a JSON text has a newline only at its end.
+fn push_script_char(page: &mut String, c: char) -> Result<(), AllocError>
+    ensures { Pushes result page.old page.new (spec.script_char c) }
+{
+    match c {
+        '<' => page.push_str("\\u003c"),
+        '\n' => Ok(()),
+        _ => page.push(c),
+    }
 }

@@ -4,8 +4,8 @@ use Rattle.std.specs.List.{flat_map}
 use Rattle.std.proofs.lemmas.List.{map-id}
 use Rattle.std.proofs.lemmas.Iterator.{YieldsList-from_chars}
 use Rattle.std.proofs.lemmas.Iterator.Consumers.{YieldsList-end}
-use Rattle.report.specs.HtmlPage.{script_char}
-use Rattle.report.proofs.html_page.push_script_text.Goals as goal
+use Rattle.report.specs.Html.{script_char}
+use Rattle.report.proofs.html.push_script_text.Goals as goal
 
 -- all characters were taken
 pub returns : goal.returns
