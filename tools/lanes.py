@@ -26,7 +26,7 @@ def side_by_side(rt, gib):
 
 
 def realistic_need(rt):
-    """Makes rt expect the usual memory of a check, and use so many processors that the largest check fits into the memory on each."""
+    """Makes rt expect the usual memory of a check, and use no more processors than largest checks fit into the memory."""
     rt.need = lambda crate: int(USUAL_GIB * 2**30)
     rt.in_lanes = lambda tasks: in_lanes(rt, tasks)
 
