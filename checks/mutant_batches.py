@@ -1,16 +1,17 @@
-"""Checks which mutants tools/mutants tries together, how it judges them by the lines of a check, and how many checks it runs in parallel.
+"""Checks which mutants tools/mutants tries together, how it judges them by the lines of a check, and what it runs in parallel.
 
 The lines are as the prover prints them for a crate with six mutants at once: the proofs of `level_above`, `follow` and one of two
 functions `next` fail, that of `add_all` was not searched because it calls `follow`, and `has` is proved although a mutant changes it. The
 last line is 'N passed, M failed'."""
 import sys
 import tempfile
+import threading
 from pathlib import Path
 from types import SimpleNamespace
 
 sys.dont_write_bytecode = True
 sys.path.insert(0, str(Path(__file__).resolve().parent.parent / "tools"))
-from lanes import startable
+from lanes import compile_at_once, startable
 from mutant_batches import batches_of, refused_in
 
 SOURCE = """\
@@ -101,6 +102,21 @@ def started(tasks):
     return sum(key in FOUR for key in running)
 
 
+def compiled_at_once():
+    """Returns what the two compilers of a program return, each of which waits until the other has started, too."""
+    both = threading.Barrier(2, timeout=10)
+
+    class Crate:
+        name = "program"
+
+        def compile_by(self, backend, words, to):
+            both.wait()
+            return backend
+
+    compile_at_once(SimpleNamespace(Crate=Crate))
+    return [Crate().compile_by(backend, [], "") for backend in ("llvm", "rattle")]
+
+
 def main():
     with tempfile.TemporaryDirectory() as room:
         Path(room, "src").mkdir()
@@ -113,7 +129,8 @@ def main():
         together = [[Path(mutant).stem for mutant, _ in batch] for batch in batches]
         refused = [Path(mutant).stem for mutant, _ in refused_in(SimpleNamespace(name="graphs"), batches[0], LINES)]
     parallel = [started({**proofs, **FOUR, **AFTER}) for proofs in ({}, LARGE, SMALL, {**SMALL, **ABOVE})]
-    cases = ("tried together", together, TOGETHER), ("refused", refused, REFUSED), ("in parallel", parallel, STARTED)
+    cases = [("tried together", together, TOGETHER), ("refused", refused, REFUSED), ("in parallel", parallel, STARTED)]
+    cases.append(("compiled", compiled_at_once(), ["llvm", "rattle"]))
     wrong = [f"{what}: {found}, and not {right}" for what, found, right in cases if found != right]
     print(*wrong, f"{len(cases) - len(wrong)} passed, {len(wrong)} failed", sep="\n")
     return 1 if wrong else 0

@@ -13,7 +13,7 @@ MORE = 0.5
 # The most jobs of a check: more save little time, and each costs the reading of the libraries.
 MOST_JOBS = 4
 # A crate with fewer lines gets one job: most of its time goes into the reading of the libraries, or into a compiler.
-MANY_LINES = 1000
+MANY_LINES = 900
 # The jobs of the check with the longest chain of work after it, even if other checks take all processors: the number of jobs of
 # a check is fixed when it starts, and the end of a run depends on this chain. Two jobs do the work of 1.8. On two processors it is
 # one job, since a second check that runs beside it saves more.
@@ -29,6 +29,21 @@ def realistic_need(rt):
     """Makes rt expect the usual memory of a check, and use no more processors than largest checks fit into the memory."""
     rt.need = lambda crate: int(USUAL_GIB * 2**30)
     rt.in_lanes = lambda tasks: in_lanes(rt, tasks)
+    compile_at_once(rt)
+
+
+def compile_at_once(rt):
+    """Makes rt run the two compilers of a program in parallel: when a run comes to them, nothing else is left to prove."""
+    compile_by, second = rt.Crate.compile_by, {}
+
+    def compiled(crate, backend, words, to):
+        if (crate.name, backend) in second:
+            return second.pop((crate.name, backend)).result()
+        with ThreadPoolExecutor(1) as other:
+            second[crate.name, "rattle"] = other.submit(compile_by, crate, "rattle", words, to)
+            return compile_by(crate, backend, words, to)
+
+    rt.Crate.compile_by = compiled
 
 
 def in_lanes(rt, tasks):
