@@ -13,7 +13,7 @@ MORE = 0.5
 # The most jobs of a check: more save little time, and each costs the reading of the libraries.
 MOST_JOBS = 4
 # A crate with fewer lines gets one job: most of its time goes into the reading of the libraries, or into a compiler.
-MANY_LINES = 900
+MANY_LINES = 800
 # The jobs of the check with the longest chain of work after it, even if other checks take all processors: the number of jobs of
 # a check is fixed when it starts, and the end of a run depends on this chain. Two jobs do the work of 1.8. On two processors it is
 # one job, since a second check that runs beside it saves more.
