@@ -91,6 +91,8 @@ LARGE = {("graph", "proof"): ((), 5000, 1, None)}
 SMALL = {("tree", "proof"): ((), 100, 1, None)}
 ABOVE = {("program", "proof"): ((("tree", "proof"),), 100, 1, None)}
 STARTED = [4, 0, 3, 1]
+# The jobs of the last proof of a small crate: one while mutants wait, and two if there are none.
+JOBS = [1, 2]
 
 
 def started(tasks):
@@ -100,6 +102,12 @@ def started(tasks):
         waiting.remove(key)
         running[key] = key, 1, jobs
     return sum(key in FOUR for key in running)
+
+
+def jobs_of_small(tasks):
+    """Returns the number of jobs that the proof of the small crate gets on four processors."""
+    [(_, jobs), *_] = startable(tasks, list(tasks), {}, {}, 4, 100)
+    return jobs
 
 
 def compiled_at_once():
@@ -130,6 +138,7 @@ def main():
         refused = [Path(mutant).stem for mutant, _ in refused_in(SimpleNamespace(name="graphs"), batches[0], LINES)]
     parallel = [started({**proofs, **FOUR, **AFTER}) for proofs in ({}, LARGE, SMALL, {**SMALL, **ABOVE})]
     cases = [("tried together", together, TOGETHER), ("refused", refused, REFUSED), ("in parallel", parallel, STARTED)]
+    cases.append(("jobs", [jobs_of_small({**SMALL, **FOUR}), jobs_of_small(SMALL)], JOBS))
     cases.append(("compiled", compiled_at_once(), ["llvm", "rattle"]))
     wrong = [f"{what}: {found}, and not {right}" for what, found, right in cases if found != right]
     print(*wrong, f"{len(cases) - len(wrong)} passed, {len(wrong)} failed", sep="\n")

@@ -12,7 +12,8 @@ USUAL_GIB = 2.5
 MORE = 0.5
 # The most jobs of a check: more save little time, and each costs the reading of the libraries.
 MOST_JOBS = 4
-# A crate with fewer lines gets one job: most of its time goes into the reading of the libraries, or into a compiler.
+# A crate with fewer lines gets one job while mutants wait: most of its time goes into the reading of the libraries, or into a
+# compiler, so that a mutant makes more of a processor.
 MANY_LINES = 800
 # The jobs of the check with the longest chain of work after it, even if other checks take all processors: the number of jobs of
 # a check is fixed when it starts, and the end of a run depends on this chain. Two jobs do the work of 1.8. On two processors it is
@@ -86,7 +87,8 @@ def startable(tasks, waiting, running, given, lanes, memory):
             fitting = 1 + int((room / need - 1) / MORE)
             # `waiting` is sorted by the chains
             wanted = max(idle // others, JOBS_OF_CHAIN if key == waiting[0] and lanes > JOBS_OF_CHAIN else 1)
-            useful = MOST_JOBS if tasks[key][1] >= MANY_LINES else 1
+            of_small = 1 if any(map(is_of_mutants, waiting)) else JOBS_OF_CHAIN
+            useful = MOST_JOBS if tasks[key][1] >= MANY_LINES else of_small
             yield key, max(1, min(useful, lanes, wanted, fitting))
 
 
