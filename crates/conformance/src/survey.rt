@@ -183,9 +183,16 @@ pub(crate) fn survey_recording(
 {
     let excess_tracker = ExcessTracker::new(alloc, plan)?;
     let mut builder = SurveyBuilder::new(alloc, excess_tracker);
-    match builder.take_all(alloc, plan, recording)? {
-        Some(fault) => Ok(Err(fault)),
-        None => Ok(Ok(builder.finish(alloc, plan)?)),
+    match builder.take_all(alloc, plan, recording) {
+        Ok(None) => Ok(Ok(builder.finish(alloc, plan)?)),
+        Ok(Some(fault)) => {
+            drop(builder);
+            Ok(Err(fault))
+        }
+        Err(error) => {
+            drop(builder);
+            Err(error)
+        }
     }
 }
 
