@@ -163,8 +163,8 @@ impl Survey {
             → CountsFirstKinds plan.now self.old.actor_survey.others lines self.old.excess_tracker
             → OnOk result (spec.IsSurveyOf plan.now lines self.new) }
     {
-        self.line_survey.finish(plan)?;
         finish(alloc, plan, classes, &mut self.actor_survey)?;
+        self.line_survey.finish(plan)?;
         Ok(())
     }
 }
