@@ -23,20 +23,20 @@ use job_bodies::Plan;
 use recordings::{InvalidatingEvent, Invalidation, RecordedActor, RecordedNotes};
 use std::alloc::{AllocError, Global};
 
-/// Returns all findings of a comparison. The list is not sorted. Fails if memory runs out.
-/// `excesses` has the client kinds with more rounds than the plan allows. `refusals` is `None` if
-/// no pool of the plan may reject jobs.
+/// Returns all findings of a comparison, some of which it moves out of the survey. The list is not
+/// sorted. Fails if memory runs out. `excesses` has the client kinds with more rounds than the plan
+/// allows. `refusals` is `None` if no pool of the plan may reject jobs.
 pub(crate) fn collect_findings(
     alloc: Global,
     plan: &Plan,
     recording: &[u8],
-    mut survey: Survey,
-    excesses: Vec<RoundExcess>,
+    survey: &mut Survey,
+    excesses: &[RoundExcess],
     refusals: &Option<Rejections>,
 ) -> Result<Vec<Finding>, AllocError>
-    ensures { IsNotesOf survey.line_survey.notes (lines_of recording.now)
+    ensures { IsNotesOf survey.old.line_survey.notes (lines_of recording.now)
         → IfOk result
-        (λ found. spec.AreCollected plan.now (lines_of recording.now) survey excesses.items refusals.now found.items) }
+        (λ found. spec.AreCollected plan.now (lines_of recording.now) survey.old excesses.now refusals.now found.items) }
 {
     let mut findings = Vec::new(alloc);
     push_plan_differences(&mut findings, &mut survey.line_survey)?;
@@ -47,7 +47,7 @@ pub(crate) fn collect_findings(
         recording,
         &mut survey.actor_survey,
     )?;
-    push_excesses(&mut findings, &excesses)?;
+    push_excesses(&mut findings, excesses)?;
     push_notes(
         &mut findings,
         alloc,

@@ -155,7 +155,7 @@ fn findings_of_survey(
     alloc: Global,
     plan: &Plan,
     recording: &[u8],
-    survey: Survey,
+    mut survey: Survey,
     refusals: &Option<Rejections>,
 ) -> Result<Vec<Finding>, AllocError>
     ensures conforms { KeepsRules (lines_of recording.now)
@@ -186,7 +186,9 @@ fn findings_of_survey(
     pools_are_as_planned();
     rounds_are_within_plan();
     let excesses = round_excesses(alloc, plan, recording, &survey)?;
-    let mut findings = collect_findings(alloc, plan, recording, survey, excesses, refusals)?;
+    let collected = collect_findings(alloc, plan, recording, &mut survey, &excesses, refusals);
+    drop(survey);
+    let mut findings = collected?;
     findings.sort_by_key(Finding::sort_key)?;
     Ok(findings)
 }

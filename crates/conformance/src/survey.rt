@@ -163,8 +163,8 @@ impl Survey {
             → CountsFirstKinds plan.now self.old.actor_survey.others lines self.old.excess_tracker
             → OnOk result (spec.IsSurveyOf plan.now lines self.new) }
     {
-        self.line_survey.finish(plan)?;
         finish(alloc, plan, classes, &mut self.actor_survey)?;
+        self.line_survey.finish(plan)?;
         Ok(())
     }
 }
@@ -183,9 +183,16 @@ pub(crate) fn survey_recording(
 {
     let excess_tracker = ExcessTracker::new(alloc, plan)?;
     let mut builder = SurveyBuilder::new(alloc, excess_tracker);
-    match builder.take_all(alloc, plan, recording)? {
-        Some(fault) => Ok(Err(fault)),
-        None => Ok(Ok(builder.finish(alloc, plan)?)),
+    match builder.take_all(alloc, plan, recording) {
+        Ok(None) => Ok(Ok(builder.finish(alloc, plan)?)),
+        Ok(Some(fault)) => {
+            drop(builder);
+            Ok(Err(fault))
+        }
+        Err(error) => {
+            drop(builder);
+            Err(error)
+        }
     }
 }
 

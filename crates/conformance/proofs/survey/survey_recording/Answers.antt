@@ -1,16 +1,18 @@
-use Rattle.std.proofs.Common.{Option, subst}
+use Rattle.std.proofs.Common.{Option, IfOk, subst}
 use Rattle.recordings.specs.declared.fault.RecordingFault.{RecordingFault}
 use Rattle.conformance.specs.Lines.{lines_of}
 use Rattle.conformance.specs.Survey.{ReadsAllLines}
 use Rattle.conformance.proofs.survey.survey_recording.Goals as goal
 
-pub returns-in-Some : goal.returns-in-Some
-returns-in-Some c =
+pub returns-in-Ok-Some : goal.returns-in-Ok-Some
+returns-in-Ok-Some c =
     let begun = c.new-builder.ensures c.args.plan.now c.in_ok-excess_tracker.ensures in
-    subst (λ (fault : Option RecordingFault). ReadsAllLines c.args.plan.now c.args.recording.now c.take_all.new.self fault) c.in-Some.is (c.in_ok-fault.ensures begun)
+    let read = subst (λ (read : _). IfOk read (ReadsAllLines c.args.plan.now c.args.recording.now c.take_all.new.self)) c.in-Ok-Some.is (c.take_all.ensures begun) in
+    subst (λ (fault : Option RecordingFault). ReadsAllLines c.args.plan.now c.args.recording.now c.take_all.new.self fault) c.in-Ok-Some.field-0-is read
 
-pub returns-in_ok-finish-in-None : goal.returns-in_ok-finish-in-None
-returns-in_ok-finish-in-None c =
+pub returns-in_ok-finish-in-Ok-None : goal.returns-in_ok-finish-in-Ok-None
+returns-in_ok-finish-in-Ok-None c =
     let begun = c.new-builder.ensures c.args.plan.now c.in_ok-excess_tracker.ensures in
-    let through = subst (λ (fault : Option RecordingFault). ReadsAllLines c.args.plan.now c.args.recording.now c.take_all.new.self fault) c.in-None.is (c.in_ok-fault.ensures begun) in
-    (through.0, c.in_ok-finish-in-None.ensures (lines_of c.args.recording.now) through.1 through.2)
+    let read = subst (λ (read : _). IfOk read (ReadsAllLines c.args.plan.now c.args.recording.now c.take_all.new.self)) c.in-Ok-None.is (c.take_all.ensures begun) in
+    let through = subst (λ (fault : Option RecordingFault). ReadsAllLines c.args.plan.now c.args.recording.now c.take_all.new.self fault) c.in-Ok-None.field-0-is read in
+    (through.0, c.in_ok-finish-in-Ok-None.ensures (lines_of c.args.recording.now) through.1 through.2)
