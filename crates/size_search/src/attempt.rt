@@ -45,14 +45,26 @@ pub(crate) fn attempt_from(
     passed_over: usize,
 ) -> Result<Attempt, AttemptError> {
     let assignment = assign_ranks_to_fixpoint(alloc, cache, threads, passed_over)?;
+    let choices = assignment.choices;
     let cert = cert_of(alloc, cache, &assignment)?;
-    match least_sizes(alloc, cache.plan, &cert)? {
-        Ok(fit) => Ok(Attempt {
-            cert,
-            threads: declared_threads(alloc, &fit)?,
-            cost: growth(cache.plan, &fit),
-            choices: assignment.choices,
-        }),
+    let (threads, cost) = needs_of(alloc, cache.plan, &cert)?;
+    Ok(Attempt {
+        cert,
+        threads,
+        cost,
+        choices,
+    })
+}
+
+/// Returns the core and maximum that each pool needs for the certificate, and the sum of the
+/// increases.
+fn needs_of(
+    alloc: Global,
+    plan: &Plan,
+    cert: &Cert,
+) -> Result<(Vec<PoolThreads>, u64), AttemptError> {
+    match least_sizes(alloc, plan, cert)? {
+        Ok(fit) => Ok((declared_threads(alloc, &fit)?, growth(plan, &fit))),
         Err(obstacle) => Err(AttemptError::Obstacle(obstacle)),
     }
 }

@@ -170,10 +170,11 @@ fn cheapest_attempt(
     cache: &mut VectorCache,
 ) -> Result<Result<Attempt, Obstacle>, AllocError> {
     let declared = declared_threads(alloc, cache.plan)?;
-    match best_from_declared(alloc, cache, &declared)? {
-        Ok(best) => Ok(Ok(improved_attempt(alloc, cache, &declared, best)?)),
-        Err(obstacle) => Ok(Err(obstacle)),
+    let mut best = best_from_declared(alloc, cache, &declared)?;
+    if let Ok(best) = &mut best {
+        improve(alloc, cache, &declared, best)?;
     }
+    Ok(best)
 }
 
 /// Makes the attempts that start with the declared sizes, and returns the one with the smallest sum
@@ -190,27 +191,28 @@ fn best_from_declared(
     };
     for passed_over in 1..choices.min(1 + FURTHER_ATTEMPTS) {
         let next = attempt(alloc, cache, declared, passed_over)?;
-        best = better_attempt(best, next);
+        keep_better(&mut best, next);
     }
     Ok(best)
 }
 
-/// Makes further attempts, and returns the attempt with the smallest sum of increases. This is
-/// `best` if no further attempt has a smaller sum. Each further attempt starts with the cores and
-/// maximums of the best attempt so far, but resets one pool to its declared core and maximum. This
-/// pool is one of the most raised pools (see [`most_raised_pools`]).
-fn improved_attempt(
+/// Makes further attempts, and replaces `best` by each attempt that has a smaller sum of increases.
+/// Each further attempt starts with the cores and maximums of the best attempt so far, but resets
+/// one pool to its declared core and maximum. This pool is one of the most raised pools (see
+/// [`most_raised_pools`]).
+fn improve(
     alloc: Global,
     cache: &mut VectorCache,
     declared: &[PoolThreads],
-    mut best: Attempt,
-) -> Result<Attempt, AllocError> {
-    for pool in most_raised_pools(alloc, &best, declared)? {
-        let threads = reset_pool(alloc, &best, declared, pool)?;
-        let next = outcome(attempt_from(alloc, cache, threads, 0))?;
-        best = cheaper_attempt(best, next);
+    best: &mut Attempt,
+) -> Result<(), AllocError> {
+    for pool in most_raised_pools(alloc, best, declared)? {
+        let threads = reset_pool(alloc, best, declared, pool)?;
+        if let Ok(next) = outcome(attempt_from(alloc, cache, threads, 0))? {
+            keep_cheaper(best, next);
+        }
     }
-    Ok(best)
+    Ok(())
 }
 
 /// Makes an attempt that starts with these cores and maximums. The first round that raises a core
@@ -226,28 +228,22 @@ fn attempt(
     outcome(attempt_from(alloc, cache, threads, passed_over))
 }
 
-/// Returns the attempt with the smaller sum of increases if both attempts succeeded. Otherwise
-/// returns the attempt that succeeded, or the obstacle of the first attempt if both failed.
-fn better_attempt(
-    first: Result<Attempt, Obstacle>,
-    second: Result<Attempt, Obstacle>,
-) -> Result<Attempt, Obstacle> {
-    match (first, second) {
-        (Ok(first), second) => Ok(cheaper_attempt(first, second)),
-        (Err(_), Ok(second)) => Ok(second),
-        (Err(obstacle), Err(_)) => Err(obstacle),
+/// Replaces `best` by `next` if `next` succeeded, and `best` failed or has a larger sum of
+/// increases.
+fn keep_better(best: &mut Result<Attempt, Obstacle>, next: Result<Attempt, Obstacle>) {
+    if let Ok(next) = next {
+        match best {
+            Ok(best) => keep_cheaper(best, next),
+            Err(_) => *best = Ok(next),
+        }
     }
 }
 
-/// Returns the second attempt if it succeeded and has a smaller sum of increases than the first.
-/// Otherwise returns the first attempt.
-fn cheaper_attempt(first: Attempt, second: Result<Attempt, Obstacle>) -> Attempt {
-    if let Ok(second) = second {
-        if second.cost < first.cost {
-            return second;
-        }
+/// Replaces `best` by `next` if `next` has a smaller sum of increases.
+fn keep_cheaper(best: &mut Attempt, next: Attempt) {
+    if next.cost < best.cost {
+        *best = next;
     }
-    first
 }
 
 /// Separates an obstacle from a failed allocation. Returns the attempt or the obstacle as `Ok`, and
