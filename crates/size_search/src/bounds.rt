@@ -3,9 +3,9 @@
 
 use crate::found::{AttemptError, Obstacle};
 use crate::pool_threads::PoolThreads;
-use crate::vector_cache::VectorCache;
+use crate::vector_cache::{CacheHit, VectorCache};
 use job_bodies::Pool;
-use std::alloc::Global;
+use std::alloc::{AllocError, Global};
 use weights::{Bound, Kind};
 
 /// Returns the vector that bounds the pool's queue:
@@ -23,62 +23,72 @@ pub(crate) fn bound_of(
     cache: &mut VectorCache,
     number: usize,
     pool: &Pool,
-    pool_threads: PoolThreads,
+    mut pool_threads: PoolThreads,
     maxes: &[u64],
 ) -> Result<Option<Bound>, AttemptError> {
     if pool.unbounded {
-        return standing_bound(alloc, cache, number, maxes);
+        let hit = cache.lightest(alloc, number, Kind::Standing, maxes, 0)?;
+        return Ok(standing_bound(alloc, cache, hit, maxes)?);
     }
     if pool.may_reject {
         // The final maximum can be smaller than the current one, but not smaller than the declared
         // one. The queue stays unchanged, so a lifetime vector must fit it with each of these
         // maximums.
-        let least_threads = PoolThreads {
-            max: pool.max,
-            ..pool_threads
-        };
-        let bound = least_bound(alloc, cache, number, pool, least_threads, maxes)?;
-        return Ok(match bound {
-            Some(least) if least.missing == 0 => Some(least.bound),
-            _ => None,
-        });
+        pool_threads.max = pool.max;
     }
-    match least_bound(alloc, cache, number, pool, pool_threads, maxes)? {
-        Some(least) => Ok(Some(least.bound)),
-        None => Err(AttemptError::Obstacle(Obstacle::Pool(number))),
+    let least = least_bound(alloc, cache, number, pool, pool_threads, maxes)?;
+    if pool.may_reject && least.missing > 0 {
+        return Ok(None);
     }
+    let bound = least.bound(alloc, cache, maxes)?;
+    if bound.is_none() && !pool.may_reject {
+        return Err(AttemptError::Obstacle(Obstacle::Pool(number)));
+    }
+    Ok(bound)
 }
 
-/// Searches for standing vectors of the pool, and returns the one with the smallest total. Returns
-/// `None` if the search finds none.
+/// Returns the standing vector of the hit as a bound, or `None` if the hit has no vector.
 fn standing_bound(
     alloc: Global,
-    cache: &mut VectorCache,
-    number: usize,
+    cache: &VectorCache,
+    hit: CacheHit,
     maxes: &[u64],
-) -> Result<Option<Bound>, AttemptError> {
-    let hit = cache.lightest(alloc, number, Kind::Standing, maxes, 0)?;
-    let Some(workers) = cache.workers_at(hit) else {
-        return Ok(None);
-    };
-    let vector = cache
-        .resized_plan(maxes)
-        .vector(alloc, number, Kind::Standing, workers)?;
+) -> Result<Option<Bound>, AllocError> {
+    let vector = cache.vector_at(alloc, hit, Kind::Standing, maxes)?;
     Ok(vector.map(Bound::Standing))
 }
 
-/// A vector that bounds a pool's queue.
-#[derive(Drop)]
+/// The cache hit of a vector that bounds a pool's queue.
+#[derive(Clone, Copy)]
 struct LeastBound {
-    bound: Bound,
+    hit: CacheHit,
+    /// Whether the vector is a lifetime vector. Otherwise it is a standing vector.
+    is_lifetime: bool,
     /// The number by which the capacity of the pool's queue must grow for this vector. It is 0 if
     /// the queue is large enough.
     missing: u64,
 }
 
-/// Returns a vector that bounds the queue of the pool. This is either the standing vector or the
-/// lifetime vector, whichever requires the smaller increase of the queue. If both increases are
-/// equal, it is the standing vector. Returns `None` if the search finds no vector.
+impl LeastBound {
+    /// Returns the vector as a bound, or `None` if the hit has no vector.
+    fn bound(
+        self,
+        alloc: Global,
+        cache: &VectorCache,
+        maxes: &[u64],
+    ) -> Result<Option<Bound>, AllocError> {
+        if self.is_lifetime {
+            let vector = cache.vector_at(alloc, self.hit, Kind::Lifetime, maxes)?;
+            Ok(vector.map(Bound::Lifetime))
+        } else {
+            standing_bound(alloc, cache, self.hit, maxes)
+        }
+    }
+}
+
+/// Searches for a vector that bounds the queue of the pool. Returns the cache hit of the standing
+/// vector or of the lifetime vector, whichever requires the smaller increase of the queue. If both
+/// increases are equal, it is the standing vector. The hit has no vector if the search finds none.
 fn least_bound(
     alloc: Global,
     cache: &mut VectorCache,
@@ -86,45 +96,28 @@ fn least_bound(
     pool: &Pool,
     pool_threads: PoolThreads,
     maxes: &[u64],
-) -> Result<Option<LeastBound>, AttemptError> {
-    let mut hit = cache.lightest(alloc, number, Kind::Standing, maxes, pool.queue)?;
-    let mut missing = hit.total.saturating_sub(pool.queue);
-    let mut is_lifetime = false;
-    if missing > 0 {
-        let lifetime = cache.lightest(alloc, number, Kind::Lifetime, maxes, 0)?;
-        let missing_of_lifetime = lifetime_queue(pool, pool_threads, lifetime.total).saturating_sub(
-            pool.queue,
-        );
-        is_lifetime = missing_of_lifetime < missing;
-        if is_lifetime {
-            hit = lifetime;
-            missing = missing_of_lifetime;
-        }
+) -> Result<LeastBound, AttemptError> {
+    let hit = cache.lightest(alloc, number, Kind::Standing, maxes, pool.queue)?;
+    let standing = LeastBound {
+        hit,
+        is_lifetime: false,
+        missing: hit.total.saturating_sub(pool.queue),
+    };
+    if standing.missing == 0 {
+        return Ok(standing);
     }
-    let Some(workers) = cache.workers_at(hit) else {
-        return Ok(None);
+    let hit = cache.lightest(alloc, number, Kind::Lifetime, maxes, 0)?;
+    let queue = lifetime_queue(pool, pool_threads, hit.total);
+    let lifetime = LeastBound {
+        hit,
+        is_lifetime: true,
+        missing: queue.saturating_sub(pool.queue),
     };
-    let kind = if is_lifetime {
-        Kind::Lifetime
+    Ok(if lifetime.missing < standing.missing {
+        lifetime
     } else {
-        Kind::Standing
-    };
-    Ok(
-        match cache
-            .resized_plan(maxes)
-            .vector(alloc, number, kind, workers)?
-        {
-            Some(vector) if is_lifetime => Some(LeastBound {
-                bound: Bound::Lifetime(vector),
-                missing,
-            }),
-            Some(vector) => Some(LeastBound {
-                bound: Bound::Standing(vector),
-                missing,
-            }),
-            None => None,
-        },
-    )
+        standing
+    })
 }
 
 /// Returns the queue capacity that the pool needs to accept this number of jobs in its lifetime.

@@ -266,27 +266,33 @@ fn most_raised_pools(
     best: &Attempt,
     declared: &[PoolThreads],
 ) -> Result<Vec<usize>, AllocError> {
-    let mut raised = Vec::new(alloc);
     let wanted = if declared.len() <= FEW_POOLS {
         declared.len()
     } else {
         FURTHER_ATTEMPTS
     };
+    let mut raised = Vec::new(alloc);
     for _ in 0..wanted {
-        let mut most = 0;
-        let mut chosen = None;
-        for (pool, (pool_threads, declared)) in best.threads.iter().zip(declared).enumerate() {
-            let growth = pool_threads.growth(*declared);
-            if growth > most && !raised.contains(&pool) {
-                most = growth;
-                chosen = Some(pool);
-            }
-        }
-        if let Some(pool) = chosen {
+        if let Some(pool) = most_raised_pool(best, declared, &raised) {
             raised.push(pool)?;
         }
     }
     Ok(raised)
+}
+
+/// Returns the pool with the largest sum of both increases that is not in `skipped`, or `None` if
+/// all other sums are 0.
+fn most_raised_pool(best: &Attempt, declared: &[PoolThreads], skipped: &[usize]) -> Option<usize> {
+    let mut most = 0;
+    let mut chosen = None;
+    for (pool, (pool_threads, declared)) in best.threads.iter().zip(declared).enumerate() {
+        let growth = pool_threads.growth(*declared);
+        if growth > most && !skipped.contains(&pool) {
+            most = growth;
+            chosen = Some(pool);
+        }
+    }
+    chosen
 }
 
 /// Returns the cores and maximums of the attempt `best`, except that this pool has its declared

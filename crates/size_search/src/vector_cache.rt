@@ -3,7 +3,7 @@
 use crate::found::{AttemptError, Obstacle};
 use job_bodies::{Action, Plan};
 use std::alloc::{AllocError, Global};
-use weights::{Kind, Levels, ResizedPlan, VectorSummary, submitted_class};
+use weights::{Kind, Levels, ResizedPlan, Vector, VectorSummary, submitted_class};
 
 /// The maximum number of vectors that one search computes. This limit bounds the time of the
 /// search. All known plans need less than a quarter of this number.
@@ -162,23 +162,18 @@ impl<'a> VectorCache<'a> {
             return Ok(CacheHit::empty(pool));
         };
         let key = memory.key(alloc, kind, maxes, enough)?;
-        if let Some(index) = memory.index_of(&key) {
-            return Ok(memory.hit(pool, index));
-        }
-        if self.vectors_left == 0 {
-            return Err(AttemptError::Obstacle(Obstacle::Unknown));
-        }
-        self.vectors_left = self.vectors_left.saturating_sub(1);
-        let answer = resized_plan.lightest(alloc, pool, kind, enough)?;
-        memory
-            .entries
-            .push(CacheEntry { key, answer })
-            .map_err(AllocError::from)?;
-        Ok(memory.hit(pool, memory.entries.len().saturating_sub(1)))
+        let index = match memory.index_of(&key) {
+            Some(index) => index,
+            None => {
+                take_one(&mut self.vectors_left)?;
+                memory.push(key, resized_plan.lightest(alloc, pool, kind, enough)?)?
+            }
+        };
+        Ok(memory.hit(pool, index))
     }
 
     /// Returns the plan with these maximums.
-    pub(crate) fn resized_plan<'b>(&self, maxes: &'b [u64]) -> ResizedPlan<'b>
+    fn resized_plan<'b>(&self, maxes: &'b [u64]) -> ResizedPlan<'b>
     where
         'a: 'b,
     {
@@ -189,9 +184,24 @@ impl<'a> VectorCache<'a> {
         }
     }
 
+    /// Returns the vector of the hit, computed anew with these maximums. `kind` is its kind.
+    /// Returns `None` if the hit has no vector, or if the search finds none with these maximums.
+    pub(crate) fn vector_at(
+        &self,
+        alloc: Global,
+        hit: CacheHit,
+        kind: Kind,
+        maxes: &[u64],
+    ) -> Result<Option<Vector>, AllocError> {
+        match self.workers_at(hit) {
+            Some(workers) => self.resized_plan(maxes).vector(alloc, hit.pool, kind, workers),
+            None => Ok(None),
+        }
+    }
+
     /// Returns, for each pool, the weight of a worker in the vector of the hit. Returns `None` if
     /// the hit has no vector.
-    pub(crate) fn workers_at(&self, hit: CacheHit) -> Option<&[u64]> {
+    fn workers_at(&self, hit: CacheHit) -> Option<&[u64]> {
         let entry = self.pools.get(hit.pool)?.entries.get(hit.index?)?;
         match &entry.answer {
             Some(summary) => Some(&summary.workers),
@@ -244,6 +254,13 @@ impl PoolCache {
         self.entries.iter().position(|entry| entry.matches_key(key))
     }
 
+    /// Appends an entry, and returns its index.
+    fn push(&mut self, key: CacheKey, answer: Option<VectorSummary>) -> Result<usize, AllocError> {
+        let index = self.entries.len();
+        self.entries.push(CacheEntry { key, answer })?;
+        Ok(index)
+    }
+
     /// Returns the cache hit for the entry at this index. The hit has no vector if there is no such
     /// entry, or if the search for the entry found no vector.
     fn hit(&self, pool: usize, index: usize) -> CacheHit {
@@ -256,6 +273,19 @@ impl PoolCache {
         }
         hit
     }
+}
+
+/// Subtracts 1 from the number of vectors that can still be computed.
+///
+/// # Errors
+///
+/// Returns [`Obstacle::Unknown`] if this number is 0.
+fn take_one(vectors_left: &mut usize) -> Result<(), AttemptError> {
+    if *vectors_left == 0 {
+        return Err(AttemptError::Obstacle(Obstacle::Unknown));
+    }
+    *vectors_left -= 1;
+    Ok(())
 }
 
 /// Returns, for each class, whether a job of the pool gets jobs of that class.
