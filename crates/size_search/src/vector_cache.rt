@@ -194,7 +194,9 @@ impl<'a> VectorCache<'a> {
         maxes: &[u64],
     ) -> Result<Option<Vector>, AllocError> {
         match self.workers_at(hit) {
-            Some(workers) => self.resized_plan(maxes).vector(alloc, hit.pool, kind, workers),
+            Some(workers) => self
+                .resized_plan(maxes)
+                .vector(alloc, hit.pool, kind, workers),
             None => Ok(None),
         }
     }
