@@ -4,7 +4,7 @@ ghost use Rattle.std.specs.Prelude.{◌≡◌, IfOk, IfSome, IsTrue};
 ghost use Rattle.soundness.specs.Accepted.{accepted};
 ghost use Rattle.job_bodies.specs.WellFormed.{IsWellFormed};
 ghost use Rattle.size_search.specs.Causes.{IsWithoutCause};
-ghost use Rattle.size_search.specs.Sized.{IsSized, IsFound};
+ghost use Rattle.size_search.specs.Sized.{IsFound};
 ghost use Rattle.size_search.specs.Decided.{IsDecided};
 ghost use Rattle.size_search.specs.declared.found.SizesFound.TheVariants.{Found};
 
@@ -126,24 +126,22 @@ fn sizes_without_cause(alloc: Global, plan: &Plan) -> Result<SizesFound, AllocEr
     requires well_formed { IsWellFormed plan.now }
     ensures { IfOk result (IsFound plan.now) }
 {
-    match sizes_by_rounds(alloc, plan)? {
-        Ok((fit, cert)) => stabilize(alloc, plan, fit, cert),
+    match unchecked_certificate(alloc, plan)? {
+        Ok(cert) => sizes_for_certificate(alloc, plan, cert),
         Err(obstacle) => fit_steady(alloc, plan, obstacle),
     }
 }
 
-/// Returns the plan with the sizes that the rounds found, and a certificate that accepts this plan.
-/// Returns an obstacle if the rounds found no sizes.
-fn sizes_by_rounds(alloc: Global, plan: &Plan) -> Result<Result<(Plan, Cert), Obstacle>, AllocError>
-    ensures { IfOk result (λ answer. IfOk answer (λ found. IsSized plan.now found.1 found.0)) }
+/// Searches for stable sizes, starting with the least sizes that the certificate needs. If there
+/// are none, uses the steady certificate (see [`fit_steady`]).
+fn sizes_for_certificate(alloc: Global, plan: &Plan, cert: Cert) -> Result<SizesFound, AllocError>
+    requires free { IsWithoutCause plan.now }
+    requires well_formed { IsWellFormed plan.now }
+    ensures { IfOk result (IsFound plan.now) }
 {
-    let cert = match unchecked_certificate(alloc, plan)? {
-        Ok(cert) => cert,
-        Err(obstacle) => return Ok(Err(obstacle)),
-    };
     match least_sizes(alloc, plan, &cert)? {
-        Ok(fit) => Ok(Ok((fit, cert))),
-        Err(obstacle) => Ok(Err(obstacle)),
+        Ok(fit) => stabilize(alloc, plan, fit, cert),
+        Err(obstacle) => fit_steady(alloc, plan, obstacle),
     }
 }
 
@@ -157,24 +155,22 @@ pub(crate) fn unchecked_certificate(
         return Ok(Err(Obstacle::Unknown));
     };
     let mut cache = VectorCache::of(alloc, plan, &levels)?;
-    Ok(match cheapest_attempt(alloc, &mut cache)? {
-        Ok(best) => Ok(best.cert),
-        Err(obstacle) => Err(obstacle),
-    })
+    cheapest_certificate(alloc, &mut cache)
 }
 
-/// Returns the attempt with the smallest sum of increases, or the obstacle of the first attempt if
-/// all attempts failed.
-fn cheapest_attempt(
+/// Returns the certificate of the attempt with the smallest sum of increases, or the obstacle of
+/// the first attempt if all attempts failed.
+fn cheapest_certificate(
     alloc: Global,
     cache: &mut VectorCache,
-) -> Result<Result<Attempt, Obstacle>, AllocError> {
+) -> Result<Result<Cert, Obstacle>, AllocError> {
     let declared = declared_threads(alloc, cache.plan)?;
-    let mut best = best_from_declared(alloc, cache, &declared)?;
-    if let Ok(best) = &mut best {
-        improve(alloc, cache, &declared, best)?;
-    }
-    Ok(best)
+    let mut best = match best_from_declared(alloc, cache, &declared)? {
+        Ok(best) => best,
+        Err(obstacle) => return Ok(Err(obstacle)),
+    };
+    improve(alloc, cache, &declared, &mut best)?;
+    Ok(Ok(best.cert))
 }
 
 /// Makes the attempts that start with the declared sizes, and returns the one with the smallest sum
