@@ -55,21 +55,12 @@ fn steady_vector(alloc: Global, plan: &Plan, levels: &[u64]) -> Result<Option<Ve
     ensures heavy { IfOk result
         (λ found. IfNone found (has_small_numbers (spec.steady_vector plan.now) ≡ false)) }
 {
-    let Some(jobs) = jobs_of(alloc, plan, levels)? else {
+    let Some(mut vector) = jobs_of(alloc, plan, levels)? else {
         return Ok(None);
     };
-    let clients = clients_of(alloc, plan, &jobs)?;
-    let workers = vec![in alloc; 0; plan.pools().len()]?;
-    let Vector {
-        workers: _,
-        classes,
-        clients: _,
-    } = jobs;
-    Ok(Some(Vector {
-        workers,
-        classes,
-        clients,
-    }))
+    vector.clients = clients_of(alloc, plan, &vector)?;
+    vector.workers = vec![in alloc; 0; plan.pools().len()]?;
+    Ok(Some(vector))
 }
 
 /// Returns the bound of a pool's queue: a copy of `vector`, or `None` if the pool needs no bound.
