@@ -115,8 +115,7 @@ fn search_without_first(alloc: Global, plan: &Plan) -> Result<SizesFound, AllocE
     if let Some(cause) = cause_of(alloc, plan)? {
         return Ok(SizesFound::NotFound(NoSizes::Cause(cause)));
     }
-    let found = sizes_without_cause(alloc, plan)?;
-    Ok(found)
+    sizes_without_cause(alloc, plan)
 }
 
 /// Searches for sizes with which a certificate accepts the plan. The plan must have no cause (see
