@@ -23,39 +23,18 @@ pub(crate) fn bound_of(
     cache: &mut VectorCache,
     number: usize,
     pool: &Pool,
-    mut pool_threads: PoolThreads,
+    pool_threads: PoolThreads,
     maxes: &[u64],
 ) -> Result<Option<Bound>, AttemptError> {
-    if pool.unbounded {
-        let hit = cache.lightest(alloc, number, Kind::Standing, maxes, 0)?;
-        return Ok(standing_bound(alloc, cache, hit, maxes)?);
-    }
-    if pool.may_reject {
-        // The final maximum can be smaller than the current one, but not smaller than the declared
-        // one. The queue stays unchanged, so a lifetime vector must fit it with each of these
-        // maximums.
-        pool_threads.max = pool.max;
-    }
     let least = least_bound(alloc, cache, number, pool, pool_threads, maxes)?;
     if pool.may_reject && least.missing > 0 {
         return Ok(None);
     }
     let bound = least.bound(alloc, cache, maxes)?;
-    if bound.is_none() && !pool.may_reject {
+    if bound.is_none() && !pool.needs_no_bound() {
         return Err(AttemptError::Obstacle(Obstacle::Pool(number)));
     }
     Ok(bound)
-}
-
-/// Returns the standing vector of the hit as a bound, or `None` if the hit has no vector.
-fn standing_bound(
-    alloc: Global,
-    cache: &VectorCache,
-    hit: CacheHit,
-    maxes: &[u64],
-) -> Result<Option<Bound>, AllocError> {
-    let vector = cache.vector_at(alloc, hit, Kind::Standing, maxes)?;
-    Ok(vector.map(Bound::Standing))
 }
 
 /// The cache hit of a vector that bounds a pool's queue.
@@ -65,7 +44,7 @@ struct LeastBound {
     /// Whether the vector is a lifetime vector. Otherwise it is a standing vector.
     is_lifetime: bool,
     /// The number by which the capacity of the pool's queue must grow for this vector. It is 0 if
-    /// the queue is large enough.
+    /// the queue is large enough or unbounded.
     missing: u64,
 }
 
@@ -81,14 +60,16 @@ impl LeastBound {
             let vector = cache.vector_at(alloc, self.hit, Kind::Lifetime, maxes)?;
             Ok(vector.map(Bound::Lifetime))
         } else {
-            standing_bound(alloc, cache, self.hit, maxes)
+            let vector = cache.vector_at(alloc, self.hit, Kind::Standing, maxes)?;
+            Ok(vector.map(Bound::Standing))
         }
     }
 }
 
 /// Searches for a vector that bounds the queue of the pool. Returns the cache hit of the standing
 /// vector or of the lifetime vector, whichever requires the smaller increase of the queue. If both
-/// increases are equal, it is the standing vector. The hit has no vector if the search finds none.
+/// increases are equal, or the queue is unbounded, it is the standing vector. The hit has no vector
+/// if the search finds none.
 fn least_bound(
     alloc: Global,
     cache: &mut VectorCache,
@@ -97,13 +78,19 @@ fn least_bound(
     pool_threads: PoolThreads,
     maxes: &[u64],
 ) -> Result<LeastBound, AttemptError> {
-    let hit = cache.lightest(alloc, number, Kind::Standing, maxes, pool.queue)?;
+    let enough = if pool.unbounded { 0 } else { pool.queue };
+    let hit = cache.lightest(alloc, number, Kind::Standing, maxes, enough)?;
+    let missing = if pool.unbounded {
+        0
+    } else {
+        hit.total.saturating_sub(pool.queue)
+    };
     let standing = LeastBound {
         hit,
         is_lifetime: false,
-        missing: hit.total.saturating_sub(pool.queue),
+        missing,
     };
-    if standing.missing == 0 {
+    if missing == 0 {
         return Ok(standing);
     }
     let hit = cache.lightest(alloc, number, Kind::Lifetime, maxes, 0)?;
@@ -113,7 +100,7 @@ fn least_bound(
         is_lifetime: true,
         missing: queue.saturating_sub(pool.queue),
     };
-    Ok(if lifetime.missing < standing.missing {
+    Ok(if lifetime.missing < missing {
         lifetime
     } else {
         standing
@@ -129,6 +116,13 @@ fn lifetime_queue(pool: &Pool, pool_threads: PoolThreads, jobs: u64) -> u64 {
         return jobs;
     }
     let first_workers = if pool.prestart { pool_threads.core } else { 0 };
-    jobs.saturating_add(first_workers)
-        .saturating_sub(pool_threads.max)
+    // The final maximum can be smaller than the current one, but not smaller than the declared one.
+    // The queue of a pool that may reject jobs stays unchanged, so a lifetime vector must fit it with
+    // each of these maximums.
+    let max = if pool.may_reject {
+        pool.max
+    } else {
+        pool_threads.max
+    };
+    jobs.saturating_add(first_workers).saturating_sub(max)
 }

@@ -7,7 +7,6 @@ use crate::pool_threads::maxes_of;
 use crate::rounds::RankAssignment;
 use crate::vector_cache::{CacheHit, VectorCache};
 use cert_text::{Cert, PoolCert};
-use job_bodies::Pool;
 use std::alloc::{AllocError, Global};
 use weights::{Kind, Ranks, Vector, reach};
 
@@ -52,8 +51,8 @@ fn pool_certs(
 ) -> Result<Vec<PoolCert>, AttemptError> {
     let maxes = maxes_of(alloc, &assignment.threads)?;
     let mut pools = Vec::with_capacity(alloc, cache.plan.pools().len())?;
-    for (number, pool) in cache.plan.pools().iter().enumerate() {
-        let cert = pool_cert(alloc, cache, assignment, number, pool, &maxes, reach)?;
+    for number in 0..cache.plan.pools().len() {
+        let cert = pool_cert(alloc, cache, assignment, number, &maxes, reach)?;
         pools.push(cert).map_err(AllocError::from)?;
     }
     Ok(pools)
@@ -70,11 +69,11 @@ fn pool_cert(
     cache: &mut VectorCache,
     assignment: &RankAssignment,
     number: usize,
-    pool: &Pool,
     maxes: &[u64],
     reach: &[u64],
 ) -> Result<PoolCert, AttemptError> {
-    let (Some(pool_threads), Some(Some((rank, hit)))) = (
+    let (Some(pool), Some(pool_threads), Some(Some((rank, hit)))) = (
+        cache.plan.pool_at(number),
         assignment.threads.get(number),
         assignment.assigned.get(number),
     ) else {

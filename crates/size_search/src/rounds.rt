@@ -76,19 +76,22 @@ impl RankAssignment {
         maxes: &[u64],
     ) -> Result<Vec<CacheHit>, AttemptError> {
         let mut hits = Vec::new(alloc);
-        for (pool, (pool_threads, assigned)) in self
-            .threads
-            .iter()
-            .zip(&self.assigned)
-            .enumerate()
-        {
+        for (pool, assigned) in self.assigned.iter().enumerate() {
             if assigned.is_none() {
-                let enough = pool_threads.least_threads().saturating_sub(1);
+                let enough = self.least_threads(pool).saturating_sub(1);
                 let hit = cache.lightest(alloc, pool, kind, maxes, enough)?;
                 hits.push(hit).map_err(AllocError::from)?;
             }
         }
         Ok(hits)
+    }
+
+    /// Returns the least number of threads that the pool can have while its queue has a job.
+    fn least_threads(&self, pool: usize) -> u64 {
+        match self.threads.get(pool) {
+            Some(pool_threads) => pool_threads.least_threads(),
+            None => 0,
+        }
     }
 
     /// Gives the rank to each pool of `hits` whose core is large enough for its blocked vector.
