@@ -61,8 +61,20 @@ impl CacheEntry {
     ///   search for this entry. The larger maximum then changes nothing: a weight of these workers
     ///   would add even more to the total than before, so they still get none.
     fn is_valid_for(&self, maxes: &[u64]) -> bool {
-        self.key.maxes.iter().zip(maxes).enumerate().all(|(pool, (before, now))| before == now
-            || (before < now && !self.is_lender(pool)))
+        for (pool, now) in maxes.iter().enumerate() {
+            if !self.is_valid_for_max(pool, *now) {
+                return false;
+            }
+        }
+        true
+    }
+
+    /// Returns whether one of these conditions holds for the pool with this number and maximum.
+    fn is_valid_for_max(&self, pool: usize, now: u64) -> bool {
+        match self.key.maxes.get(pool) {
+            Some(before) => *before == now || (*before < now && !self.is_lender(pool)),
+            None => true,
+        }
     }
 
     /// Returns whether the workers of the pool got weight in the search for the cached vector.
