@@ -164,6 +164,21 @@ vector_from plan v workers clients ordered none computed are_zeros are_rows =
     ∙ (ap (λ (rows : List (List ℕ)). vector_of (map (λ (pool : Pool). zero) plan.pools) rows clients) (computed_all plan v ordered none computed)
     ∙ ap (vector_of (map (λ (pool : Pool). zero) plan.pools) (jobs plan).classes) (are_rows ∙ ap (λ (w : Vector). map (client_row plan w) plan.clients) (are_jobs plan v ordered none computed)))
 
+empty_row : (n k : ℕ) → get_or {A = List ℕ} (replicate n []) k [] ≡ []
+empty_row zero k = refl
+empty_row (suc n) zero = refl
+empty_row (suc n) (suc k) = empty_row n k
+
+-- before the first level, no class has its row
+pub none_computed : (plan : Plan) (workers : List ℕ) (clients : List (List ℕ)) (rows : List (List ℕ)) → workers ≡ [] → clients ≡ [] → rows ≡ replicate (length plan.classes) [] → IsComputedUpTo plan (vector_of workers rows clients) 0 0
+none_computed plan workers clients rows no_workers no_clients empty = record {
+  as_many = ap length empty ∙ length-replicate (length plan.classes) [];
+  no_workers = no_workers;
+  no_clients = no_clients;
+  jobs = record { small = λ k i. subst (λ (row : List ℕ). get_or row i 0 ≤ MAX_WEIGHT) (sym (ap (λ (all : List (List ℕ)). get_or all k []) empty ∙ empty_row (length plan.classes) k)) (omega arith) };
+  rows = λ k inside computed. absurd (⊎_elim (λ below. omega (arith, below)) (λ same. omega (arith, same.1)) computed);
+}
+
 -- ---- the certificate
 
 pub copied_vector : (v : Vector) (is_zero : Bool) → vector_of (copied_row is_zero v.workers) (map (copied_row is_zero) v.classes) (map (copied_row is_zero) v.clients) ≡ blocked_of v is_zero
