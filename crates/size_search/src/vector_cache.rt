@@ -169,19 +169,36 @@ impl<'a> VectorCache<'a> {
         maxes: &[u64],
         enough: u64,
     ) -> Result<CacheHit, AttemptError> {
-        let resized_plan = self.resized_plan(maxes);
-        let Some(memory) = self.pools.get_mut(pool) else {
+        let Some(memory) = self.pools.get(pool) else {
             return Ok(CacheHit::empty(pool));
         };
         let key = memory.key(alloc, kind, maxes, enough)?;
-        let index = match memory.index_of(&key) {
-            Some(index) => index,
-            None => {
-                take_one(&mut self.vectors_left)?;
-                memory.push(key, resized_plan.lightest(alloc, pool, kind, enough)?)?
-            }
-        };
-        Ok(memory.hit(pool, index))
+        match memory.index_of(&key) {
+            Some(index) => Ok(memory.hit(pool, index)),
+            None => self.compute(alloc, pool, kind, key),
+        }
+    }
+
+    /// Computes the lightest vector of the pool for this key, and adds it to the cache. `kind` is
+    /// the kind of the vector. Returns the cache hit of the vector.
+    fn compute(
+        &mut self,
+        alloc: Global,
+        pool: usize,
+        kind: Kind,
+        key: CacheKey,
+    ) -> Result<CacheHit, AttemptError> {
+        if self.vectors_left == 0 {
+            return Err(AttemptError::Obstacle(Obstacle::Unknown));
+        }
+        self.vectors_left -= 1;
+        let answer = self
+            .resized_plan(&key.maxes)
+            .lightest(alloc, pool, kind, key.enough)?;
+        match self.pools.get_mut(pool) {
+            Some(memory) => Ok(memory.push(pool, key, answer)?),
+            None => Ok(CacheHit::empty(pool)),
+        }
     }
 
     /// Returns the plan with these maximums.
@@ -268,11 +285,16 @@ impl PoolCache {
         self.entries.iter().position(|entry| entry.matches_key(key))
     }
 
-    /// Appends an entry, and returns its index.
-    fn push(&mut self, key: CacheKey, answer: Option<VectorSummary>) -> Result<usize, AllocError> {
+    /// Appends an entry, and returns its cache hit.
+    fn push(
+        &mut self,
+        pool: usize,
+        key: CacheKey,
+        answer: Option<VectorSummary>,
+    ) -> Result<CacheHit, AllocError> {
         let index = self.entries.len();
         self.entries.push(CacheEntry { key, answer })?;
-        Ok(index)
+        Ok(self.hit(pool, index))
     }
 
     /// Returns the cache hit for the entry at this index. The hit has no vector if there is no such
@@ -287,19 +309,6 @@ impl PoolCache {
         }
         hit
     }
-}
-
-/// Subtracts 1 from the number of vectors that can still be computed.
-///
-/// # Errors
-///
-/// Returns [`Obstacle::Unknown`] if this number is 0.
-fn take_one(vectors_left: &mut usize) -> Result<(), AttemptError> {
-    if *vectors_left == 0 {
-        return Err(AttemptError::Obstacle(Obstacle::Unknown));
-    }
-    *vectors_left -= 1;
-    Ok(())
 }
 
 /// Returns, for each class, whether a job of the pool gets jobs of that class.
