@@ -55,14 +55,34 @@ pub(crate) fn stabilize(
 {
     let mut fit = fit;
     let mut cert = cert;
+    if raise_until_stable(alloc, plan, &mut fit, &mut cert)? {
+        return Ok(SizesFound::Found { plan: fit, cert });
+    }
+    match fit_steady(alloc, plan, Obstacle::Unknown)? {
+        SizesFound::NotFound(_) => Ok(SizesFound::Found { plan: fit, cert }),
+        found => Ok(found),
+    }
+}
+
+/// Executes the steps 1 and 2 of [`stabilize`], which replace `fit` and `cert`. Returns whether the
+/// resulting sizes are stable.
+fn raise_until_stable(
+    alloc: Global,
+    plan: &Plan,
+    fit: &mut Plan,
+    cert: &mut Cert,
+) -> Result<bool, AllocError>
+    requires { IsSized plan.now cert.old fit.old }
+    ensures { OnOk result (IsSized plan.now cert.new fit.new) }
+{
     for _turn in 0..MAX_TURNS {
-        match recheck_sizes(alloc, plan, &mut fit, &mut cert)? {
-            Recheck::Same => return Ok(SizesFound::Found { plan: fit, cert }),
+        match recheck_sizes(alloc, plan, fit, cert)? {
+            Recheck::Same => return Ok(true),
             Recheck::More => {}
             Recheck::Nothing => break,
         }
     }
-    or_fit_steady(alloc, plan, fit, cert)
+    Ok(false)
 }
 
 /// Searches anew for a certificate of `fit`, which is `plan` with the sizes that were found. If the
@@ -94,25 +114,5 @@ fn recheck_sizes(
             Ok(Recheck::More)
         }
         Err(_obstacle) => Ok(Recheck::Nothing),
-    }
-}
-
-/// Returns the plan with the least sizes for its steady certificate. If no such sizes are found,
-/// returns `fit`, which is the plan with the sizes that were found before, and its certificate
-/// `cert`.
-fn or_fit_steady(
-    alloc: Global,
-    plan: &Plan,
-    fit: Plan,
-    cert: Cert,
-) -> Result<SizesFound, AllocError>
-    requires free { IsWithoutCause plan.now }
-    requires well_formed { IsWellFormed plan.now }
-    requires sized { IsSized plan.now cert fit }
-    ensures { IfOk result (IsFound plan.now) }
-{
-    match fit_steady(alloc, plan, Obstacle::Unknown)? {
-        SizesFound::NotFound(_) => Ok(SizesFound::Found { plan: fit, cert }),
-        found => Ok(found),
     }
 }
