@@ -1,4 +1,5 @@
 use Rattle.std.proofs.Common.{rules, ◌≡◌, ◌<◌, ◌-◌, ℕ, List, [], ◌∷◌, ◌++◌, length, drop, reverse, get_or, sym, ap, ◌∙◌, arith, refl}
+use Rattle.std.proofs.lemmas.Grind.{common_steps}
 use Rattle.std.proofs.lemmas.Option.{slice_get-get_or}
 use Rattle.job_bodies.specs.declared.action.Action.{Action}
 use Rattle.job_bodies.specs.declared.action.Action.TheVariants.{Work}
@@ -43,3 +44,6 @@ loop-behind-preserved c =
           ∙ (sym (reverse-cons (weight_at plan v least body last (x ∷ rest)) (weights_from plan v least body last rest))
           ∙ sym (ap (λ (actions : List Action). reverse (weights_from plan v least body last actions)) longer))));
     }
+
+pub returns : goal.returns
+returns c = grind (arith, common_steps)
