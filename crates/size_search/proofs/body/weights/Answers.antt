@@ -34,7 +34,7 @@ loop-behind-preserved c =
     let longer = longer_rest body behind position x inside refl (slice_get-get_or body position (Work 0) (omega (arith, inside))) in
     let found : c.before-weight.result ≡ weight_before plan v least body x c.loop-behind.weight = search rules in
     let weight : c.before-weight.result ≡ weight_at plan v least body last (x ∷ rest) = found ∙ ap (weight_before plan v least body x) c.loop-behind.invariant.weight in
-    let pushed : c.push-in-loop-behind.new.self.items ≡ c.loop-behind.weights.items ++ c.before-weight.result ∷ [] = search rules in
+    let pushed : c.push-in-loop-behind.new.self.items ≡ c.loop-behind.weights.items ++ c.before-weight.result ∷ [] = c.in_ok-push-2.ensures.items in
     record {
       weight = weight ∙ sym (ap (weight_at plan v least body last) longer);
       weights =
