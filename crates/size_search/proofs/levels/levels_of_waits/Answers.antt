@@ -1,4 +1,4 @@
-use Rattle.std.proofs.Common.{◌≡◌, length, ap, arith, rules}
+use Rattle.std.proofs.Common.{◌≡◌, length, ap, arith}
 use Rattle.size_search.specs.JobGraphs.{wait_graph}
 use Rattle.size_search.proofs.JobGraphs.{length-waits}
 use Rattle.size_search.proofs.levels.levels_of_waits.Goals as goal

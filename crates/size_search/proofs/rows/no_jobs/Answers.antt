@@ -1,4 +1,4 @@
-use Rattle.std.proofs.Common.{◌≡◌, ℕ, List, [], length, map, replicate, ap, ◌∙◌, Vec, Global, arith}
+use Rattle.std.proofs.Common.{◌≡◌, ℕ, [], length, map, replicate, ap, ◌∙◌, Vec, Global, arith}
 use Rattle.size_search.proofs.RowSteps.{none_computed}
 use Rattle.size_search.proofs.rows.no_jobs.Goals as goal
 
