@@ -57,7 +57,7 @@ pub(crate) fn attempt_from(
 }
 
 /// Returns the core and maximum that each pool needs for the certificate, and the sum of the
-/// increases.
+/// increases (see [`growth`]).
 fn needs_of(
     alloc: Global,
     plan: &Plan,

@@ -69,7 +69,8 @@ impl CacheEntry {
         true
     }
 
-    /// Returns whether one of these conditions holds for the pool with this number and maximum.
+    /// Returns whether the pool with this number, whose maximum is `now`, meets one of the conditions
+    /// of [`is_valid_for`](Self::is_valid_for).
     fn is_valid_for_max(&self, pool: usize, now: u64) -> bool {
         match self.key.maxes.get(pool) {
             Some(before) => *before == now || (*before < now && !self.is_lender(pool)),
