@@ -194,13 +194,13 @@ client_submits_inside plan bodies first valid are k at =
     let found = are.from k at in
     omega (arith, submitted_inside plan found.0 k (valid found.0 found.1) found.2, length-map plan.classes (λ (class : Class). submits_of class.body))
 
-pub clients_valid : (plan : Plan) → IsWellFormed plan → AreNodes (submit_graph plan) (client_submits plan false)
+clients_valid : (plan : Plan) → IsWellFormed plan → AreNodes (submit_graph plan) (client_submits plan false)
 clients_valid plan well =
     client_submits_inside plan (client_bodies plan) (client_submits plan false)
     (λ body from. let client = In-map_from (λ (any : Client). any.body) plan.clients from in subst (IsValidBody plan) client.2 (client_valid plan client.0 well client.1))
     (are_of_clients plan)
 
-pub repeating_valid : (plan : Plan) → IsWellFormed plan → AreNodes (submit_graph plan) (client_submits plan true)
+repeating_valid : (plan : Plan) → IsWellFormed plan → AreNodes (submit_graph plan) (client_submits plan true)
 repeating_valid plan well =
     let repeat_of = λ (any : Client). any.repeat in
     client_submits_inside plan (repeated_bodies plan) (client_submits plan true)
@@ -208,6 +208,10 @@ repeating_valid plan well =
     let client = In-map_from (λ (any : Client). any.body) (filter repeat_of plan.clients) from in
     subst (IsValidBody plan) client.2 (client_valid plan client.0 well (In-filter_from repeat_of plan.clients client.1).0))
     (are_of_repeating_clients plan)
+
+pub submits_valid : (plan : Plan) (repeating : Bool) → IsWellFormed plan → AreNodes (submit_graph plan) (client_submits plan repeating)
+submits_valid plan true = repeating_valid plan
+submits_valid plan false = clients_valid plan
 
 pub marks_submitted : (plan : Plan) (marks : List Bool) → MarksReached (submit_graph plan) (client_submits plan false) marks → MarksSubmitted plan marks
 marks_submitted plan marks reached = record {

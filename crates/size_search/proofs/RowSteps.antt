@@ -1,8 +1,8 @@
 -- The computation of the steady rows, class by class.
-use Rattle.std.proofs.Common.{◌≡◌, ℕ, zero, suc, ◌+◌, ◌<◌, ◌≤◌, ◌⊎◌, inl, inr, ⊎_elim, true, false, ◌&&◌, List, [], ◌∷◌, length, map, replicate, set, get_or, slice_get, Some, refl, sym, ap, subst, ◌∙◌, arith}
+use Rattle.std.proofs.Common.{◌≡◌, ℕ, zero, suc, ◌+◌, ◌<◌, ◌≤◌, ◌⊎◌, inl, inr, ⊎_elim, Bool, true, false, ◌&&◌, List, [], ◌∷◌, length, map, replicate, set, get_or, slice_get, Some, refl, sym, ap, ap₂, subst, ◌∙◌, arith}
 use Rattle.std.specs.List.{list_all}
 use Rattle.std.proofs.lemmas.Bool.{cases_lt, false≢true, and_parts, false_from_ne_true}
-use Rattle.std.proofs.lemmas.List.{get_or_default, length-replicate, length-set}
+use Rattle.std.proofs.lemmas.List.{get_or_default, length-replicate, length-set, map-id}
 use Rattle.std.proofs.lemmas.Option.{slice_get-get_or, slice_get_past, get_or_from_slice_get}
 use Rattle.support.proofs.Elements.{slice_get-set_same, slice_get-set_other, same_by_slice_get}
 use Rattle.support.proofs.Members.{In-get_or, list_all_at_In}
@@ -15,7 +15,7 @@ use Rattle.weights.specs.Ranks.{Ranks}
 use Rattle.cert_text.specs.Cert.{PoolCert, Cert}
 use Rattle.size_search.specs.Submitted.{NoCircle}
 use Rattle.size_search.specs.ComputedRows.{IsComputedUpTo}
-use Rattle.size_search.specs.Steady.{class_row, client_row, jobs, jobs_within, steady_vector, steady_levels, pool_of, steady_ranks, steady_cert}
+use Rattle.size_search.specs.Steady.{copied_row, blocked_of, class_row, client_row, jobs, jobs_within, steady_vector, steady_levels, pool_of, steady_ranks, steady_cert}
 use Rattle.size_search.proofs.Opened.{place_in}
 use Rattle.size_search.proofs.Depths.{shallow, levels_sink}
 use Rattle.size_search.proofs.SteadyRows.{WeighTheSame, class_row-agree, class_is}
@@ -164,7 +164,26 @@ vector_from plan v workers clients ordered none computed are_zeros are_rows =
     ∙ (ap (λ (rows : List (List ℕ)). vector_of (map (λ (pool : Pool). zero) plan.pools) rows clients) (computed_all plan v ordered none computed)
     ∙ ap (vector_of (map (λ (pool : Pool). zero) plan.pools) (jobs plan).classes) (are_rows ∙ ap (λ (w : Vector). map (client_row plan w) plan.clients) (are_jobs plan v ordered none computed)))
 
+empty_row : (n k : ℕ) → get_or {A = List ℕ} (replicate n []) k [] ≡ []
+empty_row zero k = refl
+empty_row (suc n) zero = refl
+empty_row (suc n) (suc k) = empty_row n k
+
+-- before the first level, no class has its row
+pub none_computed : (plan : Plan) (workers : List ℕ) (clients : List (List ℕ)) (rows : List (List ℕ)) → workers ≡ [] → clients ≡ [] → rows ≡ replicate (length plan.classes) [] → IsComputedUpTo plan (vector_of workers rows clients) 0 0
+none_computed plan workers clients rows no_workers no_clients empty = record {
+  as_many = ap length empty ∙ length-replicate (length plan.classes) [];
+  no_workers = no_workers;
+  no_clients = no_clients;
+  jobs = record { small = λ k i. subst (λ (row : List ℕ). get_or row i 0 ≤ MAX_WEIGHT) (sym (ap (λ (all : List (List ℕ)). get_or all k []) empty ∙ empty_row (length plan.classes) k)) (omega arith) };
+  rows = λ k inside computed. absurd (⊎_elim (λ below. omega (arith, below)) (λ same. omega (arith, same.1)) computed);
+}
+
 -- ---- the certificate
+
+pub copied_vector : (v : Vector) (is_zero : Bool) → vector_of (copied_row is_zero v.workers) (map (copied_row is_zero) v.classes) (map (copied_row is_zero) v.clients) ≡ blocked_of v is_zero
+copied_vector v true = refl
+copied_vector v false = ap₂ (vector_of v.workers) (map-id v.classes) (map-id v.clients)
 
 abbrev pub cert_of : List PoolCert → Ranks → Cert
 cert_of pools ranks = record { pools = pools; ranks = ranks }

@@ -142,6 +142,11 @@ zeros numbers = replicate (length numbers) 0
 abbrev pub zero_vector : Vector → Vector
 zero_vector v = record { workers = zeros v.workers; classes = map zeros v.classes; clients = map zeros v.clients }
 
+-- a list of weights of the blocked vector: all 0 if the flag is true, and otherwise the list
+abbrev pub copied_row : Bool → List ℕ → List ℕ
+copied_row true row = zeros row
+copied_row false row = row
+
 -- the blocked vector of a pool: all 0 if the flag is true, which says that none of its gets is counted, and otherwise the vector
 abbrev pub blocked_of : Vector → Bool → Vector
 blocked_of v true = zero_vector v

@@ -9,7 +9,7 @@ use crate::pool_threads::{PoolThreads, declared_threads};
 use crate::rounds::assign_ranks_to_fixpoint;
 use crate::vector_cache::VectorCache;
 use cert_text::Cert;
-use job_bodies::Plan;
+use job_bodies::{Plan, Pool};
 use std::alloc::Global;
 
 /// A certificate that an attempt found, and the sizes that the certificate needs.
@@ -45,14 +45,26 @@ pub(crate) fn attempt_from(
     passed_over: usize,
 ) -> Result<Attempt, AttemptError> {
     let assignment = assign_ranks_to_fixpoint(alloc, cache, threads, passed_over)?;
+    let choices = assignment.choices;
     let cert = cert_of(alloc, cache, &assignment)?;
-    match least_sizes(alloc, cache.plan, &cert)? {
-        Ok(fit) => Ok(Attempt {
-            cert,
-            threads: declared_threads(alloc, &fit)?,
-            cost: growth(cache.plan, &fit),
-            choices: assignment.choices,
-        }),
+    let (threads, cost) = needs_of(alloc, cache.plan, &cert)?;
+    Ok(Attempt {
+        cert,
+        threads,
+        cost,
+        choices,
+    })
+}
+
+/// Returns the core and maximum that each pool needs for the certificate, and the sum of the
+/// increases (see [`growth`]).
+fn needs_of(
+    alloc: Global,
+    plan: &Plan,
+    cert: &Cert,
+) -> Result<(Vec<PoolThreads>, u64), AttemptError> {
+    match least_sizes(alloc, plan, cert)? {
+        Ok(fit) => Ok((declared_threads(alloc, &fit)?, growth(plan, &fit))),
         Err(obstacle) => Err(AttemptError::Obstacle(obstacle)),
     }
 }
@@ -63,9 +75,14 @@ pub(crate) fn attempt_from(
 pub(crate) fn growth(plan: &Plan, fit: &Plan) -> u64 {
     let mut growth = 0u64;
     for (pool, fit) in plan.pools().iter().zip(fit.pools()) {
-        let threads = PoolThreads::of(fit).growth(PoolThreads::of(pool));
-        let queue = fit.queue.saturating_sub(pool.queue);
-        growth = growth.saturating_add(threads).saturating_add(queue);
+        growth = growth.saturating_add(pool_growth(pool, fit));
     }
     growth
+}
+
+/// Returns the sum of the amounts by which the core, the maximum and the queue of `fit` exceed those
+/// of `pool` (see [`growth`]).
+fn pool_growth(pool: &Pool, fit: &Pool) -> u64 {
+    let threads = PoolThreads::of(fit).growth(PoolThreads::of(pool));
+    threads.saturating_add(fit.queue.saturating_sub(pool.queue))
 }

@@ -164,10 +164,9 @@ pub(crate) fn class_row(
     ensures { IfOk result (λ row. row.items ≡ spec.class_row plan.now vector.now body.now) }
 {
     let last = most(plan, vector, body) + 1;
-    let mut positions = weights(alloc, plan, vector, 1, body, last)?;
-    let mut row = Vec::with_capacity(alloc, body.len() + 3)?;
-    row.push(number_at(&positions, 0))?;
-    row.append(&mut positions)?;
+    let mut row = weights(alloc, plan, vector, 1, body, last)?;
+    let queued = number_at(&row, 0);
+    row.insert(0, queued)?;
     row.push(last)?;
     Ok(row)
 }

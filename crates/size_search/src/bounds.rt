@@ -3,9 +3,9 @@
 
 use crate::found::{AttemptError, Obstacle};
 use crate::pool_threads::PoolThreads;
-use crate::vector_cache::VectorCache;
+use crate::vector_cache::{CacheHit, VectorCache};
 use job_bodies::Pool;
-use std::alloc::Global;
+use std::alloc::{AllocError, Global};
 use weights::{Bound, Kind};
 
 /// Returns the vector that bounds the pool's queue:
@@ -26,59 +26,50 @@ pub(crate) fn bound_of(
     pool_threads: PoolThreads,
     maxes: &[u64],
 ) -> Result<Option<Bound>, AttemptError> {
-    if pool.unbounded {
-        return standing_bound(alloc, cache, number, maxes);
-    }
-    if pool.may_reject {
-        // The final maximum can be smaller than the current one, but not smaller than the declared
-        // one. The queue stays unchanged, so a lifetime vector must fit it with each of these
-        // maximums.
-        let least_threads = PoolThreads {
-            max: pool.max,
-            ..pool_threads
-        };
-        let bound = least_bound(alloc, cache, number, pool, least_threads, maxes)?;
-        return Ok(match bound {
-            Some(least) if least.missing == 0 => Some(least.bound),
-            _ => None,
-        });
-    }
-    match least_bound(alloc, cache, number, pool, pool_threads, maxes)? {
-        Some(least) => Ok(Some(least.bound)),
-        None => Err(AttemptError::Obstacle(Obstacle::Pool(number))),
-    }
-}
-
-/// Searches for standing vectors of the pool, and returns the one with the smallest total. Returns
-/// `None` if the search finds none.
-fn standing_bound(
-    alloc: Global,
-    cache: &mut VectorCache,
-    number: usize,
-    maxes: &[u64],
-) -> Result<Option<Bound>, AttemptError> {
-    let hit = cache.lightest(alloc, number, Kind::Standing, maxes, 0)?;
-    let Some(workers) = cache.workers_at(hit) else {
+    let least = least_bound(alloc, cache, number, pool, pool_threads, maxes)?;
+    if pool.may_reject && least.missing > 0 {
         return Ok(None);
-    };
-    let vector = cache
-        .resized_plan(maxes)
-        .vector(alloc, number, Kind::Standing, workers)?;
-    Ok(vector.map(Bound::Standing))
+    }
+    let bound = least.bound(alloc, cache, maxes)?;
+    if bound.is_none() && !pool.needs_no_bound() {
+        return Err(AttemptError::Obstacle(Obstacle::Pool(number)));
+    }
+    Ok(bound)
 }
 
-/// A vector that bounds a pool's queue.
-#[derive(Drop)]
+/// The cache hit of a vector that bounds a pool's queue.
+#[derive(Clone, Copy)]
 struct LeastBound {
-    bound: Bound,
+    hit: CacheHit,
+    /// Whether the vector is a lifetime vector. Otherwise it is a standing vector.
+    is_lifetime: bool,
     /// The number by which the capacity of the pool's queue must grow for this vector. It is 0 if
-    /// the queue is large enough.
+    /// the queue is large enough or unbounded.
     missing: u64,
 }
 
-/// Returns a vector that bounds the queue of the pool. This is either the standing vector or the
-/// lifetime vector, whichever requires the smaller increase of the queue. If both increases are
-/// equal, it is the standing vector. Returns `None` if the search finds no vector.
+impl LeastBound {
+    /// Returns the vector as a bound, or `None` if the hit has no vector.
+    fn bound(
+        self,
+        alloc: Global,
+        cache: &VectorCache,
+        maxes: &[u64],
+    ) -> Result<Option<Bound>, AllocError> {
+        if self.is_lifetime {
+            let vector = cache.vector_at(alloc, self.hit, Kind::Lifetime, maxes)?;
+            Ok(vector.map(Bound::Lifetime))
+        } else {
+            let vector = cache.vector_at(alloc, self.hit, Kind::Standing, maxes)?;
+            Ok(vector.map(Bound::Standing))
+        }
+    }
+}
+
+/// Searches for a vector that bounds the queue of the pool. Returns the cache hit of the standing
+/// vector or of the lifetime vector, whichever requires the smaller increase of the queue. If both
+/// increases are equal, or the queue is unbounded, it is the standing vector. The hit has no vector
+/// if the search finds none.
 fn least_bound(
     alloc: Global,
     cache: &mut VectorCache,
@@ -86,45 +77,34 @@ fn least_bound(
     pool: &Pool,
     pool_threads: PoolThreads,
     maxes: &[u64],
-) -> Result<Option<LeastBound>, AttemptError> {
-    let mut hit = cache.lightest(alloc, number, Kind::Standing, maxes, pool.queue)?;
-    let mut missing = hit.total.saturating_sub(pool.queue);
-    let mut is_lifetime = false;
-    if missing > 0 {
-        let lifetime = cache.lightest(alloc, number, Kind::Lifetime, maxes, 0)?;
-        let missing_of_lifetime = lifetime_queue(pool, pool_threads, lifetime.total).saturating_sub(
-            pool.queue,
-        );
-        is_lifetime = missing_of_lifetime < missing;
-        if is_lifetime {
-            hit = lifetime;
-            missing = missing_of_lifetime;
-        }
-    }
-    let Some(workers) = cache.workers_at(hit) else {
-        return Ok(None);
-    };
-    let kind = if is_lifetime {
-        Kind::Lifetime
+) -> Result<LeastBound, AttemptError> {
+    let enough = if pool.unbounded { 0 } else { pool.queue };
+    let hit = cache.lightest(alloc, number, Kind::Standing, maxes, enough)?;
+    let missing = if pool.unbounded {
+        0
     } else {
-        Kind::Standing
+        hit.total.saturating_sub(pool.queue)
     };
-    Ok(
-        match cache
-            .resized_plan(maxes)
-            .vector(alloc, number, kind, workers)?
-        {
-            Some(vector) if is_lifetime => Some(LeastBound {
-                bound: Bound::Lifetime(vector),
-                missing,
-            }),
-            Some(vector) => Some(LeastBound {
-                bound: Bound::Standing(vector),
-                missing,
-            }),
-            None => None,
-        },
-    )
+    let standing = LeastBound {
+        hit,
+        is_lifetime: false,
+        missing,
+    };
+    if missing == 0 {
+        return Ok(standing);
+    }
+    let hit = cache.lightest(alloc, number, Kind::Lifetime, maxes, 0)?;
+    let queue = lifetime_queue(pool, pool_threads, hit.total);
+    let lifetime = LeastBound {
+        hit,
+        is_lifetime: true,
+        missing: queue.saturating_sub(pool.queue),
+    };
+    Ok(if lifetime.missing < missing {
+        lifetime
+    } else {
+        standing
+    })
 }
 
 /// Returns the queue capacity that the pool needs to accept this number of jobs in its lifetime.
@@ -136,6 +116,13 @@ fn lifetime_queue(pool: &Pool, pool_threads: PoolThreads, jobs: u64) -> u64 {
         return jobs;
     }
     let first_workers = if pool.prestart { pool_threads.core } else { 0 };
-    jobs.saturating_add(first_workers)
-        .saturating_sub(pool_threads.max)
+    // The final maximum can be smaller than the current one, but not smaller than the declared one.
+    // The queue of a pool that may reject jobs stays unchanged, so a lifetime vector must fit it with
+    // each of these maximums.
+    let max = if pool.may_reject {
+        pool.max
+    } else {
+        pool_threads.max
+    };
+    jobs.saturating_add(first_workers).saturating_sub(max)
 }

@@ -21,23 +21,36 @@ use job_bodies::{Plan, Pool};
 use std::alloc::{AllocError, Global};
 use weights::{Bound, Ranks, Vector};
 
-fn copied_rows(alloc: Global, rows: &[Vec<u64>]) -> Result<Vec<Vec<u64>>, AllocError>
-    ensures { IfOk result
-        (λ copies. map (λ row. row.items) copies.items ≡ map (λ row. row.items) rows.now) }
+/// Returns a copy of the list of weights. If `is_zero` is `true`, each weight of the copy is 0.
+fn copied_row(alloc: Global, row: &[u64], is_zero: bool) -> Result<Vec<u64>, AllocError>
+    ensures { IfOk result (λ copy. copy.items ≡ spec.copied_row is_zero row.now) }
+{
+    if is_zero {
+        vec![in alloc; 0; row.len()]
+    } else {
+        Vec::from_slice(alloc, row)
+    }
+}
+
+fn copied_rows(alloc: Global, rows: &[Vec<u64>], is_zero: bool) -> Result<Vec<Vec<u64>>, AllocError>
+    ensures { IfOk result (λ copies.
+        map (λ row. row.items) copies.items
+        ≡ map (spec.copied_row is_zero) (map (λ row. row.items) rows.now)) }
 {
     let mut copies = Vec::with_capacity(alloc, rows.len())?;
     for row in rows {
-        copies.push(Vec::from_slice(alloc, row)?)?;
+        copies.push(copied_row(alloc, row, is_zero)?)?;
     }
     Ok(copies)
 }
 
-fn copied(alloc: Global, vector: &Vector) -> Result<Vector, AllocError>
-    ensures { IfOk result (λ copy. copy ≡ vector.now) }
+/// Returns a copy of `vector`. If `is_zero` is `true`, each weight of the copy is 0.
+fn copied(alloc: Global, vector: &Vector, is_zero: bool) -> Result<Vector, AllocError>
+    ensures { IfOk result (λ copy. copy ≡ spec.blocked_of vector.now is_zero) }
 {
-    let workers = Vec::from_slice(alloc, &vector.workers)?;
-    let classes = copied_rows(alloc, &vector.classes)?;
-    let clients = copied_rows(alloc, &vector.clients)?;
+    let workers = copied_row(alloc, &vector.workers, is_zero)?;
+    let classes = copied_rows(alloc, &vector.classes, is_zero)?;
+    let clients = copied_rows(alloc, &vector.clients, is_zero)?;
     Ok(Vector {
         workers,
         classes,
@@ -55,21 +68,12 @@ fn steady_vector(alloc: Global, plan: &Plan, levels: &[u64]) -> Result<Option<Ve
     ensures heavy { IfOk result
         (λ found. IfNone found (has_small_numbers (spec.steady_vector plan.now) ≡ false)) }
 {
-    let Some(jobs) = jobs_of(alloc, plan, levels)? else {
+    let Some(mut vector) = jobs_of(alloc, plan, levels)? else {
         return Ok(None);
     };
-    let clients = clients_of(alloc, plan, &jobs)?;
-    let workers = vec![in alloc; 0; plan.pools().len()]?;
-    let Vector {
-        workers: _,
-        classes,
-        clients: _,
-    } = jobs;
-    Ok(Some(Vector {
-        workers,
-        classes,
-        clients,
-    }))
+    vector.clients = clients_of(alloc, plan, &vector)?;
+    vector.workers = vec![in alloc; 0; plan.pools().len()]?;
+    Ok(Some(vector))
 }
 
 /// Returns the bound of a pool's queue: a copy of `vector`, or `None` if the pool needs no bound.
@@ -83,54 +87,8 @@ fn bound_of(
     if needs_no_bound {
         return Ok(None);
     }
-    let vector = copied(alloc, vector)?;
+    let vector = copied(alloc, vector, false)?;
     Ok(Some(Bound::Standing(vector)))
-}
-
-fn zeros(alloc: Global, numbers: &[u64]) -> Result<Vec<u64>, AllocError>
-    ensures { IfOk result (λ zeros. zeros.items ≡ spec.zeros numbers.now) }
-{
-    let zeros = vec![in alloc; 0; numbers.len()]?;
-    Ok(zeros)
-}
-
-fn zero_rows(alloc: Global, rows: &[Vec<u64>]) -> Result<Vec<Vec<u64>>, AllocError>
-    ensures { IfOk result (λ made.
-        map (λ row. row.items) made.items ≡ map spec.zeros (map (λ row. row.items) rows.now)) }
-{
-    let mut made = Vec::with_capacity(alloc, rows.len())?;
-    for row in rows {
-        made.push(zeros(alloc, row)?)?;
-    }
-    Ok(made)
-}
-
-/// Returns a vector of the same shape as `vector`, in which every weight is 0.
-fn zero_vector(alloc: Global, vector: &Vector) -> Result<Vector, AllocError>
-    ensures { IfOk result (λ made. made ≡ spec.zero_vector vector.now) }
-{
-    let workers = zeros(alloc, &vector.workers)?;
-    let classes = zero_rows(alloc, &vector.classes)?;
-    let clients = zero_rows(alloc, &vector.clients)?;
-    Ok(Vector {
-        workers,
-        classes,
-        clients,
-    })
-}
-
-/// Returns the blocked vector of a pool: a copy of `vector`, or a vector of zeros if `uncounted` is
-/// `true`. `uncounted` says that no get in the bodies of the pool's jobs is counted. A counted get
-/// can block a thread that other jobs need.
-fn blocked_of(alloc: Global, vector: &Vector, uncounted: bool) -> Result<Vector, AllocError>
-    ensures { IfOk result (λ blocked. blocked ≡ spec.blocked_of vector.now uncounted) }
-{
-    if uncounted {
-        let zeros = zero_vector(alloc, vector)?;
-        return Ok(zeros);
-    }
-    let vector = copied(alloc, vector)?;
-    Ok(vector)
 }
 
 /// Returns the part of the steady certificate that belongs to one pool:
@@ -143,7 +101,7 @@ fn pool_of(alloc: Global, vector: &Vector, pool: &Pool) -> Result<PoolCert, Allo
     ensures { IfOk result (λ part. part ≡ spec.pool_of vector.now pool.now) }
 {
     let bound = bound_of(alloc, vector, pool.needs_no_bound())?;
-    let blocked = blocked_of(alloc, vector, pool.core_timeout)?;
+    let blocked = copied(alloc, vector, pool.core_timeout)?;
     Ok(PoolCert { bound, blocked })
 }
 

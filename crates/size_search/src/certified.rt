@@ -42,11 +42,7 @@ pub(crate) fn cert_of(
     })
 }
 
-/// Returns the bound and the blocked vector of each pool. The bound is `None` in two cases:
-///
-/// - The queue is unbounded, and the search finds no standing vector.
-/// - The queue is bounded, the pool may reject jobs, and the search finds no vector for which the
-///   queue is large enough.
+/// Returns the bound and the blocked vector of each pool (see [`pool_cert`]).
 fn pool_certs(
     alloc: Global,
     cache: &mut VectorCache,
@@ -55,19 +51,37 @@ fn pool_certs(
 ) -> Result<Vec<PoolCert>, AttemptError> {
     let maxes = maxes_of(alloc, &assignment.threads)?;
     let mut pools = Vec::with_capacity(alloc, cache.plan.pools().len())?;
-    for (number, pool) in cache.plan.pools().iter().enumerate() {
-        let (Some(pool_threads), Some(Some((rank, hit)))) = (
-            assignment.threads.get(number),
-            assignment.assigned.get(number),
-        ) else {
-            return Err(AttemptError::Obstacle(Obstacle::Unknown));
-        };
-        let blocked = blocked_of(alloc, cache, *hit, &maxes, *rank, reach)?;
-        let bound = bound_of(alloc, cache, number, pool, *pool_threads, &maxes)?;
-        let cert = PoolCert { bound, blocked };
+    for number in 0..cache.plan.pools().len() {
+        let cert = pool_cert(alloc, cache, assignment, number, &maxes, reach)?;
         pools.push(cert).map_err(AllocError::from)?;
     }
     Ok(pools)
+}
+
+/// Returns the bound and the blocked vector of the pool with this number. The bound is `None` in
+/// two cases:
+///
+/// - The queue is unbounded, and the search finds no standing vector.
+/// - The queue is bounded, the pool may reject jobs, and the search finds no vector for which the
+///   queue is large enough.
+fn pool_cert(
+    alloc: Global,
+    cache: &mut VectorCache,
+    assignment: &RankAssignment,
+    number: usize,
+    maxes: &[u64],
+    reach: &[u64],
+) -> Result<PoolCert, AttemptError> {
+    let (Some(pool), Some(pool_threads), Some(Some((rank, hit)))) = (
+        cache.plan.pool_at(number),
+        assignment.threads.get(number),
+        assignment.assigned.get(number),
+    ) else {
+        return Err(AttemptError::Obstacle(Obstacle::Unknown));
+    };
+    let blocked = blocked_of(alloc, cache, *hit, maxes, *rank, reach)?;
+    let bound = bound_of(alloc, cache, number, pool, *pool_threads, maxes)?;
+    Ok(PoolCert { bound, blocked })
 }
 
 /// Returns the blocked vector that the search found for a pool in the round that gave the pool its
@@ -89,11 +103,6 @@ fn blocked_of(
         rank,
         lending: true,
     };
-    let vector = match cache.workers_at(hit) {
-        Some(workers) => cache
-            .resized_plan(maxes)
-            .vector(alloc, hit.pool, kind, workers)?,
-        None => None,
-    };
+    let vector = cache.vector_at(alloc, hit, kind, maxes)?;
     vector.ok_or(AttemptError::Obstacle(Obstacle::Pool(hit.pool)))
 }

@@ -5,18 +5,8 @@ ghost use Rattle.std.specs.Prelude.{◌≡◌, ◌≤◌, ◌<◌, ◌^◌, ℕ,
 ghost use Rattle.size_search.specs.Levels as spec;
 
 use crate::graph::Graph;
+use crate::levels::number_at;
 use std::alloc::{AllocError, Global};
-
-/// Returns the number at index `place`, or 0 if the list has no such index.
-fn number_at(numbers: &[u64], place: usize) -> u64
-    ensures { result ≡ slice_index numbers.now place }
-{
-    if place < numbers.len() {
-        numbers[place]
-    } else {
-        0
-    }
-}
 
 /// Returns 1 more than the greatest level of these nodes, or 0 if there are no nodes. `levels` has
 /// the level of each node of the graph.

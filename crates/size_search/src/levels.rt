@@ -28,8 +28,7 @@ pub(crate) fn steady_levels(alloc: Global, plan: &Plan) -> Result<Vec<u64>, Allo
     ensures well_formed { IsWellFormed plan.now }
 {
     let graph = submit_graph(alloc, plan)?;
-    let levels = graph.levels(alloc)?;
-    Ok(levels)
+    graph.levels(alloc)
 }
 
 /// Returns the reach of each class, and then the rank of each pool, in the steady certificate. If
@@ -42,8 +41,7 @@ pub(crate) fn wait_levels(alloc: Global, plan: &Plan) -> Result<Vec<u64>, AllocE
     if has_core_timeouts(plan) {
         levels_of_waits(alloc, plan)
     } else {
-        let levels = vec![in alloc; 0; plan.classes().len() + plan.pools().len()]?;
-        Ok(levels)
+        vec![in alloc; 0; plan.classes().len() + plan.pools().len()]
     }
 }
 
@@ -64,6 +62,5 @@ fn levels_of_waits(alloc: Global, plan: &Plan) -> Result<Vec<u64>, AllocError>
 {
     let marks = vec![in alloc; true; plan.classes().len()]?;
     let graph = wait_graph(alloc, plan, &marks)?;
-    let levels = graph.levels(alloc)?;
-    Ok(levels)
+    graph.levels(alloc)
 }

@@ -55,28 +55,43 @@ impl RankAssignment {
         rank: u64,
         lending: bool,
     ) -> Result<Vec<CacheHit>, AttemptError> {
-        let maxes = maxes_of(alloc, &self.threads)?;
         let ranks = self.ranks_or(alloc, rank)?;
         let reach = reach(alloc, cache.plan, cache.levels, &ranks)?;
+        let maxes = maxes_of(alloc, &self.threads)?;
         let kind = Kind::Blocked {
             reach: &reach,
             rank,
             lending,
         };
+        self.lightest_of_kind(alloc, cache, kind, &maxes)
+    }
+
+    /// Finds a vector of this kind for each pool without a rank. Returns the vectors as cache hits.
+    /// `maxes` has the maximum of each pool.
+    fn lightest_of_kind(
+        &self,
+        alloc: Global,
+        cache: &mut VectorCache,
+        kind: Kind,
+        maxes: &[u64],
+    ) -> Result<Vec<CacheHit>, AttemptError> {
         let mut hits = Vec::new(alloc);
-        for (pool, (pool_threads, assigned)) in self
-            .threads
-            .iter()
-            .zip(&self.assigned)
-            .enumerate()
-        {
+        for (pool, assigned) in self.assigned.iter().enumerate() {
             if assigned.is_none() {
-                let enough = pool_threads.least_threads().saturating_sub(1);
-                let hit = cache.lightest(alloc, pool, kind, &maxes, enough)?;
+                let enough = self.least_threads(pool).saturating_sub(1);
+                let hit = cache.lightest(alloc, pool, kind, maxes, enough)?;
                 hits.push(hit).map_err(AllocError::from)?;
             }
         }
         Ok(hits)
+    }
+
+    /// Returns the least number of threads that the pool can have while its queue has a job.
+    fn least_threads(&self, pool: usize) -> u64 {
+        match self.threads.get(pool) {
+            Some(pool_threads) => pool_threads.least_threads(),
+            None => 0,
+        }
     }
 
     /// Gives the rank to each pool of `hits` whose core is large enough for its blocked vector.
@@ -90,6 +105,29 @@ impl RankAssignment {
             }
         }
         any
+    }
+
+    /// Gives the rank to one of the pools of `hits`, after its core was raised. Skips `passed_over`
+    /// pools if no round raised a core before (see [`assign_ranks`]).
+    ///
+    /// # Errors
+    ///
+    /// Returns an obstacle if no core up to `MAX_SIZE` is enough for any of the pools, or if such a
+    /// core is enough only for the pools that are skipped.
+    fn raise_one(
+        &mut self,
+        alloc: Global,
+        hits: &[CacheHit],
+        rank: u64,
+        passed_over: usize,
+    ) -> Result<(), AttemptError> {
+        let choices = self.within_limit(alloc, hits)?;
+        if choices.is_empty() {
+            return Err(AttemptError::Obstacle(self.obstacle_of(hits)));
+        }
+        let choice = if self.choices == 0 { passed_over } else { 0 };
+        self.choices = self.choices.max(choices.len());
+        self.assign_one(&choices, rank, choice)
     }
 
     /// Gives the rank to one of the pools of `hits`. Raises the core of this pool, and if necessary
@@ -211,17 +249,7 @@ pub(crate) fn assign_ranks(
             break;
         }
         if !assignment.assign_all(&hits, rank) {
-            let choices = assignment.within_limit(alloc, &hits)?;
-            if choices.is_empty() {
-                return Err(AttemptError::Obstacle(assignment.obstacle_of(&hits)));
-            }
-            let choice = if assignment.choices == 0 {
-                passed_over
-            } else {
-                0
-            };
-            assignment.choices = assignment.choices.max(choices.len());
-            assignment.assign_one(&choices, rank, choice)?;
+            assignment.raise_one(alloc, &hits, rank, passed_over)?;
         }
     }
     Ok(assignment)

@@ -4,7 +4,7 @@ ghost use Rattle.std.specs.Prelude.{◌≡◌, IfOk, IfSome, IsTrue};
 ghost use Rattle.soundness.specs.Accepted.{accepted};
 ghost use Rattle.job_bodies.specs.WellFormed.{IsWellFormed};
 ghost use Rattle.size_search.specs.Causes.{IsWithoutCause};
-ghost use Rattle.size_search.specs.Sized.{IsSized, IsFound};
+ghost use Rattle.size_search.specs.Sized.{IsFound};
 ghost use Rattle.size_search.specs.Decided.{IsDecided};
 ghost use Rattle.size_search.specs.declared.found.SizesFound.TheVariants.{Found};
 
@@ -115,8 +115,7 @@ fn search_without_first(alloc: Global, plan: &Plan) -> Result<SizesFound, AllocE
     if let Some(cause) = cause_of(alloc, plan)? {
         return Ok(SizesFound::NotFound(NoSizes::Cause(cause)));
     }
-    let found = sizes_without_cause(alloc, plan)?;
-    Ok(found)
+    sizes_without_cause(alloc, plan)
 }
 
 /// Searches for sizes with which a certificate accepts the plan. The plan must have no cause (see
@@ -126,24 +125,22 @@ fn sizes_without_cause(alloc: Global, plan: &Plan) -> Result<SizesFound, AllocEr
     requires well_formed { IsWellFormed plan.now }
     ensures { IfOk result (IsFound plan.now) }
 {
-    match sizes_by_rounds(alloc, plan)? {
-        Ok((fit, cert)) => stabilize(alloc, plan, fit, cert),
+    match unchecked_certificate(alloc, plan)? {
+        Ok(cert) => sizes_for_certificate(alloc, plan, cert),
         Err(obstacle) => fit_steady(alloc, plan, obstacle),
     }
 }
 
-/// Returns the plan with the sizes that the rounds found, and a certificate that accepts this plan.
-/// Returns an obstacle if the rounds found no sizes.
-fn sizes_by_rounds(alloc: Global, plan: &Plan) -> Result<Result<(Plan, Cert), Obstacle>, AllocError>
-    ensures { IfOk result (λ answer. IfOk answer (λ found. IsSized plan.now found.1 found.0)) }
+/// Searches for stable sizes, starting with the least sizes that the certificate needs. If there
+/// are none, uses the steady certificate (see [`fit_steady`]).
+fn sizes_for_certificate(alloc: Global, plan: &Plan, cert: Cert) -> Result<SizesFound, AllocError>
+    requires free { IsWithoutCause plan.now }
+    requires well_formed { IsWellFormed plan.now }
+    ensures { IfOk result (IsFound plan.now) }
 {
-    let cert = match unchecked_certificate(alloc, plan)? {
-        Ok(cert) => cert,
-        Err(obstacle) => return Ok(Err(obstacle)),
-    };
     match least_sizes(alloc, plan, &cert)? {
-        Ok(fit) => Ok(Ok((fit, cert))),
-        Err(obstacle) => Ok(Err(obstacle)),
+        Ok(fit) => stabilize(alloc, plan, fit, cert),
+        Err(obstacle) => fit_steady(alloc, plan, obstacle),
     }
 }
 
@@ -157,23 +154,22 @@ pub(crate) fn unchecked_certificate(
         return Ok(Err(Obstacle::Unknown));
     };
     let mut cache = VectorCache::of(alloc, plan, &levels)?;
-    Ok(match cheapest_attempt(alloc, &mut cache)? {
-        Ok(best) => Ok(best.cert),
-        Err(obstacle) => Err(obstacle),
-    })
+    cheapest_certificate(alloc, &mut cache)
 }
 
-/// Returns the attempt with the smallest sum of increases, or the obstacle of the first attempt if
-/// all attempts failed.
-fn cheapest_attempt(
+/// Returns the certificate of the attempt with the smallest sum of increases, or the obstacle of
+/// the first attempt if all attempts failed.
+fn cheapest_certificate(
     alloc: Global,
     cache: &mut VectorCache,
-) -> Result<Result<Attempt, Obstacle>, AllocError> {
+) -> Result<Result<Cert, Obstacle>, AllocError> {
     let declared = declared_threads(alloc, cache.plan)?;
-    match best_from_declared(alloc, cache, &declared)? {
-        Ok(best) => Ok(Ok(improved_attempt(alloc, cache, &declared, best)?)),
-        Err(obstacle) => Ok(Err(obstacle)),
-    }
+    let mut best = match best_from_declared(alloc, cache, &declared)? {
+        Ok(best) => best,
+        Err(obstacle) => return Ok(Err(obstacle)),
+    };
+    improve(alloc, cache, &declared, &mut best)?;
+    Ok(Ok(best.cert))
 }
 
 /// Makes the attempts that start with the declared sizes, and returns the one with the smallest sum
@@ -190,27 +186,28 @@ fn best_from_declared(
     };
     for passed_over in 1..choices.min(1 + FURTHER_ATTEMPTS) {
         let next = attempt(alloc, cache, declared, passed_over)?;
-        best = better_attempt(best, next);
+        keep_better(&mut best, next);
     }
     Ok(best)
 }
 
-/// Makes further attempts, and returns the attempt with the smallest sum of increases. This is
-/// `best` if no further attempt has a smaller sum. Each further attempt starts with the cores and
-/// maximums of the best attempt so far, but resets one pool to its declared core and maximum. This
-/// pool is one of the most raised pools (see [`most_raised_pools`]).
-fn improved_attempt(
+/// Makes further attempts, and replaces `best` by each attempt that has a smaller sum of increases.
+/// Each further attempt starts with the cores and maximums of the best attempt so far, but resets
+/// one pool to its declared core and maximum. This pool is one of the most raised pools (see
+/// [`most_raised_pools`]).
+fn improve(
     alloc: Global,
     cache: &mut VectorCache,
     declared: &[PoolThreads],
-    mut best: Attempt,
-) -> Result<Attempt, AllocError> {
-    for pool in most_raised_pools(alloc, &best, declared)? {
-        let threads = reset_pool(alloc, &best, declared, pool)?;
-        let next = outcome(attempt_from(alloc, cache, threads, 0))?;
-        best = cheaper_attempt(best, next);
+    best: &mut Attempt,
+) -> Result<(), AllocError> {
+    for pool in most_raised_pools(alloc, best, declared)? {
+        let threads = reset_pool(alloc, best, declared, pool)?;
+        if let Ok(next) = outcome(attempt_from(alloc, cache, threads, 0))? {
+            keep_cheaper(best, next);
+        }
     }
-    Ok(best)
+    Ok(())
 }
 
 /// Makes an attempt that starts with these cores and maximums. The first round that raises a core
@@ -226,28 +223,22 @@ fn attempt(
     outcome(attempt_from(alloc, cache, threads, passed_over))
 }
 
-/// Returns the attempt with the smaller sum of increases if both attempts succeeded. Otherwise
-/// returns the attempt that succeeded, or the obstacle of the first attempt if both failed.
-fn better_attempt(
-    first: Result<Attempt, Obstacle>,
-    second: Result<Attempt, Obstacle>,
-) -> Result<Attempt, Obstacle> {
-    match (first, second) {
-        (Ok(first), second) => Ok(cheaper_attempt(first, second)),
-        (Err(_), Ok(second)) => Ok(second),
-        (Err(obstacle), Err(_)) => Err(obstacle),
+/// Replaces `best` by `next` if `next` succeeded, and `best` failed or has a larger sum of
+/// increases.
+fn keep_better(best: &mut Result<Attempt, Obstacle>, next: Result<Attempt, Obstacle>) {
+    if let Ok(next) = next {
+        match best {
+            Ok(best) => keep_cheaper(best, next),
+            Err(_) => *best = Ok(next),
+        }
     }
 }
 
-/// Returns the second attempt if it succeeded and has a smaller sum of increases than the first.
-/// Otherwise returns the first attempt.
-fn cheaper_attempt(first: Attempt, second: Result<Attempt, Obstacle>) -> Attempt {
-    if let Ok(second) = second {
-        if second.cost < first.cost {
-            return second;
-        }
+/// Replaces `best` by `next` if `next` has a smaller sum of increases.
+fn keep_cheaper(best: &mut Attempt, next: Attempt) {
+    if next.cost < best.cost {
+        *best = next;
     }
-    first
 }
 
 /// Separates an obstacle from a failed allocation. Returns the attempt or the obstacle as `Ok`, and
@@ -270,27 +261,33 @@ fn most_raised_pools(
     best: &Attempt,
     declared: &[PoolThreads],
 ) -> Result<Vec<usize>, AllocError> {
-    let mut raised = Vec::new(alloc);
     let wanted = if declared.len() <= FEW_POOLS {
         declared.len()
     } else {
         FURTHER_ATTEMPTS
     };
+    let mut raised = Vec::new(alloc);
     for _ in 0..wanted {
-        let mut most = 0;
-        let mut chosen = None;
-        for (pool, (pool_threads, declared)) in best.threads.iter().zip(declared).enumerate() {
-            let growth = pool_threads.growth(*declared);
-            if growth > most && !raised.contains(&pool) {
-                most = growth;
-                chosen = Some(pool);
-            }
-        }
-        if let Some(pool) = chosen {
+        if let Some(pool) = most_raised_pool(best, declared, &raised) {
             raised.push(pool)?;
         }
     }
     Ok(raised)
+}
+
+/// Returns the pool with the largest sum of both increases that is not in `skipped`, or `None` if
+/// all other sums are 0.
+fn most_raised_pool(best: &Attempt, declared: &[PoolThreads], skipped: &[usize]) -> Option<usize> {
+    let mut most = 0;
+    let mut chosen = None;
+    for (pool, (pool_threads, declared)) in best.threads.iter().zip(declared).enumerate() {
+        let growth = pool_threads.growth(*declared);
+        if growth > most && !skipped.contains(&pool) {
+            most = growth;
+            chosen = Some(pool);
+        }
+    }
+    chosen
 }
 
 /// Returns the cores and maximums of the attempt `best`, except that this pool has its declared

@@ -1,7 +1,9 @@
 //! The classes that clients submit, directly or through other jobs.
 
-ghost use Rattle.std.specs.Prelude.{IfOk, true, false};
+ghost use Rattle.std.specs.Prelude.{IfOk};
 ghost use Rattle.size_search.specs.ByClients.{MarksSubmitted, MarksRepeated};
+ghost use Rattle.size_search.specs.JobGraphs as spec;
+ghost use Rattle.size_search.specs.Marks.{MarksReached};
 
 use crate::job_graphs::{client_submits, submit_graph};
 use job_bodies::Plan;
@@ -15,10 +17,7 @@ use std::alloc::{AllocError, Global};
 pub fn submitted_by_clients(alloc: Global, plan: &Plan) -> Result<Vec<bool>, AllocError>
     ensures { IfOk result (λ marks. MarksSubmitted plan.now marks.items) }
 {
-    let first = client_submits(alloc, plan, false)?;
-    let graph = submit_graph(alloc, plan)?;
-    let marks = graph.reached_from(alloc, &first)?;
-    Ok(marks)
+    submitted_classes(alloc, plan, false)
 }
 
 /// Returns, for each class, whether repeating clients submit it, directly or through other jobs.
@@ -29,8 +28,16 @@ pub fn submitted_by_clients(alloc: Global, plan: &Plan) -> Result<Vec<bool>, All
 pub fn submitted_repeatedly(alloc: Global, plan: &Plan) -> Result<Vec<bool>, AllocError>
     ensures { IfOk result (λ marks. MarksRepeated plan.now marks.items) }
 {
-    let first = client_submits(alloc, plan, true)?;
+    submitted_classes(alloc, plan, true)
+}
+
+/// Returns, for each class, whether clients submit it, directly or through other jobs. If
+/// `repeating` is `true`, only repeating clients count.
+fn submitted_classes(alloc: Global, plan: &Plan, repeating: bool) -> Result<Vec<bool>, AllocError>
+    ensures { IfOk result (λ marks.
+        MarksReached (spec.submit_graph plan.now) (spec.client_submits plan.now repeating) marks.items) }
+{
+    let first = client_submits(alloc, plan, repeating)?;
     let graph = submit_graph(alloc, plan)?;
-    let marks = graph.reached_from(alloc, &first)?;
-    Ok(marks)
+    graph.reached_from(alloc, &first)
 }

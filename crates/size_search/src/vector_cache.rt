@@ -3,7 +3,7 @@
 use crate::found::{AttemptError, Obstacle};
 use job_bodies::{Action, Plan};
 use std::alloc::{AllocError, Global};
-use weights::{Kind, Levels, ResizedPlan, VectorSummary, submitted_class};
+use weights::{Kind, Levels, ResizedPlan, Vector, VectorSummary, submitted_class};
 
 /// The maximum number of vectors that one search computes. This limit bounds the time of the
 /// search. All known plans need less than a quarter of this number.
@@ -61,8 +61,21 @@ impl CacheEntry {
     ///   search for this entry. The larger maximum then changes nothing: a weight of these workers
     ///   would add even more to the total than before, so they still get none.
     fn is_valid_for(&self, maxes: &[u64]) -> bool {
-        self.key.maxes.iter().zip(maxes).enumerate().all(|(pool, (before, now))| before == now
-            || (before < now && !self.is_lender(pool)))
+        for (pool, now) in maxes.iter().enumerate() {
+            if !self.is_valid_for_max(pool, *now) {
+                return false;
+            }
+        }
+        true
+    }
+
+    /// Returns whether the pool with this number, whose maximum is `now`, meets one of the conditions
+    /// of [`is_valid_for`](Self::is_valid_for).
+    fn is_valid_for_max(&self, pool: usize, now: u64) -> bool {
+        match self.key.maxes.get(pool) {
+            Some(before) => *before == now || (*before < now && !self.is_lender(pool)),
+            None => true,
+        }
     }
 
     /// Returns whether the workers of the pool got weight in the search for the cached vector.
@@ -157,28 +170,40 @@ impl<'a> VectorCache<'a> {
         maxes: &[u64],
         enough: u64,
     ) -> Result<CacheHit, AttemptError> {
-        let resized_plan = self.resized_plan(maxes);
-        let Some(memory) = self.pools.get_mut(pool) else {
+        let Some(memory) = self.pools.get(pool) else {
             return Ok(CacheHit::empty(pool));
         };
         let key = memory.key(alloc, kind, maxes, enough)?;
-        if let Some(index) = memory.index_of(&key) {
-            return Ok(memory.hit(pool, index));
+        match memory.index_of(&key) {
+            Some(index) => Ok(memory.hit(pool, index)),
+            None => self.compute(alloc, pool, kind, key),
         }
+    }
+
+    /// Computes the lightest vector of the pool for this key, and adds it to the cache. `kind` is
+    /// the kind of the vector. Returns the cache hit of the vector.
+    fn compute(
+        &mut self,
+        alloc: Global,
+        pool: usize,
+        kind: Kind,
+        key: CacheKey,
+    ) -> Result<CacheHit, AttemptError> {
         if self.vectors_left == 0 {
             return Err(AttemptError::Obstacle(Obstacle::Unknown));
         }
-        self.vectors_left = self.vectors_left.saturating_sub(1);
-        let answer = resized_plan.lightest(alloc, pool, kind, enough)?;
-        memory
-            .entries
-            .push(CacheEntry { key, answer })
-            .map_err(AllocError::from)?;
-        Ok(memory.hit(pool, memory.entries.len().saturating_sub(1)))
+        self.vectors_left -= 1;
+        let answer = self
+            .resized_plan(&key.maxes)
+            .lightest(alloc, pool, kind, key.enough)?;
+        match self.pools.get_mut(pool) {
+            Some(memory) => Ok(memory.push(pool, key, answer)?),
+            None => Ok(CacheHit::empty(pool)),
+        }
     }
 
     /// Returns the plan with these maximums.
-    pub(crate) fn resized_plan<'b>(&self, maxes: &'b [u64]) -> ResizedPlan<'b>
+    fn resized_plan<'b>(&self, maxes: &'b [u64]) -> ResizedPlan<'b>
     where
         'a: 'b,
     {
@@ -189,9 +214,26 @@ impl<'a> VectorCache<'a> {
         }
     }
 
+    /// Returns the vector of the hit, computed anew with these maximums. `kind` is its kind.
+    /// Returns `None` if the hit has no vector, or if the search finds none with these maximums.
+    pub(crate) fn vector_at(
+        &self,
+        alloc: Global,
+        hit: CacheHit,
+        kind: Kind,
+        maxes: &[u64],
+    ) -> Result<Option<Vector>, AllocError> {
+        match self.workers_at(hit) {
+            Some(workers) => self
+                .resized_plan(maxes)
+                .vector(alloc, hit.pool, kind, workers),
+            None => Ok(None),
+        }
+    }
+
     /// Returns, for each pool, the weight of a worker in the vector of the hit. Returns `None` if
     /// the hit has no vector.
-    pub(crate) fn workers_at(&self, hit: CacheHit) -> Option<&[u64]> {
+    fn workers_at(&self, hit: CacheHit) -> Option<&[u64]> {
         let entry = self.pools.get(hit.pool)?.entries.get(hit.index?)?;
         match &entry.answer {
             Some(summary) => Some(&summary.workers),
@@ -242,6 +284,18 @@ impl PoolCache {
     /// is no such entry.
     fn index_of(&self, key: &CacheKey) -> Option<usize> {
         self.entries.iter().position(|entry| entry.matches_key(key))
+    }
+
+    /// Appends an entry, and returns its cache hit.
+    fn push(
+        &mut self,
+        pool: usize,
+        key: CacheKey,
+        answer: Option<VectorSummary>,
+    ) -> Result<CacheHit, AllocError> {
+        let index = self.entries.len();
+        self.entries.push(CacheEntry { key, answer })?;
+        Ok(self.hit(pool, index))
     }
 
     /// Returns the cache hit for the entry at this index. The hit has no vector if there is no such

@@ -1,4 +1,5 @@
 use Rattle.std.proofs.Common.{rules, ◌≡◌, ◌<◌, ◌-◌, ℕ, List, [], ◌∷◌, ◌++◌, length, drop, reverse, get_or, sym, ap, ◌∙◌, arith, refl}
+use Rattle.std.proofs.lemmas.Grind.{common_steps}
 use Rattle.std.proofs.lemmas.Option.{slice_get-get_or}
 use Rattle.job_bodies.specs.declared.action.Action.{Action}
 use Rattle.job_bodies.specs.declared.action.Action.TheVariants.{Work}
@@ -33,7 +34,7 @@ loop-behind-preserved c =
     let longer = longer_rest body behind position x inside refl (slice_get-get_or body position (Work 0) (omega (arith, inside))) in
     let found : c.before-weight.result ≡ weight_before plan v least body x c.loop-behind.weight = search rules in
     let weight : c.before-weight.result ≡ weight_at plan v least body last (x ∷ rest) = found ∙ ap (weight_before plan v least body x) c.loop-behind.invariant.weight in
-    let pushed : c.push-in-loop-behind.new.self.items ≡ c.loop-behind.weights.items ++ c.before-weight.result ∷ [] = search rules in
+    let pushed : c.push-in-loop-behind.new.self.items ≡ c.loop-behind.weights.items ++ c.before-weight.result ∷ [] = c.in_ok-push-2.ensures.items in
     record {
       weight = weight ∙ sym (ap (weight_at plan v least body last) longer);
       weights =
@@ -43,3 +44,6 @@ loop-behind-preserved c =
           ∙ (sym (reverse-cons (weight_at plan v least body last (x ∷ rest)) (weights_from plan v least body last rest))
           ∙ sym (ap (λ (actions : List Action). reverse (weights_from plan v least body last actions)) longer))));
     }
+
+pub returns : goal.returns
+returns c = grind (arith, common_steps)

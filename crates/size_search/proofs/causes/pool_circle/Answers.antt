@@ -1,4 +1,4 @@
-use Rattle.std.proofs.Common.{◌≡◌, ℕ, ◌-◌, ◌<◌, ◌≤◌, List, length, ap, subst, sym, arith, rules}
+use Rattle.std.proofs.Common.{◌≡◌, ◌∙◌, ℕ, ◌-◌, ◌<◌, ◌≤◌, List, length, ap, subst, sym, arith, rules}
 use Rattle.job_bodies.specs.Plan.{Class}
 use Rattle.job_bodies.proofs.Bodies.{ordered}
 use Rattle.size_search.specs.Graph.{IsOnCircle}
@@ -15,8 +15,8 @@ returns-in-Some-clause-cause c =
     let node = c.in-Some.node in
     let p = node - length plan.classes in
     let marks = c.in_ok-submitted.submitted.items in
-    let marked : MarksSubmitted plan marks = search rules in
-    let graph : c.in_ok-graph.graph ≡ wait_graph plan marks = search rules in
+    let marked : MarksSubmitted plan marks = c.in_ok-submitted.ensures in
+    let graph : c.in_ok-graph.graph ≡ wait_graph plan marks = c.in_ok-graph.ensures.graph ∙ ap (wait_graph plan) c.deref.ensures.value in
     let circle : IsOnCircle c.in_ok-graph.graph node = search rules in
     let bounds : (length plan.classes ≤ node) × (node < length c.in_ok-graph.graph) = search rules in
     let number : node ≡ pool_node plan p = omega (arith, bounds.0) in
@@ -29,7 +29,7 @@ pub returns-clause-none : goal.returns-clause-none
 returns-clause-none c = λ p waits.
     let plan = c.args.plan.now in
     let marks = c.in_ok-submitted.submitted.items in
-    let marked : MarksSubmitted plan marks = search rules in
-    let graph : c.in_ok-graph.graph ≡ wait_graph plan marks = search rules in
+    let marked : MarksSubmitted plan marks = c.in_ok-submitted.ensures in
+    let graph : c.in_ok-graph.graph ≡ wait_graph plan marks = c.in_ok-graph.ensures.graph ∙ ap (wait_graph plan) c.deref.ensures.value in
     let none : (node : ℕ) → length plan.classes ≤ node → IsOnCircle c.in_ok-graph.graph node → ⊥ = search rules in
     none (pool_node plan p) (omega arith) (subst (λ (g : List (List ℕ)). IsOnCircle g (pool_node plan p)) (sym graph) (circle_where_waits plan marks p (ordered plan c.classes-classes.ensures.well_formed) marked waits))

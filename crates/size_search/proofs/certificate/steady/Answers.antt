@@ -19,6 +19,6 @@ returns-clause-cert c =
     let plan = c.args.plan.now in
     let v = c.in-Some.vector in
     let is : v ≡ steady_vector plan = search rules in
-    let pools : c.in_ok-pools.pools.items ≡ map (pool_of v) plan.pools = search rules in
-    let ranks : c.in_ok-ranks.ranks ≡ steady_ranks plan = search rules in
+    let pools : c.in_ok-pools.pools.items ≡ map (pool_of v) plan.pools = c.in_ok-pools.ensures in
+    let ranks : c.in_ok-ranks.ranks ≡ steady_ranks plan = c.in_ok-ranks.ensures in
     cert_from plan v c.in_ok-pools.pools.items c.in_ok-ranks.ranks is pools ranks

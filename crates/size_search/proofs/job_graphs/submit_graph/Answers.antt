@@ -1,4 +1,5 @@
 use Rattle.std.proofs.Common.{◌≡◌, List, ℕ, length, map, sym, ap, subst, ◌∙◌, arith}
+use Rattle.std.proofs.lemmas.Grind.{common_steps}
 use Rattle.std.proofs.lemmas.List.{take_all}
 use Rattle.job_bodies.specs.Plan.{Class}
 use Rattle.job_bodies.proofs.Bodies.{ordered}
@@ -14,3 +15,6 @@ returns-clause-closed c =
     let is : c.loop-class.graph ≡ submit_graph plan =
     c.loop-class.invariant ∙ ap (map (λ (class : Class). submits_of class.body)) (take_all c.loop-class.class-index plan.classes (omega (arith, end, c.loop-class-test.false))) in
     subst (λ (graph : List (List ℕ)). IsClosed graph) (sym is) (submit_closed plan (ordered plan c.classes-class-items.ensures.well_formed))
+
+pub loop-class-preserved : goal.loop-class-preserved
+loop-class-preserved c = grind (arith, common_steps)

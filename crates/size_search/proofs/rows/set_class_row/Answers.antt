@@ -24,7 +24,7 @@ returns-then-not-are_small-clause-heavy c =
     let number = c.args.number in
     let class = class_here plan c.classes.result.now number c.index-classes-number.result c.classes.ensures.value c.requires.number c.index-classes-number.is in
     let body : c.deref.result.now ≡ (class_at plan number).body = c.deref.ensures.value ∙ ap (λ (any : Class). any.body) (c.class.view_is ∙ class) in
-    let made : c.in_ok-row.row.items ≡ class_row plan c.args.jobs.now c.deref.result.now = search rules in
+    let made : c.in_ok-row.row.items ≡ class_row plan c.args.jobs.now c.deref.result.now = c.in_ok-row.ensures in
     let heavy : list_all is_small c.in_ok-row.row.items ≡ false = search rules in
     heavy_here plan c.args.jobs.now c.args.level number (ordered plan c.classes.ensures.well_formed) c.requires.free c.requires.computed c.requires.level c.requires.number
     (sym (ap (list_all is_small) (made ∙ ap (class_row plan c.args.jobs.now) body)) ∙ heavy)
@@ -36,7 +36,7 @@ returns-clause-computed c =
     let number = c.args.number in
     let class = class_here plan c.classes.result.now number c.index-classes-number.result c.classes.ensures.value c.requires.number c.index-classes-number.is in
     let body : c.deref.result.now ≡ (class_at plan number).body = c.deref.ensures.value ∙ ap (λ (any : Class). any.body) (c.class.view_is ∙ class) in
-    let made : c.in_ok-row.row.items ≡ class_row plan v c.deref.result.now = search rules in
+    let made : c.in_ok-row.row.items ≡ class_row plan v c.deref.result.now = c.in_ok-row.ensures in
     let is : c.in_ok-row.row.items ≡ class_row plan v (class_at plan number).body = made ∙ ap (class_row plan v) body in
     let small : list_all is_small c.in_ok-row.row.items ≡ true = search rules in
     subst (λ (any : Vector). IsComputedUpTo plan any c.args.level (number + 1)) (sym (c.put_row.ensures ∙ ap (with_row v number) is))

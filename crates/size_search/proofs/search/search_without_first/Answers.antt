@@ -1,8 +1,8 @@
 use Rattle.std.proofs.Common.{rules}
+use Rattle.std.proofs.lemmas.Result.{IfOk-weaker}
 use Rattle.size_search.specs.Causes.{IsWithoutCause}
 use Rattle.size_search.specs.Causes.{IsCause}
 use Rattle.size_search.proofs.Caused.{beyond}
-use Rattle.size_search.specs.Sized.{IsFound}
 use Rattle.size_search.proofs.Deciding.{decided_without_cause}
 use Rattle.size_search.proofs.search.search_without_first.Goals as goal
 
@@ -14,5 +14,4 @@ returns-in-Some-clause-decided c =
 pub returns-clause-decided : goal.returns-clause-decided
 returns-clause-decided c =
     let free : IsWithoutCause c.args.plan.now = search rules in
-    let found : IsFound c.args.plan.now c.in_ok-found.found = search rules in
-    decided_without_cause c.args.plan.now c.in_ok-found.found free found
+    IfOk-weaker c.sizes_without_cause.result _ _ (λ found is. decided_without_cause c.args.plan.now found free is) c.sizes_without_cause.ensures

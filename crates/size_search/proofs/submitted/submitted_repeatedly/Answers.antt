@@ -1,21 +1,6 @@
-use Rattle.std.proofs.Common.{◌≡◌, true, List, ℕ, sym, subst, rules}
-use Rattle.size_search.specs.Graph.{AreNodes}
-use Rattle.size_search.specs.Marks.{MarksReached}
-use Rattle.size_search.specs.JobGraphs.{client_submits, submit_graph}
-use Rattle.size_search.proofs.JobGraphs.{repeating_valid, marks_repeated}
+use Rattle.std.proofs.lemmas.Result.{IfOk-weaker}
+use Rattle.size_search.proofs.JobGraphs.{marks_repeated}
 use Rattle.size_search.proofs.submitted.submitted_repeatedly.Goals as goal
 
-pub reached_from-requires-clause-nodes : goal.reached_from-requires-clause-nodes
-reached_from-requires-clause-nodes c =
-    let plan = c.args.plan.now in
-    let first : c.deref.result.now ≡ client_submits plan true = search rules in
-    let graph : c.in_ok-graph.graph ≡ submit_graph plan = search rules in
-    subst (λ (g : List (List ℕ)). AreNodes g c.deref.result.now) (sym graph) (subst (AreNodes (submit_graph plan)) (sym first) (repeating_valid plan c.submit_graph.ensures.well_formed))
-
 pub returns : goal.returns
-returns c =
-    let plan = c.args.plan.now in
-    let first : c.deref.result.now ≡ client_submits plan true = search rules in
-    let graph : c.in_ok-graph.graph ≡ submit_graph plan = search rules in
-    let reached : MarksReached c.in_ok-graph.graph c.deref.result.now c.in_ok-marks.marks.items = search rules in
-    marks_repeated plan c.in_ok-marks.marks.items (subst (λ (g : List (List ℕ)). MarksReached g (client_submits plan true) c.in_ok-marks.marks.items) graph (subst (λ (nodes : List ℕ). MarksReached c.in_ok-graph.graph nodes c.in_ok-marks.marks.items) first reached))
+returns c = IfOk-weaker c.submitted_classes.result _ _ (λ marks. marks_repeated c.args.plan.now marks.items) c.submitted_classes.ensures
