@@ -30,8 +30,8 @@ fn malformed_name(
     entry: &PlacedEntry<'_>,
     name: &str,
 ) -> Result<(), AllocError> {
-    let rule = name_rule(collector.alloc, name)?;
-    entry.report(collector, BAD_NAME, entry.value_place("name"), &rule)
+    let rule = name_rule(collector.alloc, name);
+    entry.report(collector, BAD_NAME, entry.value_place("name"), rule)
 }
 
 /// Reports that an earlier entry of the same list has the same name. `line` is the line of the
@@ -42,8 +42,8 @@ fn duplicate_name(
     line: usize,
 ) -> Result<(), AllocError> {
     let list = list_of(entry.part);
-    let words = format!(in collector.alloc; "line {line} has a {list} with this name")?;
-    entry.report(collector, DOUBLE_NAME, entry.value_place("name"), &words)
+    let words = format!(in collector.alloc; "line {line} has a {list} with this name");
+    entry.report(collector, DOUBLE_NAME, entry.value_place("name"), words)
 }
 
 /// Returns the message for a malformed name. The message states the rule for names. If

@@ -115,8 +115,8 @@ fn unknown_key(
 ) -> Result<(), AllocError> {
     let list = list_of(entry.part);
     let right = key_suggestion(collector.alloc, entry.part, key)?;
-    let words = format!(in collector.alloc; "unknown key {key} in [[{list}]]{right}")?;
-    entry.report(collector, UNKNOWN_KEY, entry.key_place(key), &words)
+    let words = format!(in collector.alloc; "unknown key {key} in [[{list}]]{right}");
+    entry.report(collector, UNKNOWN_KEY, entry.key_place(key), words)
 }
 
 /// Returns the end of the message for a key that an entry of this kind cannot have. The end says
@@ -176,8 +176,8 @@ fn missing_key(
     if hint.is_empty() {
         return Ok(());
     }
-    let words = format!(in collector.alloc; "{key} is missing: {hint}")?;
-    entry.report(collector, MISSING_KEY, entry.place(), &words)
+    let words = format!(in collector.alloc; "{key} is missing: {hint}");
+    entry.report(collector, MISSING_KEY, entry.place(), words)
 }
 
 /// Reports a value whose type is not the type that the rule requires.
@@ -193,8 +193,8 @@ fn wrong_type(
     let an = article(found);
     let has_no_limit = means_no_limit(collector.alloc, value.as_str().unwrap_or(""))?;
     let hint = no_limit_hint(key, has_no_limit);
-    let words = format!(in collector.alloc; "{key} is {an} {found}, but must be {rule}{hint}")?;
-    entry.report(collector, WRONG_TYPE, entry.value_place(key), &words)
+    let words = format!(in collector.alloc; "{key} is {an} {found}, but must be {rule}{hint}");
+    entry.report(collector, WRONG_TYPE, entry.value_place(key), words)
 }
 
 /// Returns `true` if the text says that a size has no limit, or if it is a misspelled `unbounded`.
@@ -239,10 +239,11 @@ fn body(
     let Some(actions) = value.as_array() else {
         let words =
             "body must be an array of strings, such as [\"work 5\", \"submit query as rows\", \"get rows\"]";
+        let words = String::from_str(collector.alloc, words);
         return entry.report(collector, WRONG_TYPE, place, words);
     };
     if actions.len() > MAX_ACTIONS {
-        let words = "a body has at most 256 actions";
+        let words = String::from_str(collector.alloc, "a body has at most 256 actions");
         return entry.report(collector, TOO_MANY, place, words);
     }
     for (number, action) in actions.iter().enumerate() {
@@ -262,6 +263,6 @@ fn wrong_element(
     found: &str,
 ) -> Result<(), AllocError> {
     let an = article(found);
-    let words = format!(in collector.alloc; "it is {an} {found}, but must be a string")?;
-    entry.report_action(collector, number, WRONG_TYPE, "..", &words, None)
+    let words = format!(in collector.alloc; "it is {an} {found}, but must be a string");
+    entry.report_action(collector, number, WRONG_TYPE, "..", words, None)
 }
