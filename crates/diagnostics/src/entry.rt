@@ -25,8 +25,8 @@ pub(crate) fn list_of(part: Part) -> &'static str {
     }
 }
 
-/// An entry of one of the plan's lists: a pool, a class or a client kind. `places` has the places
-/// of all entries, keys and values in the plan's text.
+/// An entry of one of the plan's lists: a pool, a class or a client kind. With `Part::Text`, this is
+/// the whole plan. `places` has the places of all entries, keys and values in the plan's text.
 #[derive(Clone, Copy)]
 pub(crate) struct PlacedEntry<'a> {
     pub(crate) part: Part,
@@ -193,4 +193,24 @@ impl<'a> PlacedEntry<'a> {
         let words = words?;
         format!(in alloc; "{kind} {name}, action {action} \"{text}\": {words}")
     }
+}
+
+/// Reports a fault at this key at the top level. If the text does not have the key, the place of
+/// the fault is the beginning of the text. `words` is the message. If it is an error, returns this
+/// error.
+pub(crate) fn report_at(
+    collector: &mut FaultCollector,
+    fault: PlanFault,
+    key: &str,
+    places: &Places<'_>,
+    words: Result<String, AllocError>,
+) -> Result<(), AllocError> {
+    let what = words?;
+    let place = places.top(key).unwrap_or(BEGINNING);
+    collector.push(Diagnostic {
+        fault,
+        place,
+        what,
+        range: None,
+    })
 }

@@ -71,13 +71,13 @@ impl<'a> EntryList<'a> {
     /// Returns the end of a message. The end is a list of the names. If there are none, it says
     /// what to add.
     fn listed(&self, alloc: Global) -> Result<String, AllocError> {
-        let list = list_of(self.part);
         let plural = plural_of(self.part);
         if self.names.is_empty() {
+            let list = list_of(self.part);
             return format!(in alloc; "; the plan has no {plural}: add a [[{list}]] with this name");
         }
-        let all = comma_list(alloc, &self.names)?;
-        format!(in alloc; "; the {plural} are {all}")
+        let start = format!(in alloc; "; the {plural} are")?;
+        comma_list(alloc, &start, &self.names)
     }
 }
 

@@ -24,9 +24,6 @@ pub(crate) fn missing_submit(
     name: &str,
     names: &[&str],
 ) -> Result<String, AllocError> {
-    if has_invalid_submit(body, get, name) {
-        return format!(in alloc; "nothing was submitted as {name}");
-    }
     if let Some(Submit { action, text, .. }) = named_after(body, get, name) {
         return format!(in alloc;
             "{name} is submitted only after this get, by action {action} \"{text}\""
@@ -52,8 +49,9 @@ fn has_invalid_submit(body: &[Value], get: usize, name: &str) -> bool {
     false
 }
 
-/// Returns the end of the message for a get without an earlier submit under its name. The end
-/// states the first of these causes that applies:
+/// Returns the end of the message for a get without an earlier submit under its name. If an earlier
+/// text looks like such a submit, but is not an action, the end is empty. Otherwise the end states
+/// the first of these causes that applies:
 ///
 /// 1. An earlier submit of the class `name` has no `as`.
 /// 2. An earlier submit has a similar name.
@@ -67,6 +65,9 @@ fn likely_cause(
     name: &str,
     names: &[&str],
 ) -> Result<String, AllocError> {
+    if has_invalid_submit(body, get, name) {
+        return Ok(String::new(alloc));
+    }
     let before = unnamed_before(body, get, name);
     if let Some(submit) = before
         && submit.class == name
@@ -96,8 +97,7 @@ fn no_submit_before(
     names: &[&str],
 ) -> Result<String, AllocError> {
     if !names.is_empty() {
-        let all = comma_list(alloc, names)?;
-        return format!(in alloc; "; there are {all}");
+        return comma_list(alloc, "; there are", names);
     }
     match unnamed_after(body, get) {
         Some(

@@ -19,10 +19,12 @@ pub(crate) fn name(
     if !is_valid_name(name) {
         return malformed_name(collector, entry, name);
     }
-    match before.iter().find(|other| other.text("name") == Some(name)) {
-        Some(other) => duplicate_name(collector, entry, other.value_place("name").line),
-        None => Ok(()),
+    for other in before {
+        if other.text("name") == Some(name) {
+            return duplicate_name(collector, entry, other.value_place("name").line);
+        }
     }
+    Ok(())
 }
 
 fn malformed_name(

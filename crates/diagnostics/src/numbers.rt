@@ -120,13 +120,10 @@ pub(crate) fn sizes(
     if out_of_range(collector, pool, &["core", "max", "queue"])? {
         return Ok(());
     }
-    let (Some(core), Some(max)) = (pool.number("core"), pool.number("max")) else {
-        return Ok(());
-    };
-    if max < core {
-        return max_below_core(collector, pool, core, max);
+    match (pool.number("core"), pool.number("max")) {
+        (Some(core), Some(max)) if max < core => max_below_core(collector, pool, core, max),
+        _ => Ok(()),
     }
-    Ok(())
 }
 
 /// Reports a maximum of `unbounded` in a pool with a bounded queue.

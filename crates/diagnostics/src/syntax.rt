@@ -11,6 +11,11 @@ use plan_text::{TextPlace, place_at};
 use std::alloc::{AllocError, Global};
 use support::number::NOT_TOML;
 
+/// The words that other formats have for `true` and `false`.
+const FLAG_WORDS: [&str; 10] = [
+    "yes", "no", "on", "off", "True", "False", "TRUE", "FALSE", "Yes", "No",
+];
+
 /// Returns the fault of a file that is not valid UTF-8. `bytes` is the content of the file, and
 /// `valid` is the number of valid bytes before the first invalid one.
 pub(crate) fn not_text(
@@ -224,13 +229,15 @@ fn bracket_hint(line: &str) -> Option<&'static str> {
 
 fn value_hint(line: &str) -> Option<&'static str> {
     let (key, value) = line.split_once('=')?;
-    match value.trim() {
-        "yes" | "no" | "on" | "off" | "True" | "False" | "TRUE" | "FALSE" | "Yes" | "No" => {
-            Some("write true or false")
-        }
-        "" => Some("a value is missing after ="),
-        value if is_word(value) => word_hint(key.trim()),
-        _ => None,
+    let value = value.trim();
+    if FLAG_WORDS.contains(&value) {
+        Some("write true or false")
+    } else if value.is_empty() {
+        Some("a value is missing after =")
+    } else if is_word(value) {
+        word_hint(key.trim())
+    } else {
+        None
     }
 }
 

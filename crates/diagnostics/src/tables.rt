@@ -1,19 +1,14 @@
 //! The checks of a plan's document: its keys at the top level, its lists, and their entries.
 
 use crate::collector::FaultCollector;
-use crate::diagnostic::Diagnostic;
-use crate::entry::{BEGINNING, PlacedEntry, list_of};
+use crate::entry::{PlacedEntry, list_of, report_at};
 use crate::entry_list::EntryList;
 use crate::hints::article;
-use crate::key_hints::key_hint;
-use crate::letters::letters_of;
-use crate::shapes::{has_key, keys_of};
-use crate::suggestions::suggestion;
 use crate::{bodies, names, numbers, shapes};
 use job_bodies::{Part, PlanFault};
 use plan_text::Places;
-use std::alloc::{AllocError, Global};
-use support::number::{NO_SUCH_POOL, UNKNOWN_KEY, WRONG_TYPE};
+use std::alloc::AllocError;
+use support::number::{NO_SUCH_POOL, WRONG_TYPE};
 use toml::{Table, Value};
 
 /// The lists of a plan.
@@ -30,41 +25,34 @@ pub(crate) fn document(
     document: &Table,
     places: &Places<'_>,
 ) -> Result<(), AllocError> {
-    let is_complete = !unknown_lists(collector, document, places)?;
+    let plan = PlacedEntry {
+        part: Part::Text,
+        index: 0,
+        table: document,
+        places,
+    };
+    check_plan(collector, &plan)
+}
+
+fn check_plan(collector: &mut FaultCollector, plan: &PlacedEntry<'_>) -> Result<(), AllocError> {
+    let is_complete = !shapes::unknown_keys(collector, plan)?;
     let mut lists = Lists {
         pools: EntryList::new(collector.alloc, Part::Pool, is_complete),
         classes: EntryList::new(collector.alloc, Part::Class, is_complete),
         clients: EntryList::new(collector.alloc, Part::Client, is_complete),
     };
-    check_lists(collector, &mut lists, document, places)
+    check_lists(collector, &mut lists, plan)
 }
 
-/// Reports the unknown keys at the top level. Returns whether there are any.
-fn unknown_lists(
-    collector: &mut FaultCollector,
-    document: &Table,
-    places: &Places<'_>,
-) -> Result<bool, AllocError> {
-    let mut any = false;
-    for key in document.keys() {
-        if !has_key(Part::Text, key.as_str()) {
-            any = true;
-            unknown_list(collector, key.as_str(), places)?;
-        }
-    }
-    Ok(any)
-}
-
-/// Adds the entries of the document to the three lists, and reports the faults in the lists.
+/// Adds the entries of the plan to the three lists, and reports the faults in the lists.
 fn check_lists<'a>(
     collector: &mut FaultCollector,
     lists: &mut Lists<'a>,
-    document: &'a Table,
-    places: &'a Places<'a>,
+    plan: &PlacedEntry<'a>,
 ) -> Result<(), AllocError> {
-    push_list(collector, &mut lists.pools, document, places)?;
-    push_list(collector, &mut lists.classes, document, places)?;
-    push_list(collector, &mut lists.clients, document, places)?;
+    push_list(collector, &mut lists.pools, plan)?;
+    push_list(collector, &mut lists.classes, plan)?;
+    push_list(collector, &mut lists.clients, plan)?;
     numbers_and_pools(collector, lists)?;
     all_bodies(collector, lists)
 }
@@ -124,48 +112,7 @@ fn bodies_of(
     Ok(())
 }
 
-fn unknown_list(
-    collector: &mut FaultCollector,
-    key: &str,
-    places: &Places<'_>,
-) -> Result<(), AllocError> {
-    let right = list_suggestion(collector.alloc, key)?;
-    let what = format!(in collector.alloc; "unknown key {key}{right}")?;
-    let fault = PlanFault::at_text(UNKNOWN_KEY);
-    report_at(collector, fault, key, places, what)
-}
-
-/// Reports a fault at this key at the top level. If the text does not have the key, the place of
-/// the fault is the beginning of the text.
-fn report_at(
-    collector: &mut FaultCollector,
-    fault: PlanFault,
-    key: &str,
-    places: &Places<'_>,
-    what: String,
-) -> Result<(), AllocError> {
-    let place = places.top(key).unwrap_or(BEGINNING);
-    collector.push(Diagnostic {
-        fault,
-        place,
-        what,
-        range: None,
-    })
-}
-
-/// Returns the end of the message for an unknown key at the top level.
-fn list_suggestion(alloc: Global, key: &str) -> Result<String, AllocError> {
-    let letters = letters_of(alloc, key)?;
-    match key_hint(Part::Text, &letters) {
-        Some(hint) => String::from_str(alloc, hint),
-        None => {
-            let otherwise = "; a plan has [[pool]], [[class]] and [[client]]";
-            suggestion(alloc, key, keys_of(Part::Text), otherwise)
-        }
-    }
-}
-
-/// Adds those entries of the document's list that are tables. Reports
+/// Adds those entries of the plan's list that are tables. Reports
 ///
 /// - a list that is not an array,
 /// - entries that are not tables, and
@@ -173,17 +120,16 @@ fn list_suggestion(alloc: Global, key: &str) -> Result<String, AllocError> {
 fn push_list<'a>(
     collector: &mut FaultCollector,
     list: &mut EntryList<'a>,
-    document: &'a Table,
-    places: &'a Places<'a>,
+    plan: &PlacedEntry<'a>,
 ) -> Result<(), AllocError> {
-    let Some(value) = document.get(list_of(list.part)) else {
+    let Some(value) = plan.value(list_of(list.part)) else {
         return Ok(());
     };
     match value.as_array() {
-        Some(values) => push_values(collector, list, values, places),
+        Some(values) => push_values(collector, list, values, plan.places),
         None => {
             list.is_complete = false;
-            no_list(collector, list.part, places)
+            no_list(collector, list.part, plan.places)
         }
     }
 }
@@ -217,7 +163,7 @@ fn push_value<'a>(
                 table,
                 places,
             };
-            push_entry(collector, list, entry)
+            push_entry(collector, list, &entry)
         }
         None => {
             list.is_complete = false;
@@ -230,12 +176,12 @@ fn push_value<'a>(
 fn push_entry<'a>(
     collector: &mut FaultCollector,
     list: &mut EntryList<'a>,
-    entry: PlacedEntry<'a>,
+    entry: &PlacedEntry<'a>,
 ) -> Result<(), AllocError> {
-    shapes::unknown_keys(collector, &entry)?;
-    shapes::values(collector, &entry)?;
-    names::name(collector, &entry, &list.entries)?;
-    list.push(entry)
+    shapes::unknown_keys(collector, entry)?;
+    shapes::values(collector, entry)?;
+    names::name(collector, entry, &list.entries)?;
+    list.push(*entry)
 }
 
 /// Reports that the value at the key of this list is not an array.
@@ -247,7 +193,7 @@ fn no_list(
     let list = list_of(part);
     let what = format!(in collector.alloc;
         "write [[{list}]] with two brackets: {list} is an array of tables"
-    )?;
+    );
     let fault = PlanFault::at_text(WRONG_TYPE);
     report_at(collector, fault, list, places, what)
 }
@@ -264,7 +210,7 @@ fn no_table(
     let an = article(found);
     let what = format!(in collector.alloc;
         "{list} must be a table, not {an} {found}: write [[{list}]]"
-    )?;
+    );
     let fault = PlanFault::at_entry(part, index, WRONG_TYPE);
     report_at(collector, fault, list, places, what)
 }
