@@ -43,19 +43,10 @@ struct CheckedAction<'a> {
 }
 
 impl CheckedAction<'_> {
-    fn report(
-        &self,
-        collector: &mut FaultCollector,
-        number: u8,
-        words: Result<String, AllocError>,
-    ) -> Result<(), AllocError> {
-        self.report_with_range(collector, number, words, None)
-    }
-
     /// Reports a fault of this action. `number` is the number of the fault, and `words` is its
     /// message. If `words` is an error, returns this error. `range` is the valid range if the
     /// action has a number that is out of range.
-    fn report_with_range(
+    fn report(
         &self,
         collector: &mut FaultCollector,
         number: u8,
@@ -130,7 +121,7 @@ fn report_bad_action(
 ) -> Result<(), AllocError> {
     let words = action_error(collector.alloc, checked.text);
     let range = range_of_work(checked.text);
-    checked.report_with_range(collector, BAD_ACTION, words, range)
+    checked.report(collector, BAD_ACTION, words, range)
 }
 
 fn check_submit(
@@ -143,7 +134,7 @@ fn check_submit(
         return Ok(());
     }
     let words = classes.unknown(collector.alloc, class);
-    checked.report(collector, NO_SUCH_CLASS, words)
+    checked.report(collector, NO_SUCH_CLASS, words, None)
 }
 
 /// Checks a submit under this name. A name is in use from a submit under the name until the get of
@@ -186,7 +177,7 @@ fn report_in_use(
     let words = format!(in collector.alloc;
         "{name} is still in use by action {submit}: get it first, or use another name"
     );
-    checked.report(collector, SLOT_OPEN, words)
+    checked.report(collector, SLOT_OPEN, words, None)
 }
 
 /// Checks a get of this name. The get is valid if a job was submitted under the name and was not
@@ -233,7 +224,7 @@ fn report_got(
     let words = format!(in collector.alloc;
         "action {action} has already got {name}; a result can be got once"
     );
-    checked.report(collector, SLOT_EMPTY, words)
+    checked.report(collector, SLOT_EMPTY, words, None)
 }
 
 /// Reports a get of a name under which no job was submitted before.
@@ -244,7 +235,7 @@ fn report_missing(
     slots: &[Slot<'_>],
 ) -> Result<(), AllocError> {
     let words = no_such_slot(collector.alloc, checked, name, slots);
-    checked.report(collector, SLOT_EMPTY, words)
+    checked.report(collector, SLOT_EMPTY, words, None)
 }
 
 /// Returns the message for a get of a name under which no job was submitted before.

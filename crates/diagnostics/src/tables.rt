@@ -31,17 +31,13 @@ pub(crate) fn document(
         table: document,
         places,
     };
-    check_plan(collector, &plan)
-}
-
-fn check_plan(collector: &mut FaultCollector, plan: &PlacedEntry<'_>) -> Result<(), AllocError> {
-    let is_complete = !shapes::unknown_keys(collector, plan)?;
+    let is_complete = !shapes::unknown_keys(collector, &plan)?;
     let mut lists = Lists {
         pools: EntryList::new(collector.alloc, Part::Pool, is_complete),
         classes: EntryList::new(collector.alloc, Part::Class, is_complete),
         clients: EntryList::new(collector.alloc, Part::Client, is_complete),
     };
-    check_lists(collector, &mut lists, plan)
+    check_lists(collector, &mut lists, &plan)
 }
 
 /// Adds the entries of the plan to the three lists, and reports the faults in the lists.
@@ -59,40 +55,36 @@ fn check_lists<'a>(
 
 /// Reports invalid sizes and counts, and classes whose pool does not exist.
 fn numbers_and_pools(collector: &mut FaultCollector, lists: &Lists<'_>) -> Result<(), AllocError> {
-    sizes_of_pools(collector, &lists.pools.entries)?;
-    pools_of_classes(collector, &lists.classes.entries, &lists.pools)?;
-    counts_of_clients(collector, &lists.clients.entries)
+    let pools = &lists.pools;
+    numbers_or_pools(collector, &pools.entries, pools)?;
+    numbers_or_pools(collector, &lists.classes.entries, pools)?;
+    numbers_or_pools(collector, &lists.clients.entries, pools)
 }
 
-fn sizes_of_pools(
+fn numbers_or_pools(
     collector: &mut FaultCollector,
-    pools: &[PlacedEntry<'_>],
-) -> Result<(), AllocError> {
-    for pool in pools {
-        numbers::sizes(collector, pool)?;
-    }
-    Ok(())
-}
-
-fn pools_of_classes(
-    collector: &mut FaultCollector,
-    classes: &[PlacedEntry<'_>],
+    entries: &[PlacedEntry<'_>],
     pools: &EntryList<'_>,
 ) -> Result<(), AllocError> {
-    for class in classes {
-        pool_of(collector, class, pools)?;
+    for entry in entries {
+        number_or_pool(collector, entry, pools)?;
     }
     Ok(())
 }
 
-fn counts_of_clients(
+/// Reports the invalid sizes of a pool, a class whose pool does not exist, or the invalid count of a
+/// client kind. `pools` has the plan's pools.
+fn number_or_pool(
     collector: &mut FaultCollector,
-    clients: &[PlacedEntry<'_>],
+    entry: &PlacedEntry<'_>,
+    pools: &EntryList<'_>,
 ) -> Result<(), AllocError> {
-    for client in clients {
-        numbers::count(collector, client)?;
+    match entry.part {
+        Part::Pool => numbers::sizes(collector, entry),
+        Part::Class => pool_of(collector, entry, pools),
+        Part::Client => numbers::count(collector, entry),
+        Part::Text => Ok(()),
     }
-    Ok(())
 }
 
 /// Reports the faults of the bodies of classes and client kinds.
