@@ -64,8 +64,7 @@ impl<'a> EntryList<'a> {
         if !self.is_complete {
             return String::from_str(alloc, "");
         }
-        let otherwise = self.listed(alloc)?;
-        suggestion(alloc, name, &self.names, &otherwise)
+        suggestion(alloc, name, &self.names, self.listed(alloc))
     }
 
     /// Returns the end of a message. The end is a list of the names. If there are none, it says

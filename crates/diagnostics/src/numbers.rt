@@ -120,10 +120,13 @@ pub(crate) fn sizes(
     if out_of_range(collector, pool, &["core", "max", "queue"])? {
         return Ok(());
     }
-    match (pool.number("core"), pool.number("max")) {
-        (Some(core), Some(max)) if max < core => max_below_core(collector, pool, core, max),
-        _ => Ok(()),
+    if let Some(core) = pool.number("core")
+        && let Some(max) = pool.number("max")
+        && max < core
+    {
+        return max_below_core(collector, pool, core, max);
     }
+    Ok(())
 }
 
 /// Reports a maximum of `unbounded` in a pool with a bounded queue.

@@ -136,13 +136,8 @@ fn key_suggestion(alloc: Global, part: Part, key: &str) -> Result<String, AllocE
     let letters = letters_of(alloc, key)?;
     match key_hint(part, &letters) {
         Some(hint) => String::from_str(alloc, hint),
-        None => similar_key(alloc, part, key),
+        None => suggestion(alloc, key, keys_of(part), all_keys(alloc, part)),
     }
-}
-
-fn similar_key(alloc: Global, part: Part, key: &str) -> Result<String, AllocError> {
-    let otherwise = all_keys(alloc, part)?;
-    suggestion(alloc, key, keys_of(part), &otherwise)
 }
 
 /// Returns the end of a message that lists the keys of an entry of this kind.

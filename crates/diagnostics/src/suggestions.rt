@@ -46,11 +46,11 @@ pub(crate) fn suggestion(
     alloc: Global,
     written: &str,
     words: &[&str],
-    otherwise: &str,
+    otherwise: Result<String, AllocError>,
 ) -> Result<String, AllocError> {
     match nearest(alloc, written, words)? {
         Some(word) => format!(in alloc; "; did you mean {word}?"),
-        None => String::from_str(alloc, otherwise),
+        None => otherwise,
     }
 }
 
