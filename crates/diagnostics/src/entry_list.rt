@@ -29,6 +29,7 @@ impl<'a> EntryList<'a> {
         }
     }
 
+    /// Appends an entry, and its name if it has one.
     pub(crate) fn push(&mut self, entry: PlacedEntry<'a>) -> Result<(), AllocError> {
         self.entries.push(entry)?;
         match entry.text("name") {

@@ -24,6 +24,9 @@ pub(crate) fn missing_submit(
     name: &str,
     names: &[&str],
 ) -> Result<String, AllocError> {
+    if has_invalid_submit(body, get, name) {
+        return format!(in alloc; "nothing was submitted as {name}");
+    }
     if let Some(Submit { action, text, .. }) = named_after(body, get, name) {
         return format!(in alloc;
             "{name} is submitted only after this get, by action {action} \"{text}\""
@@ -49,9 +52,8 @@ fn has_invalid_submit(body: &[Value], get: usize, name: &str) -> bool {
     false
 }
 
-/// Returns the end of the message for a get without an earlier submit under its name. If an earlier
-/// text looks like such a submit, but is not an action, the end is empty. Otherwise the end states
-/// the first of these causes that applies:
+/// Returns the end of the message for a get without an earlier submit under its name. The end
+/// states the first of these causes that applies:
 ///
 /// 1. An earlier submit of the class `name` has no `as`.
 /// 2. An earlier submit has a similar name.
@@ -65,9 +67,6 @@ fn likely_cause(
     name: &str,
     names: &[&str],
 ) -> Result<String, AllocError> {
-    if has_invalid_submit(body, get, name) {
-        return Ok(String::new(alloc));
-    }
     let before = unnamed_before(body, get, name);
     if let Some(submit) = before
         && submit.class == name

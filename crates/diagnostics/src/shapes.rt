@@ -47,6 +47,7 @@ fn keys_of(part: Part) -> &'static [&'static str] {
     }
 }
 
+/// Returns the type that the value of this key must have. The key must be one of [`keys_of`].
 fn wanted_of(key: &str) -> ValueKind {
     match key {
         "name" | "pool" => ValueKind::Text,
@@ -57,7 +58,7 @@ fn wanted_of(key: &str) -> ValueKind {
     }
 }
 
-/// Returns the hint that is shown if the key is missing. If the key is optional, the hint is empty.
+/// Returns the hint that is shown if this key is missing. If the key is optional, the hint is empty.
 fn missing_hint(key: &str) -> &'static str {
     match key {
         "name" => "write name = \"..\"",
