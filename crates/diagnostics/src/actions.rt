@@ -238,6 +238,7 @@ fn wait_form(alloc: Global, slot: &str) -> Result<String, AllocError> {
 
 fn unknown_verb(alloc: Global, verb: &str) -> Result<String, AllocError> {
     let forms = ": an action is work N, submit CLASS, submit CLASS as NAME, or get NAME";
+    let forms = String::from_str(alloc, forms);
     let right = suggestion(alloc, verb, &["work", "submit", "get"], forms)?;
     format!(in alloc; "unknown action {verb}{right}")
 }

@@ -5,7 +5,7 @@ use crate::actions::{ParsedAction, action_error, parse_action, range_of_work};
 use crate::collector::FaultCollector;
 use crate::diagnostic::NumberRange;
 use crate::entry::PlacedEntry;
-use crate::list_names::ListNames;
+use crate::entry_list::EntryList;
 use crate::missing_submits::missing_submit;
 use std::alloc::{AllocError, Global};
 use support::number::{BAD_ACTION, NO_SUCH_CLASS, SLOT_EMPTY, SLOT_OPEN};
@@ -43,22 +43,14 @@ struct CheckedAction<'a> {
 }
 
 impl CheckedAction<'_> {
+    /// Reports a fault of this action. `number` is the number of the fault, and `words` is its
+    /// message. If `words` is an error, returns this error. `range` is the valid range if the
+    /// action has a number that is out of range.
     fn report(
         &self,
         collector: &mut FaultCollector,
         number: u8,
-        words: &str,
-    ) -> Result<(), AllocError> {
-        self.report_with_range(collector, number, words, None)
-    }
-
-    /// Reports a fault of this action. `number` is the number of the fault, and `words` is its
-    /// message. `range` is the valid range if the action has a number that is out of range.
-    fn report_with_range(
-        &self,
-        collector: &mut FaultCollector,
-        number: u8,
-        words: &str,
+        words: Result<String, AllocError>,
         range: Option<NumberRange>,
     ) -> Result<(), AllocError> {
         self.entry
@@ -71,7 +63,7 @@ impl CheckedAction<'_> {
 pub(crate) fn body(
     collector: &mut FaultCollector,
     entry: &PlacedEntry<'_>,
-    classes: &ListNames<'_>,
+    classes: &EntryList<'_>,
 ) -> Result<(), AllocError> {
     let Some(value) = entry.value("body") else {
         return Ok(());
@@ -87,7 +79,7 @@ fn check_actions<'a>(
     collector: &mut FaultCollector,
     entry: &'a PlacedEntry<'a>,
     actions: &'a [Value],
-    classes: &ListNames<'_>,
+    classes: &EntryList<'_>,
     slots: &mut Vec<Slot<'a>>,
 ) -> Result<(), AllocError> {
     for (action, value) in actions.iter().enumerate() {
@@ -107,7 +99,7 @@ fn check_actions<'a>(
 fn check_action<'a>(
     collector: &mut FaultCollector,
     checked: CheckedAction<'a>,
-    classes: &ListNames<'_>,
+    classes: &EntryList<'_>,
     slots: &mut Vec<Slot<'a>>,
 ) -> Result<(), AllocError> {
     match parse_action(checked.text) {
@@ -127,22 +119,22 @@ fn report_bad_action(
     collector: &mut FaultCollector,
     checked: CheckedAction<'_>,
 ) -> Result<(), AllocError> {
-    let words = action_error(collector.alloc, checked.text)?;
+    let words = action_error(collector.alloc, checked.text);
     let range = range_of_work(checked.text);
-    checked.report_with_range(collector, BAD_ACTION, &words, range)
+    checked.report(collector, BAD_ACTION, words, range)
 }
 
 fn check_submit(
     collector: &mut FaultCollector,
     checked: CheckedAction<'_>,
     class: &str,
-    classes: &ListNames<'_>,
+    classes: &EntryList<'_>,
 ) -> Result<(), AllocError> {
     if classes.contains(class) {
         return Ok(());
     }
-    let words = classes.unknown(collector.alloc, class)?;
-    checked.report(collector, NO_SUCH_CLASS, &words)
+    let words = classes.unknown(collector.alloc, class);
+    checked.report(collector, NO_SUCH_CLASS, words, None)
 }
 
 /// Checks a submit under this name. A name is in use from a submit under the name until the get of
@@ -184,8 +176,8 @@ fn report_in_use(
 ) -> Result<(), AllocError> {
     let words = format!(in collector.alloc;
         "{name} is still in use by action {submit}: get it first, or use another name"
-    )?;
-    checked.report(collector, SLOT_OPEN, &words)
+    );
+    checked.report(collector, SLOT_OPEN, words, None)
 }
 
 /// Checks a get of this name. The get is valid if a job was submitted under the name and was not
@@ -231,8 +223,8 @@ fn report_got(
 ) -> Result<(), AllocError> {
     let words = format!(in collector.alloc;
         "action {action} has already got {name}; a result can be got once"
-    )?;
-    checked.report(collector, SLOT_EMPTY, &words)
+    );
+    checked.report(collector, SLOT_EMPTY, words, None)
 }
 
 /// Reports a get of a name under which no job was submitted before.
@@ -242,8 +234,8 @@ fn report_missing(
     name: &str,
     slots: &[Slot<'_>],
 ) -> Result<(), AllocError> {
-    let words = no_such_slot(collector.alloc, checked, name, slots)?;
-    checked.report(collector, SLOT_EMPTY, &words)
+    let words = no_such_slot(collector.alloc, checked, name, slots);
+    checked.report(collector, SLOT_EMPTY, words, None)
 }
 
 /// Returns the message for a get of a name under which no job was submitted before.

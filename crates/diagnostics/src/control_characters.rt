@@ -18,7 +18,7 @@ pub fn one_line(alloc: Global, text: &str) -> Result<String, AllocError>
     ensures exact { IfOk result (λ line. string_bytes line ≡ spec.one_line text.now) }
     ensures single { IfOk result (λ line. spec.HasNoNewline (string_bytes line)) }
 {
-    let mut line = String::with_capacity(alloc, text.len())?;
+    let mut line = String::new(alloc);
     push_text(&mut line, text)?;
     Ok(line)
 }

@@ -4,7 +4,7 @@ use crate::collector::FaultCollector;
 use crate::diagnostic::{Diagnostic, NumberRange};
 use job_bodies::{Part, PlanFault};
 use plan_text::{Places, TextPlace};
-use std::alloc::AllocError;
+use std::alloc::{AllocError, Global};
 use toml::{Table, Value};
 
 /// The beginning of a text.
@@ -25,8 +25,8 @@ pub(crate) fn list_of(part: Part) -> &'static str {
     }
 }
 
-/// An entry of one of the plan's lists: a pool, a class or a client kind. `places` has the places
-/// of all entries, keys and values in the plan's text.
+/// An entry of one of the plan's lists: a pool, a class or a client kind. With `Part::Text`, this is
+/// the whole plan. `places` has the places of all entries, keys and values in the plan's text.
 #[derive(Clone, Copy)]
 pub(crate) struct PlacedEntry<'a> {
     pub(crate) part: Part,
@@ -112,31 +112,30 @@ impl<'a> PlacedEntry<'a> {
 
     /// Reports a fault of the entry. `number` is the number of the fault, and `place` is the place
     /// of the fault. The message begins with the kind and name of the entry, as in `pool db: `, and
-    /// continues with `words`.
+    /// continues with `words`. If `words` is an error, returns this error.
     pub(crate) fn report(
         &self,
         collector: &mut FaultCollector,
         number: u8,
         place: TextPlace,
-        words: &str,
+        words: Result<String, AllocError>,
     ) -> Result<(), AllocError> {
         self.report_with_range(collector, number, place, words, None)
     }
 
     /// Reports a fault of the entry. `number` is the number of the fault, and `place` is the place
     /// of the fault. The message begins with the kind and name of the entry, as in `pool db: `, and
-    /// continues with `words`. `range` is the valid range if the fault is a number that is out of
-    /// range.
+    /// continues with `words`. If `words` is an error, returns this error. `range` is the valid
+    /// range if the fault is a number that is out of range.
     pub(crate) fn report_with_range(
         &self,
         collector: &mut FaultCollector,
         number: u8,
         place: TextPlace,
-        words: &str,
+        words: Result<String, AllocError>,
         range: Option<NumberRange>,
     ) -> Result<(), AllocError> {
-        let (kind, name) = self.kind_and_name();
-        let what = format!(in collector.alloc; "{kind} {name}: {words}")?;
+        let what = self.with_name(collector.alloc, words)?;
         let fault = PlanFault::at_entry(self.part, self.index, number);
         collector.push(Diagnostic {
             fault,
@@ -146,23 +145,32 @@ impl<'a> PlacedEntry<'a> {
         })
     }
 
+    /// Returns `words` after the kind and name of the entry, as in `pool db: `.
+    fn with_name(
+        &self,
+        alloc: Global,
+        words: Result<String, AllocError>,
+    ) -> Result<String, AllocError> {
+        let (kind, name) = self.kind_and_name();
+        let words = words?;
+        format!(in alloc; "{kind} {name}: {words}")
+    }
+
     /// Reports a fault of the action with the index `action`. `number` is the number of the fault,
     /// and `text` is the text of the action. The message begins, for example, with
-    /// `class page, action 1 "get row": `, and continues with `words`. `range` is the valid range
-    /// if the fault is a number that is out of range.
+    /// `class page, action 1 "get row": `, and continues with `words`. If `words` is an error,
+    /// returns this error. `range` is the valid range if the fault is a number that is out of
+    /// range.
     pub(crate) fn report_action(
         &self,
         collector: &mut FaultCollector,
         action: usize,
         number: u8,
         text: &str,
-        words: &str,
+        words: Result<String, AllocError>,
         range: Option<NumberRange>,
     ) -> Result<(), AllocError> {
-        let (kind, name) = self.kind_and_name();
-        let what = format!(in collector.alloc;
-            "{kind} {name}, action {action} \"{text}\": {words}"
-        )?;
+        let what = self.with_action(collector.alloc, action, text, words)?;
         let fault = PlanFault::at_action(self.part, self.index, action, number);
         collector.push(Diagnostic {
             fault,
@@ -171,4 +179,38 @@ impl<'a> PlacedEntry<'a> {
             range,
         })
     }
+
+    /// Returns `words` after the kind and name of the entry, and the index and text of an action,
+    /// as in `class page, action 1 "get row": `.
+    fn with_action(
+        &self,
+        alloc: Global,
+        action: usize,
+        text: &str,
+        words: Result<String, AllocError>,
+    ) -> Result<String, AllocError> {
+        let (kind, name) = self.kind_and_name();
+        let words = words?;
+        format!(in alloc; "{kind} {name}, action {action} \"{text}\": {words}")
+    }
+}
+
+/// Reports a fault at this key at the top level. If the text does not have the key, the place of
+/// the fault is the beginning of the text. `words` is the message. If it is an error, returns this
+/// error.
+pub(crate) fn report_at(
+    collector: &mut FaultCollector,
+    fault: PlanFault,
+    key: &str,
+    places: &Places<'_>,
+    words: Result<String, AllocError>,
+) -> Result<(), AllocError> {
+    let what = words?;
+    let place = places.top(key).unwrap_or(BEGINNING);
+    collector.push(Diagnostic {
+        fault,
+        place,
+        what,
+        range: None,
+    })
 }

@@ -67,7 +67,7 @@ fn pool_places(
     ensures { IfOk result (λ found. length found.items ≡ length plan.now.pools) }
 {
     let list = list_of(Part::Pool);
-    let mut found = Vec::with_capacity(alloc, plan.pools().len())?;
+    let mut found = Vec::new(alloc);
     for index in 0..plan.pools().len() {
         found.push(PoolPlaces {
             name: places.value(list, index, "name"),
@@ -88,7 +88,7 @@ fn class_places(
     ensures { IfOk result
         (λ found. spec.action_counts found.items ≡ spec.class_lengths plan.now.classes) }
 {
-    let mut found = Vec::with_capacity(alloc, plan.classes().len())?;
+    let mut found = Vec::new(alloc);
     for (index, class) in plan.classes().iter().enumerate() {
         found.push(body_places(alloc, places, Part::Class, index, &class.body)?)?;
     }
@@ -103,7 +103,7 @@ fn client_places(
     ensures { IfOk result
         (λ found. spec.action_counts found.items ≡ spec.client_lengths plan.now.clients) }
 {
-    let mut found = Vec::with_capacity(alloc, plan.clients().len())?;
+    let mut found = Vec::new(alloc);
     for (index, client) in plan.clients().iter().enumerate() {
         found.push(body_places(alloc, places, Part::Client, index, &client.body)?)?;
     }
@@ -120,7 +120,7 @@ fn body_places(
     ensures { IfOk result (λ places. length places.actions.items ≡ length body.now) }
 {
     let list = list_of(part);
-    let mut actions = Vec::with_capacity(alloc, body.len())?;
+    let mut actions = Vec::new(alloc);
     for action in 0..body.len() {
         actions.push(places.element(list, index, "body", action))?;
     }

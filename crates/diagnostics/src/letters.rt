@@ -12,7 +12,7 @@ use std::alloc::{AllocError, Global};
 pub(crate) fn letters_of(alloc: Global, text: &str) -> Result<String, AllocError>
     ensures { IfOk result (λ letters. string_bytes letters ≡ spec.letters_of text.now) }
 {
-    let mut letters = String::with_capacity(alloc, text.len())?;
+    let mut letters = String::new(alloc);
     push_letters(&mut letters, text)?;
     Ok(letters)
 }

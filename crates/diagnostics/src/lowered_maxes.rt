@@ -62,7 +62,7 @@ fn pools_at_core(alloc: Global, plan: &Plan) -> Result<Vec<Pool>, AllocError>
     ensures pools { IfOk result (λ pools. pools.items ≡ map spec.with_max_at_core plan.now.pools) }
     ensures well_formed { IsWellFormed plan.now }
 {
-    let mut pools = Vec::with_capacity(alloc, plan.pools().len())?;
+    let mut pools = Vec::new(alloc);
     for pool in plan.pools() {
         pools.push(pool_at_core(alloc, pool)?)?;
     }

@@ -96,8 +96,7 @@ fn no_submit_before(
     names: &[&str],
 ) -> Result<String, AllocError> {
     if !names.is_empty() {
-        let all = comma_list(alloc, names)?;
-        return format!(in alloc; "; there are {all}");
+        return comma_list(alloc, "; there are", names);
     }
     match unnamed_after(body, get) {
         Some(

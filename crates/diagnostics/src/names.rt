@@ -19,10 +19,12 @@ pub(crate) fn name(
     if !is_valid_name(name) {
         return malformed_name(collector, entry, name);
     }
-    match before.iter().find(|other| other.text("name") == Some(name)) {
-        Some(other) => duplicate_name(collector, entry, other.value_place("name").line),
-        None => Ok(()),
+    for other in before {
+        if other.text("name") == Some(name) {
+            return duplicate_name(collector, entry, other.value_place("name").line);
+        }
     }
+    Ok(())
 }
 
 fn malformed_name(
@@ -30,8 +32,8 @@ fn malformed_name(
     entry: &PlacedEntry<'_>,
     name: &str,
 ) -> Result<(), AllocError> {
-    let rule = name_rule(collector.alloc, name)?;
-    entry.report(collector, BAD_NAME, entry.value_place("name"), &rule)
+    let rule = name_rule(collector.alloc, name);
+    entry.report(collector, BAD_NAME, entry.value_place("name"), rule)
 }
 
 /// Reports that an earlier entry of the same list has the same name. `line` is the line of the
@@ -42,8 +44,8 @@ fn duplicate_name(
     line: usize,
 ) -> Result<(), AllocError> {
     let list = list_of(entry.part);
-    let words = format!(in collector.alloc; "line {line} has a {list} with this name")?;
-    entry.report(collector, DOUBLE_NAME, entry.value_place("name"), &words)
+    let words = format!(in collector.alloc; "line {line} has a {list} with this name");
+    entry.report(collector, DOUBLE_NAME, entry.value_place("name"), words)
 }
 
 /// Returns the message for a malformed name. The message states the rule for names. If

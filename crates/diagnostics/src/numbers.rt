@@ -55,18 +55,18 @@ fn report_number(
     let low = low_end(entry, key);
     let words = format!(in collector.alloc;
         "{key} is {number}, but must be from {low} to {MOST}{hint}"
-    )?;
-    report_range(collector, entry, key, low, &words)
+    );
+    report_range(collector, entry, key, low, words)
 }
 
 /// Reports the number at the key, with the range of valid numbers. `low` is the low end of the
-/// range.
+/// range, and `words` is the message. If `words` is an error, returns this error.
 fn report_range(
     collector: &mut FaultCollector,
     entry: &PlacedEntry<'_>,
     key: &str,
     low: u64,
-    words: &str,
+    words: Result<String, AllocError>,
 ) -> Result<(), AllocError> {
     let range = NumberRange {
         low,
@@ -120,10 +120,10 @@ pub(crate) fn sizes(
     if out_of_range(collector, pool, &["core", "max", "queue"])? {
         return Ok(());
     }
-    let (Some(core), Some(max)) = (pool.number("core"), pool.number("max")) else {
-        return Ok(());
-    };
-    if max < core {
+    if let Some(core) = pool.number("core")
+        && let Some(max) = pool.number("max")
+        && max < core
+    {
         return max_below_core(collector, pool, core, max);
     }
     Ok(())
@@ -135,8 +135,8 @@ fn unbounded_max(collector: &mut FaultCollector, pool: &PlacedEntry<'_>) -> Resu
     let hint = unbounded_max_hint();
     let words = format!(in collector.alloc;
         "max is \"unbounded\", but must be from {low} to {MOST}{hint}"
-    )?;
-    report_range(collector, pool, "max", low, &words)
+    );
+    report_range(collector, pool, "max", low, words)
 }
 
 /// Returns the least valid maximum of the pool. This is its core size, or 1 if the pool has no
@@ -157,8 +157,8 @@ fn max_below_core(
     let hint = max_hint(pool.is_unbounded("queue"));
     let words = format!(in collector.alloc;
         "max {max} is less than core {core}, but must be from {core} to {MOST}{hint}"
-    )?;
-    report_range(collector, pool, "max", core.unsigned_abs(), &words)
+    );
+    report_range(collector, pool, "max", core.unsigned_abs(), words)
 }
 
 /// Reports the count of a client kind if it is out of range.

@@ -62,7 +62,7 @@ fn in_single_lines(alloc: Global, found: &[Diagnostic]) -> Result<Vec<Diagnostic
     ensures single_lines { IfOk result (λ others. All HasSingleLine others.items) }
     ensures each { IfOk result (λ others. length others.items ≡ length found.now) }
 {
-    let mut others = Vec::with_capacity(alloc, found.len())?;
+    let mut others = Vec::new(alloc);
     for one in found {
         let line = in_single_line(alloc, one.fault, one.place, &one.what, one.range)?;
         others.push(line)?;

@@ -46,19 +46,22 @@ pub(crate) fn suggestion(
     alloc: Global,
     written: &str,
     words: &[&str],
-    otherwise: &str,
+    otherwise: Result<String, AllocError>,
 ) -> Result<String, AllocError> {
     match nearest(alloc, written, words)? {
         Some(word) => format!(in alloc; "; did you mean {word}?"),
-        None => String::from_str(alloc, otherwise),
+        None => otherwise,
     }
 }
 
-/// Returns the first 12 words, separated by commas. If there are more than 12, `, ..` follows.
-pub(crate) fn comma_list(alloc: Global, words: &[&str]) -> Result<String, AllocError> {
-    if words.len() <= MAX_LISTED {
-        return words.join(alloc, ", ");
-    }
-    let first = words[..MAX_LISTED].join(alloc, ", ")?;
-    format!(in alloc; "{first}, ..")
+/// Returns `start`, a space, and the first 12 words, separated by commas. If there are more than 12
+/// words, `, ..` follows.
+pub(crate) fn comma_list(alloc: Global, start: &str, words: &[&str]) -> Result<String, AllocError> {
+    let (shown, end) = if words.len() <= MAX_LISTED {
+        (words, "")
+    } else {
+        (&words[..MAX_LISTED], ", ..")
+    };
+    let all = shown.join(alloc, ", ")?;
+    format!(in alloc; "{start} {all}{end}")
 }

@@ -11,6 +11,11 @@ use plan_text::{TextPlace, place_at};
 use std::alloc::{AllocError, Global};
 use support::number::NOT_TOML;
 
+/// The words that other formats have for `true` and `false`.
+const FLAG_WORDS: [&str; 10] = [
+    "yes", "no", "on", "off", "True", "False", "TRUE", "FALSE", "Yes", "No",
+];
+
 /// Returns the fault of a file that is not valid UTF-8. `bytes` is the content of the file, and
 /// `valid` is the number of valid bytes before the first invalid one.
 pub(crate) fn not_text(
@@ -67,7 +72,8 @@ fn message_at(
     if let Some(start) = unclosed_list(text, place.line) {
         return format!(in alloc; "the list that begins at line {start} has no ] ({words})");
     }
-    if let Some(key) = duplicate_key(line, words)
+    if words == "duplicate key"
+        && let Some(key) = key_of(line)
         && let Some(earlier) = earlier_line(text, key, place.line)
     {
         return format!(in alloc; "the same entry has the key {key} in line {earlier} ({words})");
@@ -75,16 +81,6 @@ fn message_at(
     match value_hint_at(text, offset, place, line) {
         Some(hint) => with_hint(alloc, hint, words),
         None => String::from_str(alloc, words),
-    }
-}
-
-/// Returns the key that this line defines, if the parser's message `words` says that the key is a
-/// duplicate. Otherwise returns `None`.
-fn duplicate_key<'a>(line: &'a str, words: &str) -> Option<&'a str> {
-    if words == "duplicate key" {
-        key_of(line)
-    } else {
-        None
     }
 }
 
@@ -150,7 +146,7 @@ fn begins_with_action(rest: &str) -> bool {
 /// There is a hint if `rest` is a semicolon, alone or before a comment.
 fn end_hint(rest: &str) -> Option<&'static str> {
     let after = rest.strip_prefix(';')?;
-    if after.split('#').next().unwrap_or("").trim().is_empty() {
+    if without_comment(after).is_empty() {
         Some("write no ; at the end of a line")
     } else {
         None
@@ -211,7 +207,7 @@ fn entry_hint(line: &str) -> Option<&'static str> {
 /// to write two pairs of brackets. For `[[pool]]`, it says that an earlier line defines `pool` in
 /// another way, such as `[pool]`.
 fn bracket_hint(line: &str) -> Option<&'static str> {
-    match line.split('#').next().unwrap_or("").trim() {
+    match without_comment(line) {
         "[pool]" | "[class]" | "[client]" => {
             Some("write two brackets, as in [[pool]]: a plan can have several")
         }
@@ -224,13 +220,15 @@ fn bracket_hint(line: &str) -> Option<&'static str> {
 
 fn value_hint(line: &str) -> Option<&'static str> {
     let (key, value) = line.split_once('=')?;
-    match value.trim() {
-        "yes" | "no" | "on" | "off" | "True" | "False" | "TRUE" | "FALSE" | "Yes" | "No" => {
-            Some("write true or false")
-        }
-        "" => Some("a value is missing after ="),
-        value if is_word(value) => word_hint(key.trim()),
-        _ => None,
+    let value = value.trim();
+    if FLAG_WORDS.contains(&value) {
+        Some("write true or false")
+    } else if value.is_empty() {
+        Some("a value is missing after =")
+    } else if is_word(value) {
+        word_hint(key.trim())
+    } else {
+        None
     }
 }
 
@@ -238,11 +236,16 @@ fn value_hint(line: &str) -> Option<&'static str> {
 /// `5 threads`: it has only ASCII letters, digits, spaces and the characters `_-.()<>`, has at least
 /// one letter, and is not `true` or `false`. Ignores a comment after the value.
 fn is_word(value: &str) -> bool {
-    let words = value.split('#').next().unwrap_or("").trim();
+    let words = without_comment(value);
     words.bytes().any(|byte| byte.is_ascii_alphabetic())
         && words.bytes().all(|byte| byte.is_ascii_alphanumeric() || is_between_words(byte))
         && words != "true"
         && words != "false"
+}
+
+/// Returns the text before a comment, without spaces at its start and end.
+fn without_comment(text: &str) -> &str {
+    text.split('#').next().unwrap_or("").trim()
 }
 
 fn is_between_words(byte: u8) -> bool {

@@ -14,9 +14,6 @@ pub(crate) fn place_of(places: &Places<'_>, plan: &Plan, lint: Lint) -> TextPlac
             BEGINNING,
         Lint::SafeAtCore => first_max_place(places, plan),
         Lint::SubmitsItself(class) => value_place(places, Part::Class, class, "name"),
-        Lint::NeverGot(part, number, action) | Lint::QueueMayGrow(part, number, action) => {
-            action_place(places, part, number, action)
-        }
         Lint::PoolWaitsForItself(pool) => value_place(places, Part::Pool, pool, "core_timeout"),
         Lint::PoolWithoutJobs(pool) => entry_place(places, Part::Pool, pool),
         Lint::UselessMax(pool) => value_place(places, Part::Pool, pool, "max"),
@@ -28,9 +25,10 @@ pub(crate) fn place_of(places: &Places<'_>, plan: &Plan, lint: Lint) -> TextPlac
         Lint::RunInCaller(class) => value_place(places, Part::Class, class, "body"),
         Lint::GoesOnce(client) => entry_place(places, Part::Client, client),
         Lint::Crowd(client) => value_place(places, Part::Client, client, "count"),
-        Lint::WorkLikeASize(part, number, action, _) | Lint::OpenFuture(part, number, action) => {
-            action_place(places, part, number, action)
-        }
+        Lint::NeverGot(part, number, action)
+        | Lint::WorkLikeASize(part, number, action, _)
+        | Lint::OpenFuture(part, number, action)
+        | Lint::QueueMayGrow(part, number, action) => action_place(places, part, number, action),
     }
 }
 

@@ -73,13 +73,13 @@ fn words_of_core(alloc: Global, plan: &Plan) -> Result<String, AllocError> {
     let noun = if count == 1 { "pool" } else { "pools" };
     let mut words = format!(in alloc; "with max = core in {noun} ")?;
     push_maxes(&mut words, plan, count)?;
-    words.push_str(", this plan is SAFE")?;
     Ok(words)
 }
 
 /// Appends the name and the maximum of each pool that starts threads above its core size when its
 /// queue is full, and only then (see [`grows_if_full`]). [`at_core`](crate::at_core) lowers the
-/// maximums of these pools to their core sizes. `count` is the number of these pools.
+/// maximums of these pools to their core sizes. `count` is the number of these pools. Then appends
+/// that the plan is SAFE.
 fn push_maxes(words: &mut String, plan: &Plan, count: usize) -> Result<(), AllocError> {
     let mut number = 0usize;
     for pool in plan.pools() {
@@ -88,7 +88,7 @@ fn push_maxes(words: &mut String, plan: &Plan, count: usize) -> Result<(), Alloc
             push_max(words, number, count, pool)?;
         }
     }
-    Ok(())
+    words.push_str(", this plan is SAFE")
 }
 
 fn push_max(
