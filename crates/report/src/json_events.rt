@@ -22,7 +22,7 @@ use crate::event_steps::{Actor, EventStep, PoolCounts};
 use crate::json_event_parts::{actor_place, actor_value, job_of, outcome_word};
 use crate::json_object::Object;
 use crate::json_places::{column_value, line_value};
-use crate::json_values::optional_number;
+use crate::json_values::{optional_number, push_value};
 use diagnostics::PlanPlaces;
 use interleaving::Outcome;
 use job_bodies::Plan;
@@ -157,9 +157,7 @@ fn push_run(
     ensures { OnOk result (map view values.new.items
         ≡ map view values.old.items ++ spec.run_data plan.now places.now (shown.run_of run steps.now) ∷ []) }
 {
-    let value = run_value(alloc, plan, places, run, steps)?;
-    values.push(value)?;
-    Ok(())
+    push_value(values, run_value(alloc, plan, places, run, steps))
 }
 
 #[tactic(auto, unfolding(crate::specs::JsonEvents::event_data))]
