@@ -53,8 +53,7 @@ fn pools_value(
 {
     let mut values = Vec::with_capacity(alloc, fitted.len())?;
     for (number, fit) in fitted.iter().enumerate() {
-        let value = size_entry(alloc, places, plan, number, fit)?;
-        values.push(value)?;
+        push_value(&mut values, size_entry(alloc, places, plan, number, fit))?;
     }
     Ok(Value::from(values))
 }
