@@ -115,7 +115,6 @@ fn faulty_line(
 /// Creates the JSON object of the answer `FAULTS`. `faults` is the list of reported faults.
 /// `omitted` is the number of faults that are not in this list. `file` is the name of the plan's
 /// file, and `text` is the content of this file.
-#[tactic(auto, unfolding(crate::specs::Json::answer_data))]
 fn faulty_value(
     alloc: Global,
     file: &str,

@@ -73,15 +73,11 @@ fn push_runs(
         times: 1,
         last: steps[0],
     };
-    let mut index = 1;
-    while index < steps.len() {
+    for index in 1..steps.len() {
         let next = steps[index];
         if follows(run, next) {
-            run = OpenRun {
-                first: run.first,
-                times: run.times + 1,
-                last: next,
-            };
+            run.times += 1;
+            run.last = next;
         } else {
             push_run(values, alloc, plan, places, run, &steps[..index])?;
             run = OpenRun {
@@ -90,7 +86,6 @@ fn push_runs(
                 last: next,
             };
         }
-        index += 1;
     }
     push_run(values, alloc, plan, places, run, steps)
 }

@@ -21,7 +21,6 @@ use std::alloc::{AllocError, Global};
 
 /// Creates the JSON object of the answer about a plan. `file` is the name of the plan's file, and
 /// `text` is the text from which the plan was read.
-#[tactic(auto, unfolding(crate::specs::Json::answer_data))]
 pub(crate) fn finding_value(
     alloc: Global,
     file: &str,
