@@ -1,5 +1,5 @@
 -- The answer of `ask` as a JSON object on one line, in format 1.
-use Rattle.std.specs.Prelude.{◌≡◌, ℕ, List, [], ◌∷◌, ◌++◌, codes}
+use Rattle.std.specs.Prelude.{ℕ, List, [], codes}
 use Rattle.serde_json.specs.Data.{Data, null, number, unsigned, string, array, object, item, no_items, member, no_members}
 use Rattle.serde_json.specs.View.{items_of}
 use Rattle.job_bodies.specs.Plan.{Plan}

@@ -1,5 +1,5 @@
 -- A plan as JSON: its text, and its pools, classes and client kinds with their places.
-use Rattle.std.specs.Prelude.{ℕ, Bool, true, if◌then◌else◌, List, [], map, codes, Option}
+use Rattle.std.specs.Prelude.{ℕ, Bool, if◌then◌else◌, List, [], map, codes, Option}
 use Rattle.std.specs.List.{enumerate_from}
 use Rattle.std.specs.Str.{is_utf8}
 use Rattle.serde_json.specs.Data.{Data, Members, null, boolean, number, unsigned, string, array, object, member, no_members}

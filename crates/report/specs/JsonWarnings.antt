@@ -2,7 +2,6 @@
 use Rattle.std.specs.Prelude.{ℕ, List, map, codes, string_bytes, Some}
 use Rattle.serde_json.specs.Data.{Data, string, array, object, member, no_members}
 use Rattle.serde_json.specs.View.{items_of}
-use Rattle.plan_text.specs.declared.place.TextPlace.{TextPlace}
 use Rattle.diagnostics.specs.declared.lint.Lint.{Lint}
 use Rattle.diagnostics.specs.declared.lint.Lint.TheVariants.{SafeAtCore, SubmitsItself, NeverGot, PoolWaitsForItself, NothingToAsk, NoClients, NothingSubmitted, PoolWithoutJobs, UselessMax, UselessMayReject, NeverRejects, QueueFarAbove, ClassWithoutJobs, RunInCaller, GoesOnce, Crowd, WorkLikeASize, OpenFuture, QueueMayGrow, StaleCertificate}
 use Rattle.diagnostics.specs.declared.warnings.Warning.{Warning}

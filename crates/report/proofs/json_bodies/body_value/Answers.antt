@@ -1,4 +1,4 @@
-use Rattle.std.proofs.Common.{◌≡◌, ap, ◌∙◌, get_or, refl}
+use Rattle.std.proofs.Common.{ap, ◌∙◌, get_or, refl}
 use Rattle.serde_json.specs.Data.{array}
 use Rattle.serde_json.specs.View.{items_of}
 use Rattle.job_bodies.specs.declared.action.Action.TheVariants.{Work}
