@@ -60,7 +60,7 @@ body_data plan bodies index body = array (items_of (map (action_entry plan bodie
 -- ---- pools, classes and client kinds
 
 -- a size, or the string `unbounded`
-abbrev pub limit_data : Bool → ℕ → Data
+unfoldable pub limit_data : Bool → ℕ → Data
 limit_data unbounded size = if unbounded then string (codes "unbounded") else number (unsigned size)
 
 -- the maximum of the pool; `unbounded` if it has none

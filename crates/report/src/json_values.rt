@@ -36,6 +36,7 @@ pub(crate) fn queue_value(alloc: Global, pool: &Pool) -> Result<Value, AllocErro
     limit_value(alloc, pool.unbounded, pool.queue)
 }
 
+#[tactic(auto, unfolding(crate::specs::JsonPlan::limit_data))]
 fn limit_value(alloc: Global, unbounded: bool, size: u64) -> Result<Value, AllocError>
     ensures { IfOk result (λ value. view value ≡ limit_data unbounded size) }
 {
