@@ -91,6 +91,7 @@ fn push_runs(
 }
 
 /// Returns whether the step extends `run`, which is a run of similar steps.
+#[tactic(auto, unfolding(crate::specs::EventRuns::follows))]
 fn follows(run: OpenRun, step: EventStep) -> bool
     ensures { result ≡ runs.follows run.first run.times step }
 {
@@ -155,7 +156,7 @@ fn push_run(
     push_value(values, run_value(alloc, plan, places, run, steps))
 }
 
-#[tactic(auto, unfolding(crate::specs::JsonEvents::event_data))]
+#[tactic(auto, unfolding(crate::specs::JsonEvents::event_data, crate::specs::JsonEvents::run_data))]
 fn run_value(
     alloc: Global,
     plan: &Plan,
