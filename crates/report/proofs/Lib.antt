@@ -12,6 +12,7 @@ mod ReplayLines
 mod WaitsShown
 mod Witnesses
 mod JsonLists
+mod JsonObjects
 mod StoryTurns
 mod StoryState
 mod CompactText

@@ -53,6 +53,7 @@ none_if plan view j job false = refl
 
 module _ (plan : Plan) (s : State) (bodies : HasValidBodies plan) (kept : StateInvariant plan s) where
   text_at_stage : (j : ℕ) (stage : Stage) → (job_at s j).stage ≡ stage → seen.wait_seen plan (live_view plan s) j ≡ wait_text plan s j (job_at s j).class stage
+  unfolding seen.wait_seen
   text_at_stage j Queued e = ap (seen.wait_of_job plan (live_view plan s) j) (view_at plan s j ∙ seen_at s j Queued phase.Queued e refl)
   text_at_stage j (At i) e =
       let k = (job_at s j).class in

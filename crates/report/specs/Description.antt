@@ -7,6 +7,7 @@ use Rattle.pool_machine.specs.declared.event.Event.{Event}
 use Rattle.pool_machine.specs.declared.event.Event.TheVariants.{Client, Job, Take, Retire}
 use Rattle.counterexample.specs.declared.ending.Ending.{Ending}
 use Rattle.counterexample.specs.declared.ending.Ending.TheVariants.{Refused, StuckForever, StuckNow}
+use Rattle.counterexample.specs.declared.ending.Reason.{Reason}
 use Rattle.counterexample.specs.declared.ending.Reason.TheVariants.{PoolsAreFull, PoolsStayAtCore}
 use Rattle.counterexample.specs.declared.witness.Witness.{Witness}
 use Rattle.counterexample.specs.EventLines.{stuck_members}
@@ -59,11 +60,15 @@ started_words timeouts = if timeouts then codes "another thread" else codes "a t
 abbrev pub until_line : Bool → List ℕ
 until_line timeouts = codes "until a pool with one of them in its queue starts " ++ (started_words timeouts ++ 10 ∷ [])
 
+-- the last line, if the wait is permanent
+abbrev pub forever_line : Reason → List ℕ
+forever_line PoolsAreFull = codes "forever: each pool with one of them in its queue has all its threads" ++ 10 ∷ []
+forever_line PoolsStayAtCore = codes "forever: no pool with one of them in its queue ever starts another thread" ++ 10 ∷ []
+
 -- the last line: why the jobs wait permanently, or what may end their wait. Empty if the witness ends with a refused submit
 abbrev pub why_text : Plan → Ending → List ℕ
 why_text plan (Refused p) = []
-why_text plan (StuckForever members PoolsAreFull) = codes "forever: each pool with one of them in its queue has all its threads" ++ 10 ∷ []
-why_text plan (StuckForever members PoolsStayAtCore) = codes "forever: no pool with one of them in its queue ever starts another thread" ++ 10 ∷ []
+why_text plan (StuckForever members reason) = forever_line reason
 why_text plan (StuckNow members) = until_line (has_timeouts plan)
 
 -- the text is the first line, the story, and the last line

@@ -53,7 +53,7 @@ is_later_outcome Looped n Looped = true
 is_later_outcome _ n _ = false
 
 -- whether the step continues a run of n steps, whose first step is `first`
-abbrev pub follows : EventStep → ℕ → EventStep → Bool
+unfoldable pub follows : EventStep → ℕ → EventStep → Bool
 follows first n step =
     is_later_client first.actor n step.actor && (is_same_action first.action step.action && is_later_outcome first.outcome n step.outcome)
 

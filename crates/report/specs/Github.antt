@@ -32,11 +32,11 @@ title MoreFaults = rule_name MoreFaults
 title (Warning lint) = rule_name (Warning lint)
 
 -- a character of a message; `%`, a carriage return and a newline are escaped
-abbrev pub message_char : ℕ → List ℕ
+unfoldable pub message_char : ℕ → List ℕ
 message_char c = if c == 37 then codes "%25" else if c == 13 then codes "%0D" else if c == 10 then codes "%0A" else encode_utf8 c
 
 -- a character of a property's value; `:` and `,` are escaped, and so are the characters that are escaped in a message
-abbrev pub property_char : ℕ → List ℕ
+unfoldable pub property_char : ℕ → List ℕ
 property_char c = if c == 58 then codes "%3A" else if c == 44 then codes "%2C" else message_char c
 
 abbrev pub message_text : List ℕ → List ℕ

@@ -14,7 +14,7 @@ use Rattle.report.specs.Json as json
 -- ---- the page
 -- a character of a JSON text, escaped for a script element. `<` becomes an escape, so that no tag begins in the text. A newline
 -- is omitted
-abbrev pub script_char : ℕ → List ℕ
+unfoldable pub script_char : ℕ → List ℕ
 script_char c = if c == 60 then codes "\\u003c" else if c == 10 then [] else encode_utf8 c
 
 -- a JSON text, escaped for a script element

@@ -1,12 +1,11 @@
 -- The answer of `ask` as a JSON object on one line, in format 1.
-use Rattle.std.specs.Prelude.{◌≡◌, ℕ, List, [], ◌∷◌, ◌++◌, codes}
+use Rattle.std.specs.Prelude.{ℕ, List, [], codes}
 use Rattle.serde_json.specs.Data.{Data, null, number, unsigned, string, array, object, item, no_items, member, no_members}
-use Rattle.serde_json.specs.View.{view, items_of}
+use Rattle.serde_json.specs.View.{items_of}
 use Rattle.job_bodies.specs.Plan.{Plan}
 use Rattle.diagnostics.specs.declared.diagnostic.Faults.{Faults}
 use Rattle.diagnostics.specs.declared.entry_places.PlanPlaces.{PlanPlaces}
 use Rattle.diagnostics.specs.declared.warnings.Warning.{Warning}
-use Rattle.report.specs.declared.json_answers.AnswerParts.{AnswerParts}
 use Rattle.report.specs.declared.finding.PlanFinding.{PlanFinding}
 use Rattle.report.specs.declared.finding.PlanFinding.TheVariants.{Safe, NotSafe, NotDecided}
 use Rattle.report.specs.declared.version.TheConstants.{VERSION}
@@ -30,10 +29,6 @@ pub record Parts : Type 0 where
   pub sizes : Data
   pub warnings : Data
   pub witness : Data
-
--- the members of an answer, which the code holds as `AnswerParts`
-abbrev pub parts_of : AnswerParts → Parts
-parts_of m = record { assumptions = view m.assumptions; faults = view m.faults; omitted = m.omitted; plan = view m.plan; pools = view m.pools; sizes = view m.sizes; warnings = view m.warnings; witness = view m.witness }
 
 -- the object of an answer, with its keys in ascending order; `word` is the name of the answer, such as `NOT SAFE`
 unfoldable pub answer_data : List ℕ → List ℕ → Parts → Data

@@ -113,7 +113,7 @@ event_data parts =
     (member (codes "times") (number_data parts.times) no_members))))))))
 
 -- the object of a run: the members of its first step, the pool after its last step, and the number of its steps
-abbrev pub run_data : Plan → PlanPlaces → Run → Data
+unfoldable pub run_data : Plan → PlanPlaces → Run → Data
 run_data plan places run = event_data (record {
   action = optional_number run.first.action;
   actor = actor_data plan run.first.actor;

@@ -10,12 +10,12 @@ use Rattle.size_search.specs.declared.found.NoSizes.{NoSizes}
 use Rattle.size_search.specs.declared.found.NoSizes.TheVariants.{Cause, TooLarge}
 
 -- the line of the place; null if the place is not known
-abbrev pub line_data : Option TextPlace → Data
+unfoldable pub line_data : Option TextPlace → Data
 line_data None = null
 line_data (Some place) = number (unsigned place.line)
 
 -- the column of the place; null if the place is not known
-abbrev pub column_data : Option TextPlace → Data
+unfoldable pub column_data : Option TextPlace → Data
 column_data None = null
 column_data (Some place) = number (unsigned place.column)
 

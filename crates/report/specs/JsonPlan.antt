@@ -1,5 +1,5 @@
 -- A plan as JSON: its text, and its pools, classes and client kinds with their places.
-use Rattle.std.specs.Prelude.{ℕ, Bool, true, if◌then◌else◌, List, [], map, codes, Option}
+use Rattle.std.specs.Prelude.{ℕ, Bool, if◌then◌else◌, List, [], map, codes, Option}
 use Rattle.std.specs.List.{enumerate_from}
 use Rattle.std.specs.Str.{is_utf8}
 use Rattle.serde_json.specs.Data.{Data, Members, null, boolean, number, unsigned, string, array, object, member, no_members}
@@ -60,7 +60,7 @@ body_data plan bodies index body = array (items_of (map (action_entry plan bodie
 -- ---- pools, classes and client kinds
 
 -- a size, or the string `unbounded`
-abbrev pub limit_data : Bool → ℕ → Data
+unfoldable pub limit_data : Bool → ℕ → Data
 limit_data unbounded size = if unbounded then string (codes "unbounded") else number (unsigned size)
 
 -- the maximum of the pool; `unbounded` if it has none

@@ -2,7 +2,6 @@
 use Rattle.std.specs.Prelude.{ℕ, List, map, codes, string_bytes, Some}
 use Rattle.serde_json.specs.Data.{Data, string, array, object, member, no_members}
 use Rattle.serde_json.specs.View.{items_of}
-use Rattle.plan_text.specs.declared.place.TextPlace.{TextPlace}
 use Rattle.diagnostics.specs.declared.lint.Lint.{Lint}
 use Rattle.diagnostics.specs.declared.lint.Lint.TheVariants.{SafeAtCore, SubmitsItself, NeverGot, PoolWaitsForItself, NothingToAsk, NoClients, NothingSubmitted, PoolWithoutJobs, UselessMax, UselessMayReject, NeverRejects, QueueFarAbove, ClassWithoutJobs, RunInCaller, GoesOnce, Crowd, WorkLikeASize, OpenFuture, QueueMayGrow, StaleCertificate}
 use Rattle.diagnostics.specs.declared.warnings.Warning.{Warning}
@@ -31,15 +30,12 @@ kind_of (OpenFuture of number action) = codes "open future"
 kind_of (QueueMayGrow of number action) = codes "queue may grow"
 kind_of StaleCertificate = codes "stale certificate"
 
-unfoldable pub warning_object : TextPlace → List ℕ → List ℕ → Data
-warning_object place kind words =
-    object (member (codes "column") (column_data (Some place))
-    (member (codes "kind") (string kind)
-    (member (codes "line") (line_data (Some place))
-    (member (codes "text") (string words) no_members))))
-
-abbrev pub warning_data : Warning → Data
-warning_data warning = warning_object warning.place (kind_of warning.lint) (string_bytes warning.what)
+unfoldable pub warning_data : Warning → Data
+warning_data warning =
+    object (member (codes "column") (column_data (Some warning.place))
+    (member (codes "kind") (string (kind_of warning.lint))
+    (member (codes "line") (line_data (Some warning.place))
+    (member (codes "text") (string (string_bytes warning.what)) no_members))))
 
 abbrev pub warnings_data : List Warning → Data
 warnings_data warnings = array (items_of (map warning_data warnings))

@@ -65,9 +65,9 @@ pool_label plan p pool part = pool.name ++ (codes "\\n" ++ (threads_text pool ++
 abbrev pub label_node : ℕ → List ℕ → List ℕ
 label_node p label = codes "    pool" ++ (decimal p ++ (codes " [shape=plaintext label=\"" ++ (label ++ (codes "\"]" ++ 10 ∷ []))))
 
--- the first lines of the box of pool p: a node with the label
-abbrev pub box_start : ℕ → List ℕ → List ℕ
-box_start p label = codes "  subgraph cluster" ++ (decimal p ++ ((codes " {" ++ 10 ∷ []) ++ label_node p label))
+-- the first line of the box of pool p
+abbrev pub box_start : ℕ → List ℕ
+box_start p = codes "  subgraph cluster" ++ (decimal p ++ (codes " {" ++ 10 ∷ []))
 
 -- the nodes of the classes in the box of pool p, and its end
 abbrev pub box_nodes : List Class → ℕ → List ℕ
@@ -75,7 +75,7 @@ box_nodes classes p = class_nodes classes p ++ (codes "  }" ++ 10 ∷ [])
 
 -- the box of pool p, with its classes
 unfoldable pub box_text : Plan → ℕ → Pool → Option PoolCert → List ℕ
-box_text plan p pool part = box_start p (pool_label plan p pool part) ++ box_nodes plan.classes p
+box_text plan p pool part = (box_start p ++ label_node p (pool_label plan p pool part)) ++ box_nodes plan.classes p
 
 -- the box of pool p; `parts` are the parts of the certificate, one for each pool
 abbrev pub pool_box : Plan → List PoolCert → ℕ × Pool → List ℕ

@@ -49,7 +49,7 @@ abbrev pub queue_size : Pool → List ℕ
 queue_size pool = if pool.unbounded then codes "unbounded" else decimal pool.queue
 
 -- what the total n of a bound limits: the jobs in the queue at one time, or the jobs that are ever submitted to the pool
-abbrev pub most_text : Bound → ℕ → List ℕ
+unfoldable pub most_text : Bound → ℕ → List ℕ
 most_text (Standing v) n = if n == 1 then codes "up to 1 job waits at once" else codes "up to " ++ decimal n ++ codes " jobs wait at once"
 most_text (Lifetime v) n = if n == 1 then codes "at most 1 job is ever given to it" else codes "at most " ++ decimal n ++ codes " jobs are ever given to it"
 

@@ -152,7 +152,7 @@ lines (turn ∷ rest) = lines_from (new_line turn) rest
 abbrev pub times_text : ℕ → List ℕ
 times_text times = if times == 1 then codes "  " else codes "  " ++ decimal times ++ codes " x "
 
-abbrev pub line_text : Line → List ℕ
+unfoldable pub line_text : Line → List ℕ
 line_text line = times_text line.times ++ (line.text ++ 10 ∷ [])
 
 abbrev pub end_of : Option Line → ℕ
@@ -187,10 +187,10 @@ most_threads pool = if pool.unbounded && not pool.core_timeout then pool.core el
 abbrev pub has_no_max : PoolView → Bool
 has_no_max pool = pool.core_timeout && pool.unbounded && pool.max == MAX_THREADS
 
-abbrev pub most_text : PoolView → List ℕ
+unfoldable pub most_text : PoolView → List ℕ
 most_text pool = if has_no_max pool then codes "unbounded" else decimal (most_threads pool)
 
-abbrev pub capacity_text : PoolView → List ℕ
+unfoldable pub capacity_text : PoolView → List ℕ
 capacity_text pool = if pool.unbounded then codes "unbounded" else decimal pool.capacity
 
 abbrev pub pool_text : List ℕ → PoolView → List ℕ

@@ -37,7 +37,7 @@ abbrev pub wait_of_job : Plan → View → ℕ → Option JobView → List ℕ
 wait_of_job plan view j None = []
 wait_of_job plan view j (Some job) = wait_in plan view j job.class job.phase
 
-abbrev pub wait_seen : Plan → View → ℕ → List ℕ
+unfoldable pub wait_seen : Plan → View → ℕ → List ℕ
 wait_seen plan view j = wait_of_job plan view j (live_job view.jobs j)
 
 abbrev pub waits_text : Plan → View → List ℕ → List ℕ

@@ -4,6 +4,7 @@ ghost use Rattle.std.specs.Prelude.{◌≡◌, IfOk, string_bytes};
 ghost use Rattle.support.specs.Pushed.{Pushes};
 ghost use Rattle.report.specs.Annotations as spec;
 
+use crate::story_steps::push_named;
 use diagnostics::Lint;
 use plan_text::TextPlace;
 use std::alloc::{AllocError, Global};
@@ -51,18 +52,11 @@ pub(crate) fn push_rule_name(text: &mut String, rule: Rule) -> Result<(), AllocE
     match rule {
         Rule::Fault(number) => write!(text, "fault-{number}"),
         Rule::MoreFaults => text.push_str("more-faults"),
-        Rule::Warning(lint) => push_warning_name(text, lint),
+        Rule::Warning(lint) => push_named(text, "warning-", lint_name(lint)),
         Rule::Safe => text.push_str("safe"),
         Rule::NotSafe => text.push_str("not-safe"),
         Rule::NotDecided => text.push_str("not-decided"),
     }
-}
-
-fn push_warning_name(text: &mut String, lint: Lint) -> Result<(), AllocError>
-    ensures { Pushes result text.old text.new (spec.warning_name lint) }
-{
-    text.push_str("warning-")?;
-    text.push_str(lint_name(lint))
 }
 
 fn lint_name(lint: Lint) -> &'static str

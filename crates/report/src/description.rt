@@ -92,15 +92,22 @@ fn push_why(text: &mut String, plan: &Plan, ending: &Ending) -> Result<(), Alloc
 {
     match ending {
         Ending::Refused(_) => Ok(()),
-        Ending::StuckForever(_, Reason::PoolsAreFull) => {
-            text.push_str("forever: each pool with one of them in its queue has all its threads\n")
-        }
-        Ending::StuckForever(_, Reason::PoolsStayAtCore) => {
-            text.push_str(
-                "forever: no pool with one of them in its queue ever starts another thread\n",
-            )
-        }
+        Ending::StuckForever(_, reason) => text.push_str(forever_line(*reason)),
         Ending::StuckNow(_) => push_until(text, has_timeouts(plan)),
+    }
+}
+
+/// Returns the last line for jobs whose wait is permanent.
+fn forever_line(reason: Reason) -> &'static str
+    ensures { result.now ≡ spec.forever_line reason }
+{
+    match reason {
+        Reason::PoolsAreFull => {
+            "forever: each pool with one of them in its queue has all its threads\n"
+        }
+        Reason::PoolsStayAtCore => {
+            "forever: no pool with one of them in its queue ever starts another thread\n"
+        }
     }
 }
 

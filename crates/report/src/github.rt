@@ -162,6 +162,7 @@ fn push_message(text: &mut String, message: &str) -> Result<(), AllocError>
     Ok(())
 }
 
+#[tactic(auto, unfolding(crate::specs::Github::message_char))]
 fn push_message_char(text: &mut String, c: char) -> Result<(), AllocError>
     ensures { Pushes result text.old text.new (spec.message_char c) }
 {
@@ -182,6 +183,7 @@ fn push_property(text: &mut String, value: &str) -> Result<(), AllocError>
     Ok(())
 }
 
+#[tactic(auto, unfolding(crate::specs::Github::property_char))]
 fn push_property_char(text: &mut String, c: char) -> Result<(), AllocError>
     ensures { Pushes result text.old text.new (spec.property_char c) }
 {

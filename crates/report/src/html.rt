@@ -105,6 +105,7 @@ fn push_script_text(page: &mut String, json: &str) -> Result<(), AllocError>
 
 /// Appends a character, escaped for a script element. `<` is replaced by an escape, so that no tag
 /// begins in the text. A newline is omitted, because a JSON text has a newline only at its end.
+#[tactic(auto, unfolding(crate::specs::Html::script_char))]
 fn push_script_char(page: &mut String, c: char) -> Result<(), AllocError>
     ensures { Pushes result page.old page.new (spec.script_char c) }
 {

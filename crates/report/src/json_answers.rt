@@ -9,7 +9,7 @@ ghost use Rattle.report.specs.JsonLine.{IsLineOf};
 
 use crate::PlanFinding;
 use crate::json_faults::{faults_value, single_fault};
-use crate::json_findings::finding_parts;
+use crate::json_findings::finding_value;
 use crate::json_line::line_of;
 use crate::json_object::Object;
 use crate::json_plan::text_only_value;
@@ -21,20 +21,7 @@ use serde_json::Value;
 use std::alloc::{AllocError, Global};
 
 /// The version of the JSON format, which each answer states as its member `format`.
-const FORMAT: u8 = 1;
-
-/// Values in the JSON object of an answer. Each field is named after its member of the object.
-#[derive(Drop)]
-pub(crate) struct AnswerParts {
-    pub(crate) assumptions: Value,
-    pub(crate) faults: Value,
-    pub(crate) omitted: usize,
-    pub(crate) plan: Value,
-    pub(crate) pools: Value,
-    pub(crate) sizes: Value,
-    pub(crate) warnings: Value,
-    pub(crate) witness: Value,
-}
+pub(crate) const FORMAT: u8 = 1;
 
 /// Returns the JSON text of an answer: the finding about a plan, and the plan's warnings. `file` is
 /// the name of the plan's file, and `text` is the content of this file. `places` says where in
@@ -55,8 +42,7 @@ pub fn finding_json(
     ensures { IfOk result (λ line. spec.ReportsFinding
         file.now text.now places.now plan.now finding.now warnings.now (string_bytes line)) }
 {
-    let parts = finding_parts(alloc, text, places, plan, finding, warnings)?;
-    let value = answer_value(alloc, word_of(finding), file, parts)?;
+    let value = finding_value(alloc, file, text, places, plan, finding, warnings)?;
     line_of(alloc, &value)
 }
 
@@ -101,7 +87,7 @@ pub fn fault_json(
 }
 
 /// Returns the name of the answer, such as `NOT SAFE`.
-fn word_of(finding: &PlanFinding) -> &'static str
+pub(crate) fn word_of(finding: &PlanFinding) -> &'static str
     ensures { result.now ≡ spec.word_of finding.now }
 {
     match finding {
@@ -111,47 +97,7 @@ fn word_of(finding: &PlanFinding) -> &'static str
     }
 }
 
-/// Creates the JSON object of an answer. `word` is the name of the answer, such as `NOT SAFE`, and
-/// `file` is the name of the plan's file.
-#[tactic(auto, unfolding(crate::specs::Json::answer_data))]
-fn answer_value(
-    alloc: Global,
-    word: &str,
-    file: &str,
-    parts: AnswerParts,
-) -> Result<Value, AllocError>
-    ensures { IfOk result
-        (λ value. data_of value ≡ spec.answer_data word.now file.now (spec.parts_of parts)) }
-{
-    let AnswerParts {
-        assumptions,
-        faults,
-        omitted,
-        plan,
-        pools,
-        sizes,
-        warnings,
-        witness,
-    } = parts;
-    Object::new(alloc)
-        .text("answer", word)
-        .value("assumptions", assumptions)
-        .value("faults", faults)
-        .text("file", file)
-        .value("format", Value::from(FORMAT))
-        .value("omitted", Value::from(omitted))
-        .value("plan", plan)
-        .value("pools", pools)
-        .value("sizes", sizes)
-        .text("version", VERSION)
-        .value("warnings", warnings)
-        .value("witness", witness)
-        .done()
-}
-
-/// Returns the JSON text of the answer `FAULTS`. `faults` is the list of reported faults. `omitted`
-/// is the number of faults that are not in this list. `file` is the name of the plan's file, and
-/// `text` is the content of this file.
+/// Returns the JSON text of the answer `FAULTS`. The parameters are those of [`faulty_value`].
 fn faulty_line(
     alloc: Global,
     file: &str,
@@ -162,17 +108,35 @@ fn faulty_line(
     ensures { IfOk result (λ line. IsLineOf
         (spec.faulty_data file.now text.now (data_of faults) omitted) (string_bytes line)) }
 {
-    let plan = text_only_value(alloc, text)?;
-    let parts = AnswerParts {
-        assumptions: empty_list(alloc),
-        faults,
-        omitted,
-        plan,
-        pools: empty_list(alloc),
-        sizes: Value::Null,
-        warnings: empty_list(alloc),
-        witness: Value::Null,
-    };
-    let value = answer_value(alloc, "FAULTS", file, parts)?;
+    let value = faulty_value(alloc, file, text, faults, omitted)?;
     line_of(alloc, &value)
+}
+
+/// Creates the JSON object of the answer `FAULTS`. `faults` is the list of reported faults.
+/// `omitted` is the number of faults that are not in this list. `file` is the name of the plan's
+/// file, and `text` is the content of this file.
+fn faulty_value(
+    alloc: Global,
+    file: &str,
+    text: &[u8],
+    faults: Value,
+    omitted: usize,
+) -> Result<Value, AllocError>
+    ensures { IfOk result (λ value.
+        data_of value ≡ spec.faulty_data file.now text.now (data_of faults) omitted) }
+{
+    Object::new(alloc)
+        .text("answer", "FAULTS")
+        .value("assumptions", empty_list(alloc))
+        .value("faults", faults)
+        .text("file", file)
+        .value("format", Value::from(FORMAT))
+        .value("omitted", Value::from(omitted))
+        .part("plan", text_only_value(alloc, text))
+        .value("pools", empty_list(alloc))
+        .value("sizes", Value::Null)
+        .text("version", VERSION)
+        .value("warnings", empty_list(alloc))
+        .value("witness", Value::Null)
+        .done()
 }

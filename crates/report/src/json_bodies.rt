@@ -6,6 +6,7 @@ ghost use Rattle.report.specs.JsonPlan as spec;
 
 use crate::json_object::Object;
 use crate::json_places::{action_place, column_value, line_value};
+use crate::json_values::push_value;
 use diagnostics::BodyPlaces;
 use job_bodies::{Action, Plan, has_get_of};
 use plan_text::TextPlace;
@@ -27,8 +28,8 @@ pub(crate) fn body_value(
 {
     let mut values = Vec::with_capacity(alloc, body.len())?;
     for (number, action) in body.iter().enumerate() {
-        let value = action_entry(alloc, plan, places, index, body, number, action)?;
-        values.push(value)?;
+        let value = action_entry(alloc, plan, places, index, body, number, action);
+        push_value(&mut values, value)?;
     }
     Ok(Value::from(values))
 }

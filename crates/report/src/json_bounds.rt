@@ -10,6 +10,7 @@ ghost use Rattle.weights.specs.Vector.{vector_fits};
 ghost use Rattle.report.specs.JsonPools as spec;
 
 use crate::json_object::Object;
+use crate::json_values::push_value;
 use crate::places::bounds_jobs;
 use crate::{Shares, shares_of, total_of};
 use job_bodies::{Plan, Pool};
@@ -117,7 +118,7 @@ fn threads_value(alloc: Global, plan: &Plan, shares: &[u64]) -> Result<Value, Al
 }
 
 /// Appends the JSON object of one share in the total of a bound. Appends nothing if the share is 0.
-#[tactic(auto, using(std::proofs::lemmas::List::map_push), unfolding(crate::specs::JsonPools::share_data))]
+#[tactic(auto, unfolding(crate::specs::JsonPools::share_data))]
 fn push_share(
     alloc: Global,
     values: &mut Vec<Value>,
@@ -133,9 +134,8 @@ fn push_share(
     let value = Object::new(alloc)
         .value("jobs", Value::from(share))
         .text("name", name)
-        .done()?;
-    values.push(value)?;
-    Ok(())
+        .done();
+    push_value(values, value)
 }
 
 /// Creates a JSON object with two numbers:

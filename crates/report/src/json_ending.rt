@@ -15,7 +15,7 @@ ghost use Rattle.report.specs.WaitsSeen as seen;
 
 use crate::event_steps::pool_of;
 use crate::json_object::Object;
-use crate::json_values::{array_value, numbers_value};
+use crate::json_values::{array_value, numbers_value, push_value};
 use counterexample::Ending;
 use interleaving::{JobView, Parent, Phase, World};
 use job_bodies::{Action, Plan};
@@ -141,7 +141,7 @@ fn push_wait(
 /// Appends a JSON object that says what a job waits for. `number` is the number of this job, and
 /// `pool` is the name of its pool. `place` is `queue` if the job waits in the queue of this pool,
 /// and `get` if it waits at a get. `awaited` has the numbers of the jobs for which it waits.
-#[tactic(auto, using(std::proofs::lemmas::List::map_push), unfolding(crate::specs::JsonEnding::wait_data))]
+#[tactic(auto, unfolding(crate::specs::JsonEnding::wait_data))]
 fn push_wait_for(
     values: &mut Vec<Value>,
     alloc: Global,
@@ -158,9 +158,8 @@ fn push_wait_for(
         .part("for", numbers_value(alloc, awaited))
         .value("job", Value::from(number))
         .text("pool", pool)
-        .done()?;
-    values.push(value)?;
-    Ok(())
+        .done();
+    push_value(values, value)
 }
 
 pub(crate) fn pool_name(plan: &Plan, class: usize) -> &str

@@ -22,7 +22,7 @@ use crate::event_steps::{Actor, EventStep, PoolCounts};
 use crate::json_event_parts::{actor_place, actor_value, job_of, outcome_word};
 use crate::json_object::Object;
 use crate::json_places::{column_value, line_value};
-use crate::json_values::optional_number;
+use crate::json_values::{optional_number, push_value};
 use diagnostics::PlanPlaces;
 use interleaving::Outcome;
 use job_bodies::Plan;
@@ -73,15 +73,11 @@ fn push_runs(
         times: 1,
         last: steps[0],
     };
-    let mut index = 1;
-    while index < steps.len() {
+    for index in 1..steps.len() {
         let next = steps[index];
         if follows(run, next) {
-            run = OpenRun {
-                first: run.first,
-                times: run.times + 1,
-                last: next,
-            };
+            run.times += 1;
+            run.last = next;
         } else {
             push_run(values, alloc, plan, places, run, &steps[..index])?;
             run = OpenRun {
@@ -90,12 +86,12 @@ fn push_runs(
                 last: next,
             };
         }
-        index += 1;
     }
     push_run(values, alloc, plan, places, run, steps)
 }
 
 /// Returns whether the step extends `run`, which is a run of similar steps.
+#[tactic(auto, unfolding(crate::specs::EventRuns::follows))]
 fn follows(run: OpenRun, step: EventStep) -> bool
     ensures { result ≡ runs.follows run.first run.times step }
 {
@@ -157,12 +153,10 @@ fn push_run(
     ensures { OnOk result (map view values.new.items
         ≡ map view values.old.items ++ spec.run_data plan.now places.now (shown.run_of run steps.now) ∷ []) }
 {
-    let value = run_value(alloc, plan, places, run, steps)?;
-    values.push(value)?;
-    Ok(())
+    push_value(values, run_value(alloc, plan, places, run, steps))
 }
 
-#[tactic(auto, unfolding(crate::specs::JsonEvents::event_data))]
+#[tactic(auto, unfolding(crate::specs::JsonEvents::event_data, crate::specs::JsonEvents::run_data))]
 fn run_value(
     alloc: Global,
     plan: &Plan,

@@ -8,6 +8,7 @@ ghost use Rattle.report.specs.JsonFaults as spec;
 
 use crate::json_object::Object;
 use crate::json_places::{column_value, line_value};
+use crate::json_values::push_value;
 use diagnostics::{Diagnostic, Faults, NumberRange};
 use plan_text::TextPlace;
 use serde_json::{Value, json};
@@ -52,8 +53,7 @@ fn push_others(
         ≡ map view values.old.items ++ map spec.diagnostic_data others.now) }
 {
     for diagnostic in others {
-        let value = diagnostic_value(alloc, diagnostic)?;
-        values.push(value)?;
+        push_value(values, diagnostic_value(alloc, diagnostic))?;
     }
     Ok(())
 }

@@ -1,44 +1,52 @@
-//! The members of a JSON answer about a plan.
+//! The JSON answer about a plan.
 
 ghost use Rattle.std.specs.Prelude.{◌≡◌, IfOk};
 ghost use Rattle.serde_json.specs.View.{view};
 ghost use Rattle.report.specs.Json as spec;
 
 use crate::PlanFinding;
-use crate::json_answers::AnswerParts;
+use crate::json_answers::{FORMAT, word_of};
+use crate::json_object::Object;
 use crate::json_plan::plan_value;
 use crate::json_pools::pools_value;
 use crate::json_sizes::sizes_value;
+use crate::json_values::empty_list;
 use crate::json_warnings::warnings_value;
 use crate::json_witness::witness_value;
+use crate::version::VERSION;
 use diagnostics::{PlanPlaces, Warning};
 use job_bodies::Plan;
 use serde_json::{Value, json};
 use std::alloc::{AllocError, Global};
 
-/// Creates the values of the members in an answer about a plan. `text` is the text from which the
-/// plan was read.
-pub(crate) fn finding_parts(
+/// Creates the JSON object of the answer about a plan. `file` is the name of the plan's file, and
+/// `text` is the text from which the plan was read.
+pub(crate) fn finding_value(
     alloc: Global,
+    file: &str,
     text: &[u8],
     places: &PlanPlaces,
     plan: &Plan,
     finding: &PlanFinding,
     warnings: &[Warning],
-) -> Result<AnswerParts, AllocError>
-    ensures { IfOk result (λ parts. spec.parts_of parts
-        ≡ spec.finding_parts text.now places.now plan.now finding.now warnings.now) }
+) -> Result<Value, AllocError>
+    ensures { IfOk result (λ value. view value ≡ spec.finding_data
+        file.now text.now places.now plan.now finding.now warnings.now) }
 {
-    Ok(AnswerParts {
-        assumptions: assumptions_value(alloc, finding)?,
-        faults: Value::Array(Vec::new(alloc)),
-        omitted: 0,
-        plan: plan_value(alloc, text, places, plan)?,
-        pools: pools_of(alloc, plan, finding)?,
-        sizes: sizes_of(alloc, places, plan, finding)?,
-        warnings: warnings_value(alloc, warnings)?,
-        witness: witness_of(alloc, places, plan, finding)?,
-    })
+    Object::new(alloc)
+        .text("answer", word_of(finding))
+        .part("assumptions", assumptions_value(alloc, finding))
+        .value("faults", empty_list(alloc))
+        .text("file", file)
+        .value("format", Value::from(FORMAT))
+        .value("omitted", Value::from(0u8))
+        .part("plan", plan_value(alloc, text, places, plan))
+        .part("pools", pools_of(alloc, plan, finding))
+        .part("sizes", sizes_of(alloc, places, plan, finding))
+        .text("version", VERSION)
+        .part("warnings", warnings_value(alloc, warnings))
+        .part("witness", witness_of(alloc, places, plan, finding))
+        .done()
 }
 
 /// Returns a JSON list of the assumptions on which the answer SAFE depends. The list is empty if
@@ -48,9 +56,7 @@ fn assumptions_value(alloc: Global, finding: &PlanFinding) -> Result<Value, Allo
 {
     match finding {
         PlanFinding::Safe(_, _) => safe_assumptions(alloc),
-        PlanFinding::NotSafe(_, _) | PlanFinding::NotDecided(_) => {
-            Ok(Value::Array(Vec::new(alloc)))
-        }
+        PlanFinding::NotSafe(_, _) | PlanFinding::NotDecided(_) => Ok(empty_list(alloc)),
     }
 }
 

@@ -12,6 +12,7 @@ use size_search::{Cause, NoSizes};
 
 /// Converts the line of a place in a text to JSON. The value is null if the place is `None`, which
 /// means that it is not known.
+#[tactic(auto, unfolding(crate::specs::JsonPlaces::line_data))]
 pub(crate) fn line_value(place: Option<TextPlace>) -> Value
     ensures { view result ≡ spec.line_data place }
 {
@@ -23,6 +24,7 @@ pub(crate) fn line_value(place: Option<TextPlace>) -> Value
 
 /// Converts the column of a place in a text to JSON. The value is null if the place is `None`,
 /// which means that it is not known.
+#[tactic(auto, unfolding(crate::specs::JsonPlaces::column_data))]
 pub(crate) fn column_value(place: Option<TextPlace>) -> Value
     ensures { view result ≡ spec.column_data place }
 {

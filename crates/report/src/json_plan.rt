@@ -8,7 +8,7 @@ ghost use Rattle.report.specs.JsonPlan as spec;
 use crate::json_bodies::body_value;
 use crate::json_object::Object;
 use crate::json_places::{column_value, line_value, name_place, pool_places_at};
-use crate::json_values::{empty_list, max_value, queue_value};
+use crate::json_values::{empty_list, max_value, push_value, queue_value};
 use diagnostics::{BodyPlaces, PlanPlaces, PoolPlaces};
 use job_bodies::{Class, Client, Plan, Pool};
 use plan_text::TextPlace;
@@ -68,8 +68,7 @@ fn pools_value(alloc: Global, places: &[PoolPlaces], pools: &[Pool]) -> Result<V
 {
     let mut values = Vec::with_capacity(alloc, pools.len())?;
     for (number, pool) in pools.iter().enumerate() {
-        let value = pool_entry(alloc, places, number, pool)?;
-        values.push(value)?;
+        push_value(&mut values, pool_entry(alloc, places, number, pool))?;
     }
     Ok(Value::from(values))
 }
@@ -123,8 +122,7 @@ fn classes_value(
 {
     let mut values = Vec::with_capacity(alloc, classes.len())?;
     for (number, class) in classes.iter().enumerate() {
-        let value = class_entry(alloc, plan, places, number, class)?;
-        values.push(value)?;
+        push_value(&mut values, class_entry(alloc, plan, places, number, class))?;
     }
     Ok(Value::from(values))
 }
@@ -162,8 +160,10 @@ fn clients_value(
 {
     let mut values = Vec::with_capacity(alloc, clients.len())?;
     for (number, client) in clients.iter().enumerate() {
-        let value = client_entry(alloc, plan, places, number, client)?;
-        values.push(value)?;
+        push_value(
+            &mut values,
+            client_entry(alloc, plan, places, number, client),
+        )?;
     }
     Ok(Value::from(values))
 }

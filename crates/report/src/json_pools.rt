@@ -15,7 +15,7 @@ ghost use Rattle.report.specs.JsonPools as spec;
 
 use crate::json_bounds::{blocked_value, bound_value};
 use crate::json_object::Object;
-use crate::json_values::{max_value, queue_value};
+use crate::json_values::{max_value, push_value, queue_value};
 use crate::safe::rejection_at;
 use crate::safe_waits::waited_names;
 use cert_text::PoolCert;
@@ -37,8 +37,8 @@ pub(crate) fn pools_value(
 {
     let mut values = Vec::with_capacity(alloc, plan.pools().len())?;
     for (number, pool) in plan.pools().iter().enumerate() {
-        let value = pool_entry(alloc, plan, parts, rejections, number, pool)?;
-        values.push(value)?;
+        let value = pool_entry(alloc, plan, parts, rejections, number, pool);
+        push_value(&mut values, value)?;
     }
     Ok(Value::from(values))
 }
@@ -199,8 +199,7 @@ fn names_value(alloc: Global, names: &[String]) -> Result<Value, AllocError>
 {
     let mut values = Vec::with_capacity(alloc, names.len())?;
     for name in names {
-        let value = Value::try_from_str(alloc, name)?;
-        values.push(value)?;
+        push_value(&mut values, Value::try_from_str(alloc, name))?;
     }
     Ok(Value::from(values))
 }

@@ -2,7 +2,8 @@
 //! witness is a counterexample: a list of events whose last event is a refused submit, or after
 //! which jobs wait only for each other.
 
-ghost use Rattle.std.specs.Prelude.{◌≡◌, ◌++◌, ◌∷◌, map, flat_map, codes, decimal, string_bytes, IfOk, OnOk};
+ghost use Rattle.std.specs.Prelude.{◌≡◌, ◌++◌, ◌∷◌, map, flat_map, codes, decimal, IfOk, OnOk};
+ghost use Rattle.serde_json.specs.Data.{string};
 ghost use Rattle.serde_json.specs.View.{view};
 ghost use Rattle.support.specs.Pushed.{Pushes};
 ghost use Rattle.interleaving.specs.EventLine.{Perform};
@@ -11,7 +12,7 @@ ghost use Rattle.counterexample.specs.EventLines as lines;
 ghost use Rattle.report.specs.JsonWitness as spec;
 
 use crate::json_ending::members_of;
-use crate::json_values::array_value;
+use crate::json_values::{array_value, push_value};
 use crate::story_steps::push_named;
 use counterexample::Witness;
 use interleaving::Event;
@@ -46,19 +47,18 @@ fn push_events(
         ≡ map view values.old.items ++ map (λ event. spec.replay_line plan.now (Perform event)) events.entry.now) }
 {
     while let Some((event, rest)) = events.split_first() {
-        let line = event_line(alloc, plan, *event)?;
-        values.push(Value::String(line))?;
+        push_value(values, event_value(alloc, plan, *event))?;
         events = rest;
     }
     Ok(())
 }
 
-fn event_line(alloc: Global, plan: &Plan, event: Event) -> Result<String, AllocError>
-    ensures { IfOk result (λ text. string_bytes text ≡ event_text plan.now event) }
+fn event_value(alloc: Global, plan: &Plan, event: Event) -> Result<Value, AllocError>
+    ensures { IfOk result (λ value. view value ≡ spec.replay_line plan.now (Perform event)) }
 {
     let mut text = String::new(alloc);
     push_event(&mut text, plan, event)?;
-    Ok(text)
+    Ok(Value::String(text))
 }
 
 fn push_event(text: &mut String, plan: &Plan, event: Event) -> Result<(), AllocError>
@@ -93,18 +93,17 @@ fn push_question(
     if members.is_empty() {
         return Ok(());
     }
-    let line = stuck_line(alloc, members)?;
-    values.push(Value::String(line))?;
-    Ok(())
+    push_value(values, stuck_value(alloc, members))
 }
 
-fn stuck_line(alloc: Global, members: &[usize]) -> Result<String, AllocError>
-    ensures { IfOk result (λ text. string_bytes text ≡ codes "stuck" ++ flat_map (λ n. 32 ∷ decimal n) members.now) }
+fn stuck_value(alloc: Global, members: &[usize]) -> Result<Value, AllocError>
+    ensures { IfOk result (λ value.
+        view value ≡ string (codes "stuck" ++ flat_map (λ n. 32 ∷ decimal n) members.now)) }
 {
     let mut text = String::new(alloc);
     text.push_str("stuck")?;
     push_numbers(&mut text, members)?;
-    Ok(text)
+    Ok(Value::String(text))
 }
 
 /// Appends each number, with a space before it.

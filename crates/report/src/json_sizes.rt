@@ -1,14 +1,14 @@
 //! Sizes that a certificate accepts, as JSON, or the reason why none were found. `declared` is a
 //! pool of the plan, and `fit` is the same pool with the sizes that were found.
 
-ghost use Rattle.std.specs.Prelude.{◌≡◌, ◌++◌, IfOk, OnOk, map, option_map};
+ghost use Rattle.std.specs.Prelude.{◌≡◌, ◌++◌, IfOk, IsOkAnd, OnOk, map, option_map};
 ghost use Rattle.serde_json.specs.View.{view};
 ghost use Rattle.report.specs.JsonSizes as spec;
 
 use crate::json_cause::cause_value;
 use crate::json_object::Object;
 use crate::json_places::{column_value, line_value, pool_places_at};
-use crate::json_values::{empty_list, max_value, queue_value};
+use crate::json_values::{empty_list, max_value, push_value, queue_value};
 use crate::size_lines::has_useless_max;
 use diagnostics::{PlanPlaces, PoolPlaces};
 use job_bodies::{Plan, Pool};
@@ -53,8 +53,7 @@ fn pools_value(
 {
     let mut values = Vec::with_capacity(alloc, fitted.len())?;
     for (number, fit) in fitted.iter().enumerate() {
-        let value = size_entry(alloc, places, plan, number, fit)?;
-        values.push(value)?;
+        push_value(&mut values, size_entry(alloc, places, plan, number, fit))?;
     }
     Ok(Value::from(values))
 }
@@ -137,7 +136,6 @@ fn push_limits(
 
 /// Appends the change of the pool's maximum. Appends nothing if the maximum does not change or has
 /// no effect.
-#[tactic(auto, using(std::proofs::lemmas::List::map_push))]
 fn push_max(
     alloc: Global,
     values: &mut Vec<Value>,
@@ -151,10 +149,9 @@ fn push_max(
     if has_useless_max(fit) || declared.max == fit.max {
         return Ok(());
     }
-    let now = max_value(alloc, declared)?;
-    let value = max_value(alloc, fit)?;
-    values.push(change_value(alloc, "max", place, now, value)?)?;
-    Ok(())
+    let now = max_value(alloc, declared);
+    let value = max_value(alloc, fit);
+    push_value(values, change_value(alloc, "max", place, now, value))
 }
 
 /// Appends the change of the capacity of the pool's queue. Appends nothing if the capacity does not
@@ -177,7 +174,6 @@ fn push_queue(
 
 /// Appends the change of a size from `now` to `value`. `key` is the name of the size, such as
 /// `core`. Appends nothing if the two values are equal.
-#[tactic(auto, using(std::proofs::lemmas::List::map_push))]
 fn push_change(
     alloc: Global,
     values: &mut Vec<Value>,
@@ -192,30 +188,29 @@ fn push_change(
     if now == value {
         return Ok(());
     }
-    let now = Value::from(now);
-    let value = Value::from(value);
-    values.push(change_value(alloc, key, place, now, value)?)?;
-    Ok(())
+    let now = Ok(Value::from(now));
+    let value = Ok(Value::from(value));
+    push_value(values, change_value(alloc, key, place, now, value))
 }
 
 /// Creates a JSON object for the change of a size from `now` to `value`. `key` is the name of the
-/// size, such as `core`.
+/// size, such as `core`. If `now` or `value` is an error, returns this error.
 #[tactic(auto, unfolding(crate::specs::JsonSizes::change_data))]
 fn change_value(
     alloc: Global,
     key: &str,
     place: Option<TextPlace>,
-    now: Value,
-    value: Value,
+    now: Result<Value, AllocError>,
+    value: Result<Value, AllocError>,
 ) -> Result<Value, AllocError>
-    ensures { IfOk result (λ change.
-        view change ≡ spec.change_data key.now place (view now) (view value)) }
+    ensures { IfOk result (λ change. IsOkAnd now (λ now. IsOkAnd value (λ value.
+        view change ≡ spec.change_data key.now place (view now) (view value)))) }
 {
     Object::new(alloc)
         .value("column", column_value(place))
         .text("key", key)
         .value("line", line_value(place))
-        .value("now", now)
-        .value("value", value)
+        .part("now", now)
+        .part("value", value)
         .done()
 }

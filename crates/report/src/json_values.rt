@@ -1,6 +1,6 @@
 //! Numbers and sizes as JSON.
 
-ghost use Rattle.std.specs.Prelude.{◌≡◌, IfOk, IsOkAnd, map};
+ghost use Rattle.std.specs.Prelude.{◌≡◌, ◌++◌, ◌∷◌, [], IfOk, IsOkAnd, OnOk, map};
 ghost use Rattle.serde_json.specs.Data.{array, item, no_items};
 ghost use Rattle.serde_json.specs.View.{view};
 ghost use Rattle.report.specs.JsonEvents as spec;
@@ -36,6 +36,7 @@ pub(crate) fn queue_value(alloc: Global, pool: &Pool) -> Result<Value, AllocErro
     limit_value(alloc, pool.unbounded, pool.queue)
 }
 
+#[tactic(auto, unfolding(crate::specs::JsonPlan::limit_data))]
 fn limit_value(alloc: Global, unbounded: bool, size: u64) -> Result<Value, AllocError>
     ensures { IfOk result (λ value. view value ≡ limit_data unbounded size) }
 {
@@ -62,8 +63,21 @@ pub(crate) fn single_list(
         IsOkAnd value (λ value. view list ≡ array (item (view value) no_items))) }
 {
     let mut values = Vec::new(alloc);
-    values.push(value?)?;
+    push_value(&mut values, value)?;
     Ok(Value::Array(values))
+}
+
+/// Appends a value to a list. If `value` is an error, returns this error.
+#[tactic(auto, using(std::proofs::lemmas::List::map_push))]
+pub(crate) fn push_value(
+    values: &mut Vec<Value>,
+    value: Result<Value, AllocError>,
+) -> Result<(), AllocError>
+    ensures { OnOk result (IsOkAnd value (λ value.
+        map view values.new.items ≡ map view values.old.items ++ view value ∷ [])) }
+{
+    values.push(value?)?;
+    Ok(())
 }
 
 /// Creates a JSON list of these values.

@@ -6,6 +6,7 @@ ghost use Rattle.report.specs.JsonWarnings as spec;
 
 use crate::json_object::Object;
 use crate::json_places::{column_value, line_value};
+use crate::json_values::push_value;
 use diagnostics::{Lint, Warning};
 use serde_json::Value;
 use std::alloc::{AllocError, Global};
@@ -16,13 +17,12 @@ pub(crate) fn warnings_value(alloc: Global, warnings: &[Warning]) -> Result<Valu
 {
     let mut values = Vec::with_capacity(alloc, warnings.len())?;
     for warning in warnings {
-        let value = warning_value(alloc, warning)?;
-        values.push(value)?;
+        push_value(&mut values, warning_value(alloc, warning))?;
     }
     Ok(Value::from(values))
 }
 
-#[tactic(auto, unfolding(crate::specs::JsonWarnings::warning_object))]
+#[tactic(auto, unfolding(crate::specs::JsonWarnings::warning_data))]
 fn warning_value(alloc: Global, warning: &Warning) -> Result<Value, AllocError>
     ensures { IfOk result (λ value. view value ≡ spec.warning_data warning.now) }
 {

@@ -138,24 +138,16 @@ fn push_box(
     ensures { Pushes result text.old text.new
         (spec.box_text plan.now number pool.now (option_map (λ part. part.now) part.entry)) }
 {
-    push_start(text, plan, number, pool, part)?;
+    push_start(text, number)?;
+    push_label_node(text, plan, number, pool, part)?;
     push_nodes(text, plan.classes(), number)
 }
 
-/// Appends the start of the pool's box, and the node with the pool's name and sizes.
-fn push_start(
-    text: &mut String,
-    plan: &Plan,
-    number: usize,
-    pool: &Pool,
-    part: Option<&PoolCert>,
-) -> Result<(), AllocError>
-    ensures { Pushes result text.old text.new
-        (spec.box_start number (spec.pool_label plan.now number pool.now (option_map (λ part. part.now) part.entry))) }
+/// Appends the first line of the pool's box.
+fn push_start(text: &mut String, number: usize) -> Result<(), AllocError>
+    ensures { Pushes result text.old text.new (spec.box_start number) }
 {
-    write!(text, "  subgraph cluster{number}")?;
-    text.push_str(" {\n")?;
-    push_label_node(text, plan, number, pool, part)
+    writeln!(text, "  subgraph cluster{number} {{")
 }
 
 /// Appends the node with the pool's name and sizes.
@@ -169,8 +161,7 @@ fn push_label_node(
     ensures { Pushes result text.old text.new
         (spec.label_node number (spec.pool_label plan.now number pool.now (option_map (λ part. part.now) part.entry))) }
 {
-    write!(text, "    pool{number}")?;
-    text.push_str(" [shape=plaintext label=\"")?;
+    write!(text, "    pool{number} [shape=plaintext label=\"")?;
     push_label(text, plan, number, pool, part)?;
     text.push_str("\"]\n")
 }

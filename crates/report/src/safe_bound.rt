@@ -212,6 +212,7 @@ fn push_places(
 /// Appends the limit on the number of jobs, such as `up to 3 jobs wait at once`. `total` is the
 /// total of the bound's vector. The total of a standing vector limits the jobs in the queue at one
 /// time. The total of a lifetime vector limits the jobs that are ever submitted to the pool.
+#[tactic(auto, unfolding(crate::specs::SafeText::most_text))]
 pub(crate) fn push_most(text: &mut String, bound: &Bound, total: u64) -> Result<(), AllocError>
     ensures { Pushes result text.old text.new (spec.most_text bound.now total) }
 {

@@ -12,7 +12,7 @@ use crate::annotation::{Annotation, Rule, rule_name};
 use crate::annotations::{annotations_of, fault_annotations, single_fault};
 use crate::json_line::line_of;
 use crate::json_object::Object;
-use crate::json_values::single_list;
+use crate::json_values::{push_value, single_list};
 use crate::uri::uri_of;
 use crate::version::VERSION;
 use diagnostics::{Faults, PlanPlaces, Warning, is_note};
@@ -118,7 +118,7 @@ fn results_value(alloc: Global, file: &str, annotations: &[Annotation]) -> Resul
 {
     let mut values = Vec::with_capacity(alloc, annotations.len())?;
     for annotation in annotations {
-        values.push(result_value(alloc, file, annotation)?)?;
+        push_value(&mut values, result_value(alloc, file, annotation))?;
     }
     Ok(Value::Array(values))
 }
@@ -195,7 +195,7 @@ fn names_value(alloc: Global, names: &[String]) -> Result<Value, AllocError>
 {
     let mut values = Vec::with_capacity(alloc, names.len())?;
     for name in names {
-        values.push(rule_value(alloc, name)?)?;
+        push_value(&mut values, rule_value(alloc, name))?;
     }
     Ok(Value::Array(values))
 }

@@ -68,11 +68,8 @@ fn push_folded<'a>(lines: &mut Vec<Line<'a>>, turns: &'a [Turn]) -> Result<(), A
     };
     while let Some((turn, after)) = rest.split_first() {
         if line.text == turn.text.as_str() {
-            line = Line {
-                text: line.text,
-                times: line.times + 1,
-                end: turn.end,
-            };
+            line.times += 1;
+            line.end = turn.end;
         } else {
             lines.push(line)?;
             line = Line {
@@ -134,6 +131,7 @@ fn push_each(text: &mut String, lines: &[Line<'_>]) -> Result<(), AllocError>
     Ok(())
 }
 
+#[tactic(auto, unfolding(crate::specs::Story::line_text))]
 fn push_line(text: &mut String, line: Line<'_>) -> Result<(), AllocError>
     ensures { Pushes result text.old text.new (spec.line_text (line_seen line.entry)) }
 {

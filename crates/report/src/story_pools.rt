@@ -51,6 +51,7 @@ fn push_pool(text: &mut String, pool: &Pool, state: &PoolState) -> Result<(), Al
 
 /// Appends the greatest number of threads that the pool can have, or `unbounded` if the pool has no
 /// maximum.
+#[tactic(auto, unfolding(crate::specs::Story::most_text))]
 fn push_most_threads(text: &mut String, state: &PoolState) -> Result<(), AllocError>
     ensures { Pushes result text.old text.new (spec.most_text state.now) }
 {
@@ -91,6 +92,7 @@ fn most_threads(state: &PoolState) -> u64
 }
 
 /// Appends the capacity of the pool's queue, or `unbounded`.
+#[tactic(auto, unfolding(crate::specs::Story::capacity_text))]
 fn push_capacity(text: &mut String, state: &PoolState) -> Result<(), AllocError>
     ensures { Pushes result text.old text.new (spec.capacity_text state.now) }
 {

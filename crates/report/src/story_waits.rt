@@ -62,6 +62,7 @@ fn push_each(
 
 /// Appends a line that says what the job with this number waits for, if the job is queued or at a
 /// get of a job in `world`. Otherwise appends nothing.
+#[tactic(auto, unfolding(crate::specs::StorySeen::wait_seen))]
 fn push_wait(text: &mut String, plan: &Plan, world: &World, number: usize) -> Result<(), AllocError>
     ensures { Pushes result text.old text.new (seen.wait_seen plan.now world.now.view number) }
 {

@@ -19,7 +19,7 @@ pub(crate) fn push_advice(
 {
     match sizes {
         SizesFound::Found { plan: fit, .. } => push_reasons(text, plan, fit),
-        SizesFound::NotFound(cause) => push_advice_for_cause(text, *cause),
+        SizesFound::NotFound(cause) => text.push_str(advice_for_cause(*cause)),
     }
 }
 
@@ -74,23 +74,24 @@ fn push_queue(text: &mut String, declared: &Pool, fit: &Pool) -> Result<(), Allo
     )
 }
 
-/// Appends the advice that belongs to `cause`, which is the reason why no sizes were found.
-fn push_advice_for_cause(text: &mut String, cause: NoSizes) -> Result<(), AllocError>
-    ensures { Pushes result text.old text.new (spec.cause_advice_text cause) }
+/// Returns the advice that belongs to `cause`, which is the reason why no sizes were found. The
+/// advice is a line.
+fn advice_for_cause(cause: NoSizes) -> &'static str
+    ensures { result.now ≡ spec.cause_advice_text cause }
 {
     match cause {
-        NoSizes::Cause(Cause::Circle(_)) => text.push_str(
-            "no certificate accepts any sizes while jobs submit jobs of their own class: write the levels as classes of their own\n",
-        ),
-        NoSizes::Cause(Cause::ClientNeverGets(_, _) | Cause::ClassNeverGets(_, _)) => text.push_str(
-            "no certificate accepts any sizes as long as these jobs are never got: get the result, or bound them by permits (docs/PERMITS.md)\n",
-        ),
-        NoSizes::Cause(Cause::PoolWaitsForItself(_)) => text.push_str(
-            "no certificate accepts any sizes while core threads of this pool may time out: do not allow it (Spring Boot: spring.task.execution.pool.allow-core-thread-timeout=false), or give the inner jobs a pool of their own\n",
-        ),
-        NoSizes::TooLarge(_) => text.push_str(
-            "fewer clients, or bodies with fewer open jobs at a time, need less\n",
-        ),
+        NoSizes::Cause(Cause::Circle(_)) => {
+            "no certificate accepts any sizes while jobs submit jobs of their own class: write the levels as classes of their own\n"
+        }
+        NoSizes::Cause(Cause::ClientNeverGets(_, _) | Cause::ClassNeverGets(_, _)) => {
+            "no certificate accepts any sizes as long as these jobs are never got: get the result, or bound them by permits (docs/PERMITS.md)\n"
+        }
+        NoSizes::Cause(Cause::PoolWaitsForItself(_)) => {
+            "no certificate accepts any sizes while core threads of this pool may time out: do not allow it (Spring Boot: spring.task.execution.pool.allow-core-thread-timeout=false), or give the inner jobs a pool of their own\n"
+        }
+        NoSizes::TooLarge(_) => {
+            "fewer clients, or bodies with fewer open jobs at a time, need less\n"
+        }
     }
 }
 

@@ -1,4 +1,4 @@
-use Rattle.std.proofs.Common.{◌≡◌, ap, ◌∙◌, get_or, refl}
+use Rattle.std.proofs.Common.{ap, ◌∙◌, get_or, refl}
 use Rattle.serde_json.specs.Data.{array}
 use Rattle.serde_json.specs.View.{items_of}
 use Rattle.job_bodies.specs.declared.action.Action.TheVariants.{Work}
@@ -8,7 +8,7 @@ use Rattle.report.proofs.json_bodies.body_value.Goals as goal
 
 pub loop-number-preserved : goal.loop-number-preserved
 loop-number-preserved c =
-    value_more (action_entry c.args.plan.now c.args.places.now c.args.index c.args.body.now) c.args.body.now c.loop-number.number (Work 0) (get_or c.args.body.now c.loop-number.number (Work 0)) _ _ _ _ c.loop-number-test.true refl c.in_ok-push.ensures.items c.in_ok-value.ensures c.loop-number.invariant
+    value_more (action_entry c.args.plan.now c.args.places.now c.args.index c.args.body.now) c.args.body.now c.loop-number.number (Work 0) (get_or c.args.body.now c.loop-number.number (Work 0)) c.loop-number.values.items c.push_value.new.values.items c.action_entry-value.result _ c.loop-number-test.true refl c.in_ok-push_value.ensures c.action_entry-value.ensures c.loop-number.invariant
 
 pub returns : goal.returns
 returns c =

@@ -1,4 +1,4 @@
-use Rattle.std.proofs.Common.{◌≡◌, ap, ◌∙◌}
+use Rattle.std.proofs.Common.{ap, ◌∙◌}
 use Rattle.serde_json.specs.Data.{array}
 use Rattle.serde_json.specs.View.{items_of}
 use Rattle.report.specs.JsonPlan.{client_entry}
@@ -7,7 +7,7 @@ use Rattle.report.proofs.json_plan.clients_value.Goals as goal
 
 pub loop-number-preserved : goal.loop-number-preserved
 loop-number-preserved c =
-    value_more (client_entry c.args.plan.now c.args.places.now) c.args.clients.now c.loop-number.number c.index-clients-number.result c.index-clients-number.result _ _ _ _ c.loop-number-test.true c.index-clients-number.is c.in_ok-push.ensures.items c.in_ok-value.ensures c.loop-number.invariant
+    value_more (client_entry c.args.plan.now c.args.places.now) c.args.clients.now c.loop-number.number c.index-clients-number.result c.index-clients-number.result c.loop-number.values.items c.push_value.new.values.items c.client_entry.result _ c.loop-number-test.true c.index-clients-number.is c.in_ok-push_value.ensures c.client_entry.ensures c.loop-number.invariant
 
 pub returns : goal.returns
 returns c =

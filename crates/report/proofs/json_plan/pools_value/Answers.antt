@@ -1,4 +1,4 @@
-use Rattle.std.proofs.Common.{◌≡◌, ap, ◌∙◌}
+use Rattle.std.proofs.Common.{ap, ◌∙◌}
 use Rattle.serde_json.specs.Data.{array}
 use Rattle.serde_json.specs.View.{items_of}
 use Rattle.report.specs.JsonPlan.{pool_entry}
@@ -7,7 +7,7 @@ use Rattle.report.proofs.json_plan.pools_value.Goals as goal
 
 pub loop-number-preserved : goal.loop-number-preserved
 loop-number-preserved c =
-    value_more (pool_entry c.args.places.now) c.args.pools.now c.loop-number.number c.index-pools-number.result c.index-pools-number.result _ _ _ _ c.loop-number-test.true c.index-pools-number.is c.in_ok-push.ensures.items c.in_ok-value.ensures c.loop-number.invariant
+    value_more (pool_entry c.args.places.now) c.args.pools.now c.loop-number.number c.index-pools-number.result c.index-pools-number.result c.loop-number.values.items c.push_value.new.values.items c.pool_entry.result _ c.loop-number-test.true c.index-pools-number.is c.in_ok-push_value.ensures c.pool_entry.ensures c.loop-number.invariant
 
 pub returns : goal.returns
 returns c =

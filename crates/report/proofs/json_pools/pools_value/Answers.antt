@@ -11,7 +11,7 @@ loop-number-preserved c =
     let early : c.loop-number.number < length plan.pools = rw (← c.pools-pool-items.ensures.value) c.loop-number-test.true in
     let x = c.pool-item.result in
     let there : x ≡ get_or plan.pools c.loop-number.number x = rw (← c.pools-pool-items.ensures.value) c.pool-item.is in
-    value_more (pool_entry plan c.args.parts.now c.args.rejections.now) plan.pools c.loop-number.number x x _ _ _ _ early there c.in_ok-push.ensures.items c.in_ok-value.ensures c.loop-number.invariant
+    value_more (pool_entry plan c.args.parts.now c.args.rejections.now) plan.pools c.loop-number.number x x c.loop-number.values.items c.push_value.new.values.items c.pool_entry-value.result _ early there c.in_ok-push_value.ensures c.pool_entry-value.ensures c.loop-number.invariant
 
 pub returns : goal.returns
 returns c =

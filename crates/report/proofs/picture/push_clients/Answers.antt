@@ -1,4 +1,3 @@
-use Rattle.std.proofs.Common.{◌≡◌, ◌<◌}
 use Rattle.report.specs.Picture.{client_node}
 use Rattle.report.proofs.Rows.{part_more}
 use Rattle.report.proofs.picture.push_clients.Goals as goal

@@ -1,4 +1,4 @@
-use Rattle.std.proofs.Common.{◌≡◌, ◌≤◌, ◌<◌, ◌+◌, ◌*◌, length, get_or, slice_get, Some, ap, arith}
+use Rattle.std.proofs.Common.{◌≡◌, ◌≤◌, ◌<◌, ◌*◌, length, get_or, slice_get, Some, ap, arith}
 use Rattle.std.proofs.lemmas.Nat.{mul-le}
 use Rattle.support.proofs.Loops.{at_index}
 use Rattle.job_bodies.specs.declared.limits.TheConstants.{MAX_THREADS, MAX_WEIGHT}

@@ -1,4 +1,4 @@
-use Rattle.std.proofs.Common.{◌≡◌, ◌<◌, ◌∷◌, length, ap, ◌∙◌, sym, arith, List}
+use Rattle.std.proofs.Common.{◌≡◌, ◌∷◌, length, ap, ◌∙◌, sym, arith, List}
 use Rattle.std.specs.Prelude.{flat_map, string_bytes, ◌++◌}
 use Rattle.std.specs.List.{enumerate_from}
 use Rattle.job_bodies.specs.Plan.{Pool}
