@@ -26,9 +26,9 @@ use Rattle.sizing_cli.proofs.FittedAnswers.{bad_text_is_not_done}
 
 -- a plan with a finding of status 0 is safe
 found_safe : (options : AskOptions) (source : PlanSource) (text : List ℕ) (plan : Plan) (given : Option Cert) (left : Option (List ℕ)) (answer : Answer) → plan_of text ≡ Ok plan → AnswersPlan options source plan given left answer → answer.status ≡ Done → IsSafePlan text
-found_safe options source text plan given left answer is_plan answers done = by_finding answers.finding answers.is_finding (sym answers.answers.status ∙ done)
+found_safe options source text plan given left answer is_plan answers done = by_finding answers.finding answers.is_finding (sym answers.reported.answers.status ∙ done)
   where
-    by_finding : (finding : PlanFinding) → IsFinding plan finding → status_of options.strict answers.answers.warnings finding ≡ Done → IsSafePlan text
+    by_finding : (finding : PlanFinding) → IsFinding plan finding → status_of options.strict answers.reported.answers.warnings finding ≡ Done → IsSafePlan text
     by_finding (Safe cert rejections) is_safe is_done = record {
       plan = plan;
       is_plan = is_plan;

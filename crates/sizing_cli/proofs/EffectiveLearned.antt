@@ -1,5 +1,5 @@
 -- A learned plan is its own effective plan.
-use Rattle.std.proofs.Common.{◌≡◌, List, map, sym, ap, subst}
+use Rattle.std.proofs.Common.{◌≡◌, List, sym, ap, subst}
 use Rattle.job_bodies.specs.Plan.{Pool, Plan}
 use Rattle.plan_text.specs.EffectivePlan.{effective_plan}
 use Rattle.recordings.specs.RecordingLine.{RecordedLine}

@@ -10,7 +10,6 @@ pub mod FittedAnswers
 mod EffectiveLearned
 pub mod AsDeclared
 pub mod RefutedAnswers
-mod SearchedPlans
 mod ConformedAnswers
 mod LearnedAnswers
 pub mod ServedAnswers

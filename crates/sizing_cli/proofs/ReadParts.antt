@@ -1,5 +1,5 @@
 -- What is written in answer to the part of an input that was read is an answer to the whole input.
-use Rattle.std.proofs.Common.{◌≡◌, ℕ, ◌+◌, inl, inr, List, take, Option, Some, None, Result, Ok, Err, IfSome, IfOk, refl, subst, arith}
+use Rattle.std.proofs.Common.{◌≡◌, ℕ, ◌+◌, inl, inr, List, take, Option, Some, None, Result, Ok, Err, IfSome, refl, subst, arith}
 use Rattle.std.proofs.lemmas.Bool.{ne_eqb}
 use Rattle.clap.specs.Words.{Text}
 use Rattle.byte_streams.specs.Reading.{ConsumesAtMost}

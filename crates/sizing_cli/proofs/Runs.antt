@@ -1,6 +1,7 @@
 -- The answer and the fault of a run of a plan with a certificate that accepts it.
-use Rattle.std.proofs.Common.{◌≡◌, ℕ, Bool, true, false, inl, inr, Result, Ok, Err, IfOk, refl, subst, ap, ◌∙◌, arith}
-use Rattle.std.specs.Prelude.{◌==◌}
+use Rattle.std.proofs.Common.{◌≡◌, ℕ, Bool, true, false, inl, inr, Some, Result, Ok, Err, IfOk, refl, subst, ap, ◌∙◌, arith}
+use Rattle.std.specs.Prelude.{◌==◌, IsOk}
+use Rattle.std.specs.Result.{result_ok}
 use Rattle.support.specs.declared.number.TheConstants.{RUN_TOO_LARGE}
 use Rattle.locked_runner.specs.declared.report.RunFault.{RunFault}
 use Rattle.locked_runner.specs.Faults.{IsFaultOf}
@@ -13,11 +14,14 @@ use Rattle.sizing_cli.specs.declared.status.ServeFault.{ServeFault}
 use Rattle.sizing_cli.specs.Answer.{Answer}
 use Rattle.sizing_cli.specs.Report.{run_of_cert, run_of_accepted}
 
-pub run_of_certified : (plan : Plan) (cert : Cert) (rounds : ℕ) (certified : Certified) (result : Result Answer ServeFault) → certified ≡ record { plan = plan; cert = cert } → accepted plan cert ≡ true
+pub run_of_certified : {E : Type 0} (plan : Plan) (cert : Cert) (rounds : ℕ) (checked : Result Certified E) (certified : Certified) (result : Result Answer ServeFault) → Some certified ≡ result_ok checked
+    → IfOk checked (λ c. c ≡ record { plan = plan; cert = cert }) → (IsOk checked → accepted plan cert ≡ true)
     → IfOk result (λ answer. answer ≡ run_of_accepted certified.plan certified.cert rounds) → IfOk result (λ answer. answer ≡ run_of_cert plan rounds (Ok cert))
-run_of_certified plan cert rounds certified (Err fault) is fits ran = tt
-run_of_certified plan cert rounds certified (Ok answer) is fits ran =
-    rw fits (ran ∙ ap (λ (c : Certified). run_of_accepted c.plan c.cert rounds) is)
+run_of_certified plan cert rounds (Err back) certified result none same fits ran = absurd cc
+run_of_certified plan cert rounds (Ok checked) certified (Err fault) some same fits ran = tt
+run_of_certified plan cert rounds (Ok checked) certified (Ok answer) some same fits ran =
+    let is : certified ≡ checked = cc in
+    rw (fits refl) (ran ∙ ap (λ (c : Certified). run_of_accepted c.plan c.cert rounds) (is ∙ same))
 
 -- fault 40 occurs only if the plan is too large
 pub too_large_if_reported : (large : Bool) (fault : RunFault) → IsFaultOf large fault → fault.number ≡ RUN_TOO_LARGE → large ≡ true

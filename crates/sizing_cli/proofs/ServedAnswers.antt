@@ -31,7 +31,7 @@ use Rattle.sizing_cli.specs.Refute as refute
 use Rattle.sizing_cli.specs.Bundle.{first_bundle_of, whole_lines}
 use Rattle.sizing_cli.specs.Conform.{AnswersBundle}
 use Rattle.sizing_cli.specs.Learn.{AnswersLines}
-use Rattle.sizing_cli.specs.CommandResult.{IsAnswer, IsRecordingAnswer, IsTaskAnswer, WritesAnswer, WritesPrefix, MeansSafe, ServesInput, StreamChange}
+use Rattle.sizing_cli.specs.CommandResult.{IsAnswer, IsRecordingAnswer, IsTaskAnswer, WritesAnswer, MeansSafe, ServesInput, StreamChange}
 use Rattle.sizing_cli.specs.declared.status.ServeFault.{ServeFault}
 use Rattle.sizing_cli.specs.ServeFault.{count_of, is_known_of}
 use Rattle.support.specs.declared.number.TheConstants.{WRITE_FAILED}

@@ -221,16 +221,21 @@ certificate_of_output answer = option_map (λ text. text.items) answer.certifica
 
 -- ---- answers to an input
 
+-- The answer reports this finding about the plan. `stale` is true if the given certificate is stale. `left` is the text of the
+-- finding's certificate.
+pub record ReportsPlan (options : AskOptions) (source : PlanSource) (plan : Plan) (finding : PlanFinding) (stale : Bool) (left : Option (List ℕ)) (answer : Answer) : Type 0 where
+  pub lowered : Option LoweredPlan
+  pub is_lowered : IsLowered plan finding lowered
+  pub answers : AnswersFinding options source plan finding lowered stale answer
+  pub leaves : IsFindingCertificate plan finding left
+
 -- The answer reports a finding that is true of the plan. If the given certificate accepts the plan, the finding is based on it.
 -- `left` is the text of the finding's certificate.
 pub record AnswersPlan (options : AskOptions) (source : PlanSource) (plan : Plan) (given : Option Cert) (left : Option (List ℕ)) (answer : Answer) : Type 0 where
   pub finding : PlanFinding
   pub is_finding : IsFinding plan finding
   pub rests : RestsOnGiven plan given finding
-  pub lowered : Option LoweredPlan
-  pub is_lowered : IsLowered plan finding lowered
-  pub answers : AnswersFinding options source plan finding lowered (is_stale plan given) answer
-  pub leaves : IsFindingCertificate plan finding left
+  pub reported : ReportsPlan options source plan finding (is_stale plan given) left answer
 
 abbrev pub AnswersCert : AskOptions → PlanSource → Plan → Result Cert CertFault → Option (List ℕ) → Answer → Type 0
 AnswersCert options source plan (Err f) left answer = (left ≡ None) × AnswersCertFault options.form source f answer

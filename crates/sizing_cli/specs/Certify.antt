@@ -13,8 +13,6 @@ use Rattle.size_search.specs.declared.found.SizesFound.{SizesFound}
 use Rattle.report.specs.Finding.{IsOpen}
 use Rattle.cert_check.specs.Verdict.{Verdict}
 use Rattle.cert_check.specs.Check.{checked, IsSafeToRun}
-use Rattle.sizing_cli.specs.declared.certify.CertificateSearch.{CertificateSearch}
-use Rattle.sizing_cli.specs.declared.certify.CertificateSearch.TheVariants.{Text, NotFound, TooLong}
 use Rattle.sizing_cli.specs.declared.status.Status.TheVariants.{Done, Refused}
 use Rattle.sizing_cli.specs.Answer.{Answer, fault, input_too_long}
 use Rattle.sizing_cli.specs.Bundle.{bundle_of, whole_lines}
@@ -62,6 +60,11 @@ abbrev pub IsLineOf : Cert → Option (List ℕ) → Type 0
 IsLineOf cert (Some line) = line ≡ cert_text cert ++ 10 ∷ []
 IsLineOf cert None = HasLongText cert
 
+-- the text is that of a certificate (`IsCertLine`), and the plan's text has no fault
+abbrev pub IsCertLineFor : Result Plan PlanFault → List ℕ → Type 0
+IsCertLineFor (Err f) text = ⊥
+IsCertLineFor (Ok plan) text = IsCertLine text
+
 -- a certificate accepts the plan, and its text is too long
 pub record IsTooLong (plan : Plan) : Type 0 where
   pub cert : Cert
@@ -73,20 +76,6 @@ pub record IsTooLong (plan : Plan) : Type 0 where
 pub record IsUncertified (plan : Plan) : Type 0 where
   pub sizes : SizesFound
   pub is_open : IsOpen plan sizes
-
--- The possible results of a search for a certificate of the plan. `Text` is the text of a certificate with a newline. If the
--- result is `NotFound`, `IsUncertified` holds. If it is `TooLong`, a certificate accepts the plan, but its text is too long.
-abbrev pub IsFoundFor : Plan → CertificateSearch → Type 0
-IsFoundFor plan (Text line) = IsCertLine line.items
-IsFoundFor plan NotFound = IsUncertified plan
-IsFoundFor plan TooLong = IsTooLong plan
-
--- the possible results of a search for the plan that a text describes; if the text has a fault, the result is this fault
-abbrev pub IsSearched : Result Plan PlanFault → Result CertificateSearch PlanFault → Type 0
-IsSearched (Ok plan) (Ok found) = IsFoundFor plan found
-IsSearched (Err fault) (Err reported) = reported ≡ fault
-IsSearched (Ok plan) (Err reported) = ⊥
-IsSearched (Err fault) (Ok found) = ⊥
 
 -- The possible answers for a plan's text. The answer can be a bundle with a certificate. It can also say that the certificate's
 -- text is too long (`IsTooLong`), or that no certificate was found (`IsUncertified`).

@@ -10,7 +10,7 @@ use Rattle.sizing_cli.specs.ServeFault.{is_known_of}
 use Rattle.sizing_cli.specs.CommandResult.{WritesAnswer, WritesPrefix}
 use Rattle.sizing_cli.specs.declared.status.Status.{Status}
 use Rattle.sizing_cli.specs.SavedCertificate.{is_replaceable}
-use Rattle.sizing_cli.specs.Texts.{IsBundleNamed, file_named, name_or_none}
+use Rattle.sizing_cli.specs.Texts.{IsBundleNamed, file_named, name_or_none, splits_at_first}
 use Rattle.sizing_cli.specs.declared.fault.CliError.{CliError}
 use Rattle.sizing_cli.specs.declared.fault.CliError.TheVariants.{Words, NoCommand, InputTwice, Bundle, Unread, CertificateNeedsFile, Directory, Occupied, Unwritten, Serve}
 
@@ -71,6 +71,19 @@ IsOfFile file (Unread name) = name.now ≡ file
 IsOfFile file (Serve fault) = fault.number ≡ MEMORY
 IsOfFile file error = ⊥
 
+-- a possible error of reading the named file, or standard input if no file is named
+abbrev pub IsOfNamed : (Text → Option (List ℕ)) → Option Text → CliError → Type 0
+IsOfNamed content named (Unread name) = (file_named named ≡ Some name.now) × (content name.now ≡ None)
+IsOfNamed content named (Serve fault) = IsTrue (is_of_reading fault.number)
+IsOfNamed content named error = ⊥
+
+-- a possible error of reading the two named texts
+abbrev pub IsOfPair : (Text → Option (List ℕ)) → Option Text → Text → CliError → Type 0
+IsOfPair content first second InputTwice = IsTwice (first, Some second)
+IsOfPair content first second (Unread name) = IsNamed (first, Some second) name.now × (content name.now ≡ None)
+IsOfPair content first second (Serve fault) = IsTrue (is_of_reading fault.number)
+IsOfPair content first second error = ⊥
+
 -- a possible fault of a command that reads these files
 abbrev pub IsOfTexts : Command → Option Text × Option Text → CliError → Type 0
 IsOfTexts command files InputTwice = IsTwice files
@@ -120,6 +133,16 @@ IsBundled command content input files error = Unit {0}
 abbrev pub IsOfBundle : Option Text → List ℕ → CliError → Type 0
 IsOfBundle named text (Bundle name) = (name.now ≡ name_or_none (file_named named)) × (is_some (bundle_of text) ≡ true)
 IsOfBundle named text error = ⊥
+
+-- One of the two texts is a bundle, and the error has the name of this text. The text is not the recording of `conform`.
+abbrev pub IsOfBundles : Command → Option Text → List ℕ → Text → List ℕ → CliError → Type 0
+IsOfBundles command first plan second behind error =
+    IsOfBundle first plan error ⊎ ((splits_at_first command ≡ false) × IsOfBundle (Some second) behind error)
+
+-- a possible error of reading the two named texts and joining them
+abbrev pub IsOfBoth : Command → (Text → Option (List ℕ)) → Option (List ℕ) → Option Text → Text → CliError → Type 0
+IsOfBoth command content input first second (Bundle name) = IsNamedAs (first, Some second) name.now × IsBundleNamed command content input (first, Some second) name.now
+IsOfBoth command content input first second error = IsOfPair content first second error
 
 -- a possible error of the check that a certificate may be written to the named file
 abbrev pub IsOfReplacing : Option Text → CliError → Type 0

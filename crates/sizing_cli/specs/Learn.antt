@@ -143,6 +143,16 @@ pub record IsLearned (strict : Bool) (recording : List ℕ) (answer : Answer) : 
 abbrev pub not_learned : InferenceLimit → Answer
 not_learned reason = record { text = codes "no plan was learned: " ++ inference_limit_text reason ++ 10 ∷ []; status = Refused }
 
+-- The answer has the text of this plan. For `--strict`, it has the findings instead, if there are any.
+pub record IsOfPlan (strict : Bool) (seen : InferredPlan) (plan : Plan) (rejections : List PoolRejections) (findings : List Finding) (answer : Answer) : Type 0 where
+  pub text : List ℕ
+  pub is_text : IsTextOf seen plan rejections findings text
+  pub answer_is : answer ≡ learned_answer strict text plan findings
+
+-- the possible answers for a plan that was compared with the recording
+abbrev pub AnswersComparison : Bool → InferredPlan → Plan → List PoolRejections → List Finding → Answer → Type 0
+AnswersComparison strict seen plan rejections findings answer = (answer ≡ not_learned Text) ⊎ IsOfPlan strict seen plan rejections findings answer
+
 -- The recording is well-formed, and the answer is that no plan was learned, with a reason. The reason is `Text`, `Paths`, or
 -- one for which `IsReason` holds. This definition does not say when the reason is `Text` or `Paths`.
 pub record IsNotLearned (recording : List ℕ) (answer : Answer) : Type 0 where

@@ -54,7 +54,6 @@ use std::thread::Threads;
 /// - If the sink failed, a prefix of the answer was written.
 /// - If the certificate file could not be written, the whole answer was written.
 /// - After any other failure, nothing was written.
-#[tactic(auto, using(crate::proofs::SavedTexts::no_writes, crate::proofs::SavedTexts::texts_untouched, crate::proofs::SavedTexts::calm_untouched))]
 pub fn serve_words<'a, R: Threads + Wait + Sync, F: TextFiles, S: Source, K: Sink>(
     rt: &R,
     alloc: Global,

@@ -3,6 +3,7 @@
 ghost use Rattle.std.specs.Prelude.{◌≡◌, IfOk, IfErr, IsTrue, None, option_map};
 ghost use Rattle.plan_text.specs.PlanOf.{plan_of};
 ghost use Rattle.cert_text.specs.CertOf.{cert_of};
+ghost use Rattle.report.specs.Finding.{IsFinding};
 ghost use Rattle.sizing_cli.specs.Ask as spec;
 ghost use Rattle.sizing_cli.specs.ServeFault.{is_of_search};
 
@@ -17,6 +18,7 @@ use crate::lowered_plan::lowered_plan;
 use cert_text::Cert;
 use command_line::{AskInput, AskOptions};
 use job_bodies::{MAX_INPUT_BYTES, Plan};
+use report::PlanFinding;
 use std::alloc::Global;
 use std::sync::Wait;
 use std::thread::Threads;
@@ -181,14 +183,35 @@ fn ask_found<R: Threads + Wait + Sync>(
     ensures fault { IfErr result (λ fault. IsTrue (is_of_search fault.number)) }
 {
     let (finding, is_stale) = finding_of(rt, alloc, plan, cert)?;
-    let lowered = lowered_plan(rt, alloc, plan, &finding)?;
+    ask_about(rt, alloc, options, file, text, plan, &finding, is_stale)
+}
+
+/// Returns the answer of `ask` for this finding about the plan. `is_stale` is true if a certificate
+/// was given and does not accept the plan.
+fn ask_about<R: Threads + Wait + Sync>(
+    rt: &R,
+    alloc: Global,
+    options: AskOptions,
+    file: &str,
+    text: &[u8],
+    plan: &Plan,
+    finding: &PlanFinding,
+    is_stale: bool,
+) -> Result<AskOutput, ServeFault>
+    requires { IsFinding plan.now finding.now }
+    ensures answer { IfOk result
+        (λ answer. spec.ReportsPlan options (spec.source_of file.now text.now) plan.now finding.now is_stale
+        (spec.certificate_of_output answer) answer.output) }
+    ensures fault { IfErr result (λ fault. IsTrue (is_of_search fault.number)) }
+{
+    let lowered = lowered_plan(rt, alloc, plan, finding)?;
     let answer = answer_of(
         alloc,
         options,
         file,
         text,
         plan,
-        &finding,
+        finding,
         lowered.as_ref(),
         is_stale,
     )?;

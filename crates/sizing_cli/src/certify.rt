@@ -1,7 +1,7 @@
 //! The `certify` command: searches for a certificate, and writes the bundle of the plan and the
 //! certificate.
 
-ghost use Rattle.std.specs.Prelude.{◌≡◌, ◌≤◌, IfOk, IfErr, IsTrue, length};
+ghost use Rattle.std.specs.Prelude.{◌≡◌, ◌≤◌, ℕ, IfOk, IfErr, IsTrue, List};
 ghost use Rattle.job_bodies.specs.declared.limits.TheConstants.{MAX_WORKERS};
 ghost use Rattle.plan_text.specs.PlanOf.{plan_of};
 ghost use Rattle.sizing_cli.specs.Certify as spec;
@@ -13,19 +13,10 @@ use crate::bundle::whole_lines;
 use crate::certificate::{certificate_line, certificate_of};
 use crate::certified_bundle::certified_bundle;
 use crate::input::plan_in;
-use job_bodies::{MAX_INPUT_BYTES, Plan, PlanFault};
+use job_bodies::{MAX_INPUT_BYTES, Plan};
 use std::alloc::{AllocError, Global};
 use std::sync::Wait;
 use std::thread::Threads;
-
-/// The result of the search for a certificate.
-enum CertificateSearch {
-    /// The text of a certificate, with a newline at its end.
-    Text(Vec<u8>),
-    NotFound,
-    /// A certificate was found, but its text would be too long to be read back.
-    TooLong,
-}
 
 /// Searches for a certificate for the plan in `input`. Returns the bundle of the plan and the
 /// certificate, after `check` accepted the bundle. Returns the reason instead in these cases: the
@@ -54,32 +45,32 @@ pub fn certify<R: Threads + Wait + Sync>(
         return Ok(Output::of(input_too_long(alloc)?));
     }
     let text = whole_lines(input)?;
-    let found = search_text(rt, alloc, workers, &text)?;
-    match found {
-        Ok(CertificateSearch::Text(cert)) => certified_bundle(rt, alloc, workers, text, cert),
-        Ok(CertificateSearch::NotFound) => Ok(Output::of(none_found(alloc)?)),
-        Ok(CertificateSearch::TooLong) => Ok(Output::of(text_too_long(alloc)?)),
-        Err(fault) => Ok(Output::of(plan_fault(alloc, fault)?)),
+    match search_text(rt, alloc, workers, &text)? {
+        Ok(cert) => certified_bundle(rt, alloc, workers, text, cert),
+        Err(answer) => Ok(Output::of(answer)),
     }
 }
 
-/// Parses the plan in `text`, and searches for a certificate that accepts the plan. If the text has
-/// a fault, returns the first fault. The plan is freed before the function returns, so its memory
-/// is free when the bundle is checked.
+/// Parses the plan in `text`, and searches for a certificate that accepts the plan. Returns the
+/// text of the certificate with a newline at its end, or the answer that says why there is none.
+/// The plan is freed before the function returns, so its memory is free when the bundle is checked.
 fn search_text<R: Threads + Wait + Sync>(
     rt: &R,
     alloc: Global,
     workers: usize,
     text: &[u8],
-) -> Result<Result<CertificateSearch, PlanFault>, ServeFault>
+) -> Result<Result<Vec<u8>, Answer>, ServeFault>
     requires some { 1 ≤ workers }
     requires most { workers ≤ MAX_WORKERS }
-    ensures found { IfOk result (spec.IsSearched (plan_of text.now)) }
+    ensures line { IfOk result
+        (λ found. IfOk found (λ line. spec.IsCertLineFor (plan_of text.now) line.items)) }
+    ensures none { IfOk result
+        (λ found. IfErr found (spec.AnswersReading text.now (plan_of text.now))) }
     ensures fault { IfErr result (λ fault. IsTrue (is_of_search fault.number)) }
 {
     match plan_in(alloc, text)? {
-        Ok(plan) => Ok(Ok(found_text(rt, alloc, workers, &plan)?)),
-        Err(fault) => Ok(Err(fault)),
+        Ok(plan) => found_text(rt, alloc, workers, &plan),
+        Err(fault) => Ok(Err(plan_fault(alloc, fault)?)),
     }
 }
 
@@ -88,18 +79,20 @@ fn found_text<R: Threads + Wait + Sync>(
     alloc: Global,
     workers: usize,
     plan: &Plan,
-) -> Result<CertificateSearch, ServeFault>
+) -> Result<Result<Vec<u8>, Answer>, ServeFault>
     requires some { 1 ≤ workers }
     requires most { workers ≤ MAX_WORKERS }
-    ensures found { IfOk result (spec.IsFoundFor plan.now) }
+    ensures line { IfOk result (λ found. IfOk found (λ line. spec.IsCertLine line.items)) }
+    ensures none { IfOk result
+        (λ found. IfErr found (λ answer. (text : List ℕ) → spec.AnswersPlan text plan.now answer)) }
     ensures fault { IfErr result (λ fault. IsTrue (is_of_search fault.number)) }
 {
     let Some(cert) = certificate_of(rt, alloc, workers, plan)? else {
-        return Ok(CertificateSearch::NotFound);
+        return Ok(Err(none_found(alloc)?));
     };
     match certificate_line(alloc, &cert)? {
-        Some(text) => Ok(CertificateSearch::Text(text)),
-        None => Ok(CertificateSearch::TooLong),
+        Some(text) => Ok(Ok(text)),
+        None => Ok(Err(text_too_long(alloc)?)),
     }
 }
 

@@ -122,7 +122,7 @@ fn status_of(findings: &[Finding]) -> Status
 fn are_undecided(findings: &[Finding]) -> bool
     ensures { result ≡ list_all spec.is_undecided findings.now }
 {
-    findings.iter().all(|finding| is_undecided(finding))
+    findings.iter().all(is_undecided)
 }
 
 fn is_undecided(finding: &Finding) -> bool

@@ -111,12 +111,27 @@ fn plan_answer(
     if are_of_actors(&findings) {
         return Ok(None);
     }
-    match commented_plan(alloc, seen, &plan, &rejections, &findings)? {
-        Some(text) => {
-            let answer = learned_answer(alloc, strict, text, &plan, &findings)?;
-            Ok(Some(answer))
-        }
-        None => Ok(Some(not_learned(alloc, InferenceLimit::Text)?)),
+    let answer = compared_answer(alloc, strict, seen, &plan, &rejections, &findings)?;
+    Ok(Some(answer))
+}
+
+/// Returns the answer for a derived plan that explains the recording: the text of the plan, the
+/// list of differences, or the message that the text would be too long.
+fn compared_answer(
+    alloc: Global,
+    strict: bool,
+    seen: &InferredPlan,
+    plan: &Plan,
+    rejections: &[PoolRejections],
+    findings: &[Finding],
+) -> Result<Answer, AllocError>
+    requires { effective_plan plan.now ≡ plan.now }
+    ensures { IfOk result
+        (spec.AnswersComparison strict seen.now plan.now rejections.now findings.now) }
+{
+    match commented_plan(alloc, seen, plan, rejections, findings)? {
+        Some(text) => learned_answer(alloc, strict, text, plan, findings),
+        None => not_learned(alloc, InferenceLimit::Text),
     }
 }
 

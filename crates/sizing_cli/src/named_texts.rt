@@ -3,11 +3,10 @@
 
 ghost use Rattle.std.specs.Prelude.{◌≡◌, ◌+◌, IfOk, IfErr, IfSome, None, Some, false, option_map, take};
 ghost use Rattle.command_line.specs.Command.{files_of_cli};
-ghost use Rattle.command_line.specs.declared.command.Command.{Command as CommandValue};
 ghost use Rattle.support.specs.declared.number.TheConstants.{READ_FAILED};
 ghost use Rattle.sizing_cli.specs.Bundle.{bundle_of};
 ghost use Rattle.sizing_cli.specs.Texts as spec;
-ghost use Rattle.sizing_cli.specs.CliError.{IsBundled, IsOfBundle, IsOfFile, IsOfReading, IsOfTexts, IsUnreadable, count_in, is_of_sink};
+ghost use Rattle.sizing_cli.specs.CliError.{IsBundled, IsOfBoth, IsOfBundle, IsOfBundles, IsOfFile, IsOfNamed, IsOfPair, IsOfReading, IsOfTexts, IsUnreadable, count_in, is_of_sink};
 
 use crate::bundle::{bundle_of, join_texts};
 use crate::fault::CliError;
@@ -45,10 +44,7 @@ pub(crate) fn read_texts<'a, F: TextFiles, S: Source>(
 {
     match cli.second {
         Some(second) => read_both(alloc, cli.command, files, input, cli.first, second),
-        None => match file_named(cli.first) {
-            Some(name) => read_file(alloc, cli.command, files, name),
-            None => read_input(alloc, cli.command, input),
-        },
+        None => read_named(alloc, cli.command, files, input, cli.first),
     }
 }
 
@@ -70,18 +66,12 @@ fn read_both<'a, F: TextFiles, S: Source>(
         (λ known. text.items ≡ known)) }
     ensures alone { IfOk result (λ _.
         spec.AreAlone command (F.content files.now) (S.remaining input.old) (option_map (λ name. name.now) first.entry, Some second.now)) }
-    ensures bundled { IfErr result
-        (IsBundled command (F.content files.now) (S.remaining input.old) (option_map (λ name. name.now) first.entry, Some second.now)) }
-    ensures fault { IfErr result (λ fault. (any : CommandValue) → IsOfTexts any (option_map (λ name. name.now) first.entry, Some second.now) fault) }
-    ensures before { IfErr result (λ fault. is_of_sink fault ≡ false) }
-    ensures unread { IfErr result (IsUnreadable (F.content files.now)) }
+    ensures fault { IfErr result
+        (IsOfBoth command (F.content files.now) (S.remaining input.old) (option_map (λ name. name.now) first.entry) second.now) }
     ensures read_failed { S.failures input.new ≡ S.failures input.old + count_in READ_FAILED result }
 {
     let (plan, behind) = read_pair(alloc, command, files, input, first, second)?;
-    ensure_alone(first, &plan)?;
-    if !splits_at_first(command) {
-        ensure_alone(Some(second), &behind)?;
-    }
+    ensure_both_alone(command, first, &plan, second, &behind)?;
     Ok(join_texts(plan, &behind)?)
 }
 
@@ -103,28 +93,39 @@ fn read_pair<'a, F: TextFiles, S: Source>(
         IfSome
         (spec.text_named (F.content files.now) (S.remaining input.old) (Some second.now))
         (λ known. pair.1.items ≡ spec.read_part command known)) }
-    ensures bundled { IfErr result
-        (IsBundled command (F.content files.now) (S.remaining input.old) (option_map (λ name. name.now) first.entry, Some second.now)) }
-    ensures fault { IfErr result (λ fault. (any : CommandValue) → IsOfTexts any (option_map (λ name. name.now) first.entry, Some second.now) fault) }
-    ensures before { IfErr result (λ fault. is_of_sink fault ≡ false) }
-    ensures unread { IfErr result (IsUnreadable (F.content files.now)) }
+    ensures fault { IfErr result
+        (IsOfPair (F.content files.now) (option_map (λ name. name.now) first.entry) second.now) }
     ensures read_failed { S.failures input.new ≡ S.failures input.old + count_in READ_FAILED result }
 {
-    match (file_named(first), file_named(Some(second))) {
-        (None, None) => Err(CliError::InputTwice),
-        (Some(first), Some(second)) => {
-            let plan = read_file(alloc, command, files, first)?;
-            Ok((plan, read_file(alloc, command, files, second)?))
-        }
-        (Some(first), None) => {
-            let plan = read_file(alloc, command, files, first)?;
-            Ok((plan, read_input(alloc, command, input)?))
-        }
-        (None, Some(second)) => {
-            let plan = read_input(alloc, command, input)?;
-            Ok((plan, read_file(alloc, command, files, second)?))
-        }
+    if file_named(first).is_none() && file_named(Some(second)).is_none() {
+        return Err(CliError::InputTwice);
     }
+    let plan = read_named(alloc, command, files, input, first)?;
+    Ok((
+        plan,
+        read_named(alloc, command, files, input, Some(second))?,
+    ))
+}
+
+/// Returns an error if one of the two texts has a line `%%`. The recording of `conform` may have
+/// such lines.
+fn ensure_both_alone<'a>(
+    command: Command,
+    first: Option<&'a str>,
+    plan: &[u8],
+    second: &'a str,
+    behind: &[u8],
+) -> Result<(), CliError<'a>>
+    ensures plan { IfOk result (λ _. bundle_of plan.now ≡ None) }
+    ensures behind { IfOk result (λ _. spec.splits_at_first command ≡ false → bundle_of behind.now ≡ None) }
+    ensures bundle { IfErr result
+        (IsOfBundles command (option_map (λ name. name.now) first.entry) plan.now second.now behind.now) }
+{
+    ensure_alone(first, plan)?;
+    if splits_at_first(command) {
+        return Ok(());
+    }
+    ensure_alone(Some(second), behind)
 }
 
 /// Returns an error if `text` has a line `%%`, because the text is then itself a bundle of two
@@ -146,6 +147,28 @@ fn splits_at_first(command: Command) -> bool
     ensures { result ≡ spec.splits_at_first command }
 {
     matches!(command, Command::OnRecording(RecordingCommand::Conform))
+}
+
+/// Reads a text of the command from the file `name`. The name `-` and no name mean standard input.
+fn read_named<'a, F: TextFiles, S: Source>(
+    alloc: Global,
+    command: Command,
+    files: &F,
+    input: &mut S,
+    name: Option<&'a str>,
+) -> Result<Vec<u8>, CliError<'a>>
+    ensures text { IfOk result (λ text.
+        IfSome
+        (spec.text_named (F.content files.now) (S.remaining input.old) (option_map (λ name. name.now) name.entry))
+        (λ known. text.items ≡ spec.read_part command known)) }
+    ensures fault { IfErr result (IsOfNamed (F.content files.now) (option_map (λ name. name.now) name.entry)) }
+    ensures unchanged { IfSome (spec.file_named (option_map (λ name. name.now) name.entry)) (λ _. input.new ≡ input.old) }
+    ensures read_failed { S.failures input.new ≡ S.failures input.old + count_in READ_FAILED result }
+{
+    match file_named(name) {
+        Some(name) => read_file(alloc, command, files, name),
+        None => read_input(alloc, command, input),
+    }
 }
 
 /// Reads standard input for the command. Reads at most one byte more than the maximum length of the

@@ -40,10 +40,24 @@ fn replay_lines(alloc: Global, plan: &Plan, lines: EventLines<'_>) -> Result<Ans
     ensures { IfOk result (λ answer. answer ≡ replay_of_lines plan.now (all_from 0 lines.entry)) }
 {
     let mut world = World::start(alloc, plan)?;
+    replay_in(alloc, plan, lines, &mut world)
+}
+
+/// Replays the event lines in `world`, which is in the plan's start state.
+fn replay_in(
+    alloc: Global,
+    plan: &Plan,
+    lines: EventLines<'_>,
+    world: &mut World,
+) -> Result<Answer, AllocError>
+    requires few { length lines < 2 ^ 64 }
+    requires started { world.old.view ≡ live_view plan.now (start plan.now) }
+    ensures { IfOk result (λ answer. answer ≡ replay_of_lines plan.now (all_from 0 lines.entry)) }
+{
     let mut answer = Answer::empty(alloc);
     let mut rejected = 0;
-    match push_replies(alloc, plan, lines, &mut world, &mut rejected, &mut answer)? {
-        None => finish(answer, plan, &world, rejected),
+    match push_replies(alloc, plan, lines, world, &mut rejected, &mut answer)? {
+        None => finish(answer, plan, world, rejected),
         Some(bad) => bad_event(alloc, bad),
     }
 }

@@ -72,9 +72,9 @@ fn run_with<R: Threads + Wait + Sync>(
     ensures answer { IfOk result (λ answer. answer ≡ spec.run_of_cert plan rounds (Ok cert)) }
     ensures fault { IfErr result (λ fault. IsTrue (is_of_run fault.number)) }
 {
-    match Certified::check(plan, cert) {
-        Ok(certified) => run_certified(rt, alloc, rounds, &certified),
-        Err(_) => Ok(Answer::no(alloc, "no\n")?),
+    match Certified::check(plan, cert).ok() {
+        Some(certified) => run_certified(rt, alloc, rounds, &certified),
+        None => Ok(Answer::no(alloc, "no\n")?),
     }
 }
 

@@ -1,17 +1,18 @@
-use Rattle.std.proofs.Common.{inl, inr, refl, rules, string_bytes}
-use Rattle.learning.specs.declared.inference_limit.InferenceLimit.TheVariants.{Text}
+use Rattle.std.proofs.Common.{rules}
 use Rattle.conformance.specs.Lines.{lines_of}
 use Rattle.sizing_cli.proofs.EffectiveLearned.{learned_is_effective}
+use Rattle.sizing_cli.proofs.LearnedAnswers.{compared}
 use Rattle.sizing_cli.proofs.learn.plan_answer.Goals as goal
 
-pub commented_plan-requires : goal.commented_plan-requires
-commented_plan-requires c = learned_is_effective c.args.seen.now c.in_ok-plan.plan (lines_of c.args.recording.now) c.requires.seen c.in_ok-plan.ensures
+pub compared_answer-requires : goal.compared_answer-requires
+compared_answer-requires c = learned_is_effective c.args.seen.now c.in_ok-plan.plan (lines_of c.args.recording.now) c.requires.seen c.in_ok-plan.ensures
 
-pub returns-in-Some : goal.returns-in-Some
-returns-in-Some c =
-    inr (inr (record {
+pub returns : goal.returns
+returns c =
+    compared c.args.strict c.args.recording.now c.args.seen.now c.in_ok-plan.plan c.in-Compared.rejections.items c.in-Compared.findings.items c.in_ok-answer.answer c.requires.no_fault
+    (λ of_plan. record {
       no_fault = c.requires.no_fault;
-      text = string_bytes c.in-Some.text;
+      text = of_plan.text;
       learned = record {
         seen = c.args.seen.now;
         is_seen = c.requires.seen;
@@ -25,8 +26,6 @@ returns-in-Some c =
         conforms = search rules;
         is_text = search rules;
       };
-      answer_is = search rules;
-    }))
-
-pub returns : goal.returns
-returns c = inr (inl (record { no_fault = c.requires.no_fault; reason = Text; because = inl refl; answer_is = c.in_ok-not_learned-in-None.ensures }))
+      answer_is = of_plan.answer_is;
+    })
+    (rw (c.deref-2.ensures.value, c.deref-3.ensures.value) at c.in_ok-answer.ensures)
