@@ -34,7 +34,7 @@ def realistic_need(rt):
 
 
 def compile_at_once(rt):
-    """Makes rt run the two compilers of a program in parallel: when a run comes to them, nothing else is left to prove."""
+    """Makes rt run the two compilers of a program in parallel: when a run reaches them, nothing else is left to prove."""
     compile_by, second = rt.Crate.compile_by, {}
 
     def compiled(crate, backend, words, to):
@@ -50,7 +50,7 @@ def compile_at_once(rt):
 def in_lanes(rt, tasks):
     """Runs tasks in parallel and returns what each gave. A task is the keys of those that it waits for, its work, its memory, and a
     call that takes what was given and a number of jobs. Those with the longest chain of work after them start first; mutants come last,
-    one crate after the other, so that an interrupted run has finished some crates."""
+    crate by crate, so that an interrupted run has finished some crates."""
     lanes, memory = side_by_side(rt, CHECK_GIB), 0.85 * rt.free()
     after = chains(tasks)
     turns = {crate: turn for turn, crate in enumerate(dict.fromkeys(key[0] for key in tasks))}
