@@ -1,7 +1,9 @@
 """Checksums of what the results of a crate's mutants depend on, and the file `mutants.lock` that stores them.
 
 A mutant changes one crate. Whether the prover refuses the mutant depends on the sources, definitions, proofs and mutants of that
-crate, on the definitions and public contracts of all its dependencies, and on the toolchain. Comments and layout do not count.
+crate, on those definitions and public contracts of its dependencies that it uses, and on the toolchain. Comments and layout do not
+count. A crate uses what it names, and what the texts of that name; so a new public function below it changes nothing if nothing has
+its name.
 
 The mutants of the headline (checks/headline) are listed like those of a crate. Each of them changes several crates, so their checksum
 covers the sources, definitions and proofs of all crates that have to be proved again.
@@ -61,6 +63,9 @@ def kit():
     return subprocess.run(["rt", "version"], capture_output=True, text=True, check=True).stdout.strip()
 
 
+WORD = re.compile(r"\w+")
+
+
 class Sums:
     """A computation of checksums, which reads the interface of each crate once."""
 
@@ -68,28 +73,33 @@ class Sums:
         self.lines, self.kit, self.interfaces = lines_of_crates(), kit(), {}
 
     def interface(self, crate):
-        """Returns a checksum of the definitions and the public contracts of a crate."""
+        """Returns the definitions and public contracts of a crate: for each, its name, its place and its text."""
         if crate not in self.interfaces:
-            sum = hashlib.sha256()
-            for path, text in texts_below(crate, ("specs", "src")):
-                shown = interface_of(text) if path.endswith(".rt") else code_of(text, path)
-                sum.update(repr((path, shown)).encode())
-            self.interfaces[crate] = sum.hexdigest()
+            files = texts_below(crate, ("specs", "src"))
+            self.interfaces[crate] = [(name, (crate, path), text) for path, text in files for name, text in interface_of(text, path)]
         return self.interfaces[crate]
 
     def of(self, mutants):
         """Returns the checksum of the mutants of a crate or of the headline."""
         crates = crates_of(mutants)
-        sum = hashlib.sha256(repr((self.kit, *(self.lines[crate] for crate in crates))).encode())
+        own = [repr((self.kit, *(self.lines[crate] for crate in crates)))]
         for crate in crates:
-            for path, text in texts_below(crate, ("specs", "src", "proofs")):
-                sum.update(repr((path, code_of(text, path))).encode())
+            own += (repr((path, code_of(text, path))) for path, text in texts_below(crate, ("specs", "src", "proofs")))
         for name, path in sorted(mutants_of(mutants).items()):
             with open(path, encoding="utf-8") as file:
-                sum.update(repr((name, file.read())).encode())
-        for lower in sorted(below(self.lines, crates) - set(crates)):
-            sum.update(repr((lower, self.interface(lower))).encode())
-        return sum.hexdigest()[:16]
+                own.append(repr((name, file.read())))
+        lower = [item for crate in sorted(below(self.lines, crates) - set(crates)) for item in self.interface(crate)]
+        return hashlib.sha256("\n".join([*own, *map(repr, used_of(lower, own))]).encode()).hexdigest()[:16]
+
+
+def used_of(items, texts):
+    """Returns those of these items that the texts use: whose name is in them, or in the text of a used item. An item without a name is
+    used."""
+    words, used = set(WORD.findall("\n".join(texts))), set()
+    while found := [it for it in items if it not in used and (it[0] is None or words.issuperset(WORD.findall(it[0])))]:
+        used.update(found)
+        words.update(word for _, _, text in found for word in WORD.findall(text))
+    return [it for it in items if it in used]
 
 
 def read_lock(text):

@@ -60,6 +60,9 @@ def declared_before(text, end, is_source):
 STRING = re.compile(r'r(#*)".*?"\1|"(?:[^"\\]|\\.)*"', re.S)
 CHARACTER = re.compile(r"'(?:\\(?:u\{[0-9a-fA-F]+\}|x..|.)|[^\\'])'", re.S)
 BODY = re.compile(r"(?m)^( *)((?:pub(?:\([a-z]+\))? )?)(?:const )?fn \w+")
+IMPORT = re.compile(r"(?:ghost |pub(?:\([a-z]+\))? )?(?:use|mod) ")
+# A declaration at the start of a line that is no function, with its name; that of an impl is the name of the type.
+ITEM = re.compile(r"(?:pub(?:\([a-z]+\))? )?(struct|enum|const|static|type|trait|impl)\b(?:<[^>]*>)? ?(?:.*? for )?(\w+)")
 
 
 def code_of(text, path):
@@ -90,34 +93,63 @@ def definition_code(text):
     return "\n".join(line for line in lines if line)
 
 
-def interface_of(text):
-    """Returns the interface of a source for other crates: its items without comments, private functions and bodies.
+def interface_of(text, path):
+    """Returns what other crates can use of a source or of a definition file: for each item, its name and its text without comments. An
+    import is an item only if it gives a new name. Its own name is None."""
+    items = {}
+    for name, line in source_lines(text) if path.endswith(".rt") else definition_lines(text):
+        items.setdefault(name, []).append(line)
+    return [(name, code_of("\n".join(lines), path)) for name, lines in items.items()]
 
-    A function without `pub` is part of the interface in a trait and in an impl of a trait."""
-    kept, lines, at = [], text.splitlines(), 0
-    in_trait = False
+
+def definition_lines(text):
+    """Yields the lines of a definition file, each with the name of its item."""
+    name = None
+    for line in definition_code(text).splitlines():
+        if found := DEFINITION.match(line):
+            name = found[1]
+        if not line.startswith("use "):
+            yield name, line
+        elif " as " in line:
+            yield None, line
+
+
+def source_lines(text):
+    """Yields the lines of a source that other crates see, each with the name of its item. Leaves out private functions, and the bodies
+    of functions. A function without `pub` is seen in a trait and in an impl of a trait."""
+    lines, at, block, in_trait, attributes = text.splitlines(), 0, None, False, []
     while at < len(lines):
-        line = lines[at]
-        if re.match(r"(?:pub )?trait |impl\b.* for ", line):
-            in_trait = True
-        elif line == "}":
-            in_trait = False
-        found = BODY.match(line)
-        if not found:
-            kept.append(line)
-            at += 1
-            continue
-        indent, shown = found[1], found[2] == "pub " or (in_trait and found[1] != "")
-        header, ending = [], ""
-        while not ending:
-            header.append(lines[at])
-            ending = header_end(header, indent)
-            at += 1
-        while ending == "body" and lines[at - 1] != f"{indent}}}":
-            at += 1
-        if shown:
-            kept += header
-    return rust_code("\n".join(kept))
+        line, first = lines[at], at
+        at += 1
+        if IMPORT.match(line):
+            while not lines[at - 1].endswith((";", "}")):
+                at += 1
+            if " as " in (imported := " ".join(lines[first:at])):
+                yield None, imported
+        elif found := BODY.match(line):
+            header, at = function_header(lines, first, found[1])
+            if found[2] == "pub " or (in_trait and found[1]):
+                yield FUNCTION.match(line)[3], "\n".join(attributes + header)
+            attributes = []
+        elif line.lstrip().startswith("#["):
+            attributes.append(line)
+        elif not line.lstrip().startswith("//"):
+            if found := ITEM.match(line):
+                block, in_trait = found[2], bool(re.match(r"(?:pub )?trait |impl\b.* for ", line))
+            yield block, "\n".join([*attributes, line])
+            attributes = []
+
+
+def function_header(lines, at, indent):
+    """Returns the lines of the header of the function that begins at a line, and the number of the first line after the function."""
+    header, ending = [], ""
+    while not ending:
+        header.append(lines[at])
+        ending = header_end(header, indent)
+        at += 1
+    while ending == "body" and lines[at - 1] != f"{indent}}}":
+        at += 1
+    return header, at
 
 
 def header_end(header, indent):
