@@ -11,7 +11,7 @@ from types import SimpleNamespace
 
 sys.dont_write_bytecode = True
 sys.path.insert(0, str(Path(__file__).resolve().parent.parent / "tools"))
-from lanes import compile_at_once, startable
+from lanes import compile_at_once, compile_with_llvm, startable
 from mutant_batches import batches_of, refused_in
 
 SOURCE = """\
@@ -125,6 +125,14 @@ def compiled_at_once():
     return [Crate().compile_by(backend, [], "") for backend in ("llvm", "rattle")]
 
 
+def compiled_with_llvm():
+    """Returns what the compilers of a program return, if programs are built with LLVM alone."""
+    rt = SimpleNamespace(Crate=type("Crate", (), {"name": "program", "compile_by": lambda crate, backend, words, to: backend}))
+    compile_with_llvm(rt)
+    compile_at_once(rt)
+    return [rt.Crate().compile_by(backend, [], "") for backend in ("llvm", "rattle")]
+
+
 def main():
     with tempfile.TemporaryDirectory() as room:
         Path(room, "src").mkdir()
@@ -140,6 +148,7 @@ def main():
     cases = [("tried together", together, TOGETHER), ("refused", refused, REFUSED), ("in parallel", parallel, STARTED)]
     cases.append(("jobs", [jobs_of_small({**SMALL, **FOUR}), jobs_of_small(SMALL)], JOBS))
     cases.append(("compiled", compiled_at_once(), ["llvm", "rattle"]))
+    cases.append(("compiled with LLVM alone", compiled_with_llvm(), ["llvm", 0]))
     wrong = [f"{what}: {found}, and not {right}" for what, found, right in cases if found != right]
     print(*wrong, f"{len(cases) - len(wrong)} passed, {len(wrong)} failed", sep="\n")
     return 1 if wrong else 0

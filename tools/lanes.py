@@ -47,6 +47,12 @@ def compile_at_once(rt):
     rt.Crate.compile_by = compiled
 
 
+def compile_with_llvm(rt):
+    """Makes rt build programs with LLVM alone. Rattle's own compiler takes three times as long."""
+    compile_by = rt.Crate.compile_by
+    rt.Crate.compile_by = lambda crate, backend, words, to: compile_by(crate, backend, words, to) if backend == "llvm" else 0
+
+
 def in_lanes(rt, tasks):
     """Runs tasks in parallel and returns what each gave. A task is the keys of those that it waits for, its work, its memory, and a
     call that takes what was given and a number of jobs. Those with the longest chain of work after them start first; mutants come last,

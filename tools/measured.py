@@ -1,5 +1,5 @@
-"""measured.py TIMES WORD..: runs `rt WORD..` through rt's Python modules, and writes the time and memory of each check, build and
-edit to the file TIMES.
+"""measured.py [--llvm] TIMES WORD..: runs `rt WORD..` through rt's Python modules, and writes the time and memory of each check,
+build and edit to the file TIMES. With --llvm, a program is built with LLVM alone.
 
 A line has the crate, the kind (proofs, tests, build or edit), the name of the edit, the processor time and the elapsed time in
 seconds, the memory of the largest process in MiB, and the time from the start of the run to the beginning of this entry in seconds.
@@ -13,7 +13,7 @@ import threading
 import time
 
 from kit import rt_module
-from lanes import realistic_need
+from lanes import compile_with_llvm, realistic_need
 
 here = threading.local()
 started, written = {}, []
@@ -89,10 +89,15 @@ def processor_seconds():
     return sum(it.ru_utime + it.ru_stime for it in both)
 
 
-def main(words, path):
+def main(words):
     """Runs rt with these arguments, and writes the file of times."""
+    llvm = words[0] == "--llvm"
+    path, *words = words[1:] if llvm else words
+    path = os.path.abspath(path)
     os.makedirs(os.path.dirname(path), exist_ok=True)
     rt = rt_module()
+    if llvm:
+        compile_with_llvm(rt)
     realistic_need(rt)
     measure(rt)
     since, used = time.monotonic(), processor_seconds()
@@ -107,4 +112,4 @@ def main(words, path):
 
 if __name__ == "__main__":
     sys.dont_write_bytecode = True
-    sys.exit(main(sys.argv[2:], os.path.abspath(sys.argv[1])))
+    sys.exit(main(sys.argv[1:]))

@@ -36,9 +36,9 @@ def write_version(room):
             file.write(text)
 
 
-def gate(room, times):
-    """Starts `rt ci` in a folder, which writes its times to a file."""
-    command = [sys.executable, f"{TOOLS}/measured.py", times, "ci"]
+def gate(room, times, *options):
+    """Starts `rt ci` in a folder, with these options of measured.py. It writes its times to a file."""
+    command = [sys.executable, f"{TOOLS}/measured.py", *options, times, "ci"]
     return subprocess.Popen(command, cwd=room, stdout=subprocess.PIPE, stderr=subprocess.STDOUT, text=True)
 
 
