@@ -4,6 +4,7 @@ use crate::choices::Choice;
 use crate::fingerprints::fingerprint;
 use crate::losses::Losses;
 use crate::machine::Phase;
+use crate::pools::{is_closed, room, threads_to_come};
 use crate::scripts::Script;
 use crate::vectors::Potential;
 use crate::walks::Walk;
@@ -113,7 +114,7 @@ impl<'a> Walk<'a> {
     pub(crate) fn moving_threads(&self) -> u64 {
         let mut threads = 0u64;
         for pool in &self.machine.pools {
-            threads = threads.saturating_add(pool.threads_to_come());
+            threads = threads.saturating_add(threads_to_come(pool));
         }
         let mut waiting = 0u64;
         for (number, job) in self.machine.jobs.iter().enumerate() {
@@ -134,9 +135,9 @@ impl<'a> Walk<'a> {
     /// job from its queue in the meantime.
     pub(crate) fn least_room(&self) -> u64 {
         let mut least = u64::MAX;
-        for pool in &self.machine.pools {
-            if !pool.never_refuses() {
-                least = least.min(pool.room());
+        for (state, pool) in self.machine.pools.iter().zip(self.machine.plan.pools()) {
+            if !pool.may_reject {
+                least = least.min(room(state));
             }
         }
         least
@@ -148,7 +149,7 @@ impl<'a> Walk<'a> {
         self.machine
             .pools
             .iter()
-            .any(|pool| pool.is_closed(false) && !pool.queued().is_empty())
+            .any(|pool| is_closed(pool, false) && pool.queued() > 0)
     }
 
     /// Returns the state's fingerprint, by which the search recognises the state.

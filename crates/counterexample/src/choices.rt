@@ -187,7 +187,7 @@ impl Choices {
     pub(crate) fn is_at_limit(&self, machine: &Machine, place: usize) -> bool {
         match self.limits.get(place).copied() {
             Some(Some(limit)) => match machine.pools.get(limit.pool) {
-                Some(pool) => limit.jobs <= pool.queued().len() as u64,
+                Some(pool) => limit.jobs <= pool.queued() as u64,
                 None => false,
             },
             _ => false,

@@ -88,7 +88,7 @@ impl Fingerprints<'_> {
             let threads = combined_hash(pool.threads(), pool.idle());
             let print = combined_hash(combined_hash(POOL, number as u64), threads);
             self.whole = self.whole.wrapping_add(print);
-            for (place, job) in pool.queued().iter().enumerate() {
+            for (place, job) in pool.queued_jobs().iter().enumerate() {
                 if let Some(at) = self.places.get_mut(*job) {
                     *at = (place as u64).wrapping_add(1);
                 }

@@ -9,10 +9,10 @@
 
 use crate::choices::Choice;
 use crate::machine::{Job, Machine};
-use crate::pools::Admission;
+use crate::pools::next_to_take;
 use crate::vectors::Potential;
 use job_bodies::{Action, MAX_ACTIONS};
-use pool_machine::Parent;
+use pool_machine::{Offer, Parent};
 
 /// The largest loss that [`Losses::of`] returns. It is also the result if the loss of a choice
 /// cannot be computed.
@@ -170,17 +170,19 @@ impl<'a> Losses<'a> {
         let pool = self.machine.plan.class_at(class)?.pool;
         let before = weighted.weight_at(from);
         let (after, _) = weighted.weight_after_work(at.saturating_add(1));
-        match self.machine.pools.get(pool)?.answer() {
-            Admission::Refused => Some(0),
-            Admission::Rejected => {
+        match self.machine.pools.get(pool)?.next_answer() {
+            Offer::Refused => {
+                if !self.machine.may_reject(pool) {
+                    return Some(0);
+                }
                 let after = after.saturating_add(self.done(class));
                 Some(before.saturating_sub(after))
             }
-            Admission::Queued => {
+            Offer::Queued => {
                 let after = after.saturating_add(self.queued(class));
                 Some(before.saturating_sub(after))
             }
-            Admission::Started => {
+            Offer::Started => {
                 let before = before.saturating_add(self.worker(class));
                 let (job, _) = self.weighted_class(class)?.weight_after_work(0);
                 Some(before.saturating_sub(after.saturating_add(job)))
@@ -197,7 +199,7 @@ impl<'a> Losses<'a> {
     /// way, and so on, up to [`MAX_PARENTS`] ancestors.
     fn of_take(&self, class: usize) -> Option<u64> {
         let pool = self.machine.plan.class_at(class)?.pool;
-        let job = self.machine.pools.get(pool)?.next_to_take()?;
+        let job = next_to_take(self.machine.pools.get(pool)?)?;
         let (after, ends) = self.weighted_class(class)?.weight_after_work(0);
         let mut taken = TakeWeights {
             ended: if ends { Some(job) } else { None },

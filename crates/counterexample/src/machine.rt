@@ -1,9 +1,8 @@
 //! A lightweight machine for searches. It stores the pools, all jobs that were created, and the
 //! clients that have moved. It stores no list of events.
 
-use crate::pools::{Admission, SearchPool};
 use job_bodies::{Action, MAX_ACTIONS, Plan};
-use pool_machine::Parent;
+use pool_machine::{Offer, Parent, PoolState};
 use std::alloc::{AllocError, Global};
 
 /// The phase of a job: queued, at a position of its body, or done.
@@ -73,7 +72,7 @@ impl StepOutcome {
 #[derive(Drop)]
 pub(crate) struct Machine<'a> {
     pub(crate) plan: &'a Plan,
-    pub(crate) pools: Vec<SearchPool>,
+    pub(crate) pools: Vec<PoolState>,
     pub(crate) jobs: Vec<Job>,
     active_clients: Vec<ActiveClient>,
 }
@@ -81,14 +80,9 @@ pub(crate) struct Machine<'a> {
 impl<'a> Machine<'a> {
     /// Creates the machine in the plan's initial state.
     pub(crate) fn start(alloc: Global, plan: &'a Plan) -> Result<Machine<'a>, AllocError> {
-        let pools = plan
-            .pools()
-            .iter()
-            .map(|pool| SearchPool::new(alloc, pool))
-            .collect(alloc)?;
         Ok(Machine {
             plan,
-            pools,
+            pools: PoolState::all_of(alloc, plan)?,
             jobs: Vec::new(alloc),
             active_clients: Vec::new(alloc),
         })
@@ -98,7 +92,7 @@ impl<'a> Machine<'a> {
     pub(crate) fn try_clone(&self, alloc: Global) -> Result<Machine<'a>, AllocError> {
         let mut pools = Vec::with_capacity(alloc, self.pools.len())?;
         for pool in &self.pools {
-            pools.push(pool.copied()?)?;
+            pools.push(pool.try_copy()?)?;
         }
         Ok(Machine {
             plan: self.plan,
@@ -236,17 +230,24 @@ impl<'a> Machine<'a> {
         Some(job)
     }
 
-    /// Returns `true` if an idle thread of the pool can end, as [`SearchPool::can_retire`]
-    /// determines.
-    pub(crate) fn can_retire(&self, pool: usize) -> bool {
-        self.pools.get(pool).is_some_and(|pool| pool.can_retire())
+    /// Returns `true` if the plan says that the pool may reject jobs.
+    pub(crate) fn may_reject(&self, pool: usize) -> bool {
+        self.plan.pools().get(pool).is_some_and(|pool| pool.may_reject)
     }
 
-    /// Ends an idle thread of the pool if [`SearchPool::can_retire`] returns `true`. Returns
-    /// whether a thread ended.
+    /// Returns `true` if an idle thread of the pool can end. In a search, threads end only in pools
+    /// whose core threads may time out.
+    pub(crate) fn can_retire(&self, pool: usize) -> bool {
+        self.pools
+            .get(pool)
+            .is_some_and(|pool| pool.has_core_timeout() && pool.can_retire())
+    }
+
+    /// Ends an idle thread of the pool if one [can end](Machine::can_retire). Returns whether a
+    /// thread ended.
     pub(crate) fn retire(&mut self, pool: usize) -> bool {
         match self.pools.get_mut(pool) {
-            Some(pool) => pool.retire(),
+            Some(pool) => pool.has_core_timeout() && pool.retire(),
             None => false,
         }
     }
@@ -261,14 +262,18 @@ impl<'a> Machine<'a> {
         let Some(pool) = self.plan.class_at(class).map(|class| class.pool) else {
             return Ok(StepOutcome::Nothing);
         };
-        let Some(admission) = self.pools.get_mut(pool) else {
+        let Some(state) = self.pools.get_mut(pool) else {
             return Ok(StepOutcome::Nothing);
         };
-        let phase = match admission.offer(number)? {
-            Admission::Started => Phase::At(0),
-            Admission::Queued => Phase::Queued,
-            Admission::Rejected => Phase::Done,
-            Admission::Refused => return Ok(StepOutcome::Refused),
+        let phase = match state.offer(number)? {
+            Offer::Started => Phase::At(0),
+            Offer::Queued => Phase::Queued,
+            Offer::Refused => {
+                if !self.may_reject(pool) {
+                    return Ok(StepOutcome::Refused);
+                }
+                Phase::Done
+            }
         };
         let before = self.newest_job(actor);
         self.jobs.push(Job {
@@ -301,7 +306,9 @@ impl<'a> Machine<'a> {
                 job.phase = Phase::Done;
                 let parent = job.parent;
                 if let Some(pool) = self.pools.get_mut(job.pool) {
-                    pool.finish();
+                    if pool.busy() > 0 {
+                        pool.finish();
+                    }
                 }
                 StepOutcome::Finished(parent)
             }

@@ -1,5 +1,6 @@
 //! What the idle threads of pools do in a walk: take jobs and end.
 
+use crate::pools::next_to_take;
 use crate::walks::{Walk, WalkStep};
 use pool_machine::Parent;
 use std::alloc::AllocError;
@@ -14,7 +15,7 @@ impl Walk<'_> {
         let Some(pool) = self.machine.pools.get(pool) else {
             return false;
         };
-        let Some(job) = pool.next_to_take() else {
+        let Some(job) = next_to_take(pool) else {
             return false;
         };
         self.machine

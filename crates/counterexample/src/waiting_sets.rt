@@ -3,6 +3,7 @@
 //! wait for the running jobs.
 
 use crate::machine::{Job, Machine, Phase};
+use crate::pools::is_closed;
 use job_bodies::MAX_POOLS;
 use pool_machine::Parent;
 use std::alloc::{AllocError, Global};
@@ -133,7 +134,7 @@ impl JobSet {
         let mut closed: Vec<bool> = machine
             .pools
             .iter()
-            .map(|pool| pool.is_closed(permanent))
+            .map(|pool| is_closed(pool, permanent))
             .collect(alloc)?;
         for (job, is_member) in machine.jobs.iter().zip(&self.is_member) {
             if let Phase::At(_) = job.phase {

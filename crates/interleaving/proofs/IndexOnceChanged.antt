@@ -10,7 +10,7 @@ use Rattle.pool_machine.specs.declared.parent.Parent.TheVariants as parent
 use Rattle.interleaving.specs.declared.job_view.Phase.{Phase}
 use Rattle.interleaving.specs.declared.job_view.JobView.{JobView}
 use Rattle.interleaving.specs.ViewStep.{live_job, is_live_child, is_done, is_unfinished_job, may_get_in, in_phase, with_phase, drop_if_stale}
-use Rattle.interleaving.specs.declared.job_table.JobEntry.{JobEntry}
+use Rattle.interleaving.specs.declared.job_entries.JobEntry.{JobEntry}
 use Rattle.interleaving.specs.JobEntry.{place_at}
 use Rattle.interleaving.specs.LatestJobs.{LatestJobsView, found, is_call}
 use Rattle.interleaving.specs.LiveJobs.{IsOnlyLiveJob, AreFound, AreSubmitBounds, AreIndexed, SubmitBoundsStay, HasSubmitBound, WasMade, jobs_in}

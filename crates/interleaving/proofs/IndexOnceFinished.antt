@@ -8,7 +8,7 @@ use Rattle.pool_machine.specs.State.{same_parent}
 use Rattle.interleaving.specs.declared.job_view.Phase.TheVariants as phase
 use Rattle.interleaving.specs.declared.job_view.JobView.{JobView}
 use Rattle.interleaving.specs.ViewStep.{live_job, is_live_child, is_done, is_unfinished_job, may_get_in, in_phase, drop_if_orphan, finished_if_gettable}
-use Rattle.interleaving.specs.declared.job_table.JobEntry.{JobEntry}
+use Rattle.interleaving.specs.declared.job_entries.JobEntry.{JobEntry}
 use Rattle.interleaving.specs.LatestJobs.{LatestJobsView}
 use Rattle.interleaving.specs.LiveJobs.{AreFound, AreIndexed, AreOrphaned, SubmitBoundsStay, IsGone, jobs_in}
 use Rattle.interleaving.proofs.MakersStay.{AreFading}

@@ -11,7 +11,7 @@ use Rattle.pool_machine.proofs.Children.{same_actor_true, same_actor_refl}
 use Rattle.interleaving.specs.declared.job_view.Phase.{Phase}
 use Rattle.interleaving.specs.declared.job_view.JobView.{JobView}
 use Rattle.interleaving.specs.ViewStep.{live_job, is_live_child, live_child, is_unfinished_job, may_get_in, in_phase, with_phase}
-use Rattle.interleaving.specs.declared.job_table.JobEntry.{JobEntry}
+use Rattle.interleaving.specs.declared.job_entries.JobEntry.{JobEntry}
 use Rattle.interleaving.specs.LatestJobs.{LatestJobsView, found, is_call}
 use Rattle.interleaving.specs.LiveJobs.{IsOnlyLiveJob, IsLatest, AreFound, AreSubmitBounds, SubmitBoundsStay, jobs_in}
 use Rattle.interleaving.proofs.MakersStay.{fades_child, AreFading, fading_set}

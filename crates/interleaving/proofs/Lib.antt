@@ -13,7 +13,6 @@ pub mod Dead
 pub mod Reached
 pub mod Results
 pub mod ItemsBelow
-pub mod JobRings
 pub mod PlacesByNumber
 pub mod MappedJobs
 pub mod MakersStay

@@ -7,7 +7,7 @@ use Rattle.pool_machine.specs.declared.parent.Parent.TheVariants as parent
 use Rattle.pool_machine.specs.State.{same_parent}
 use Rattle.interleaving.specs.declared.job_view.JobView.{JobView}
 use Rattle.interleaving.specs.ViewStep.{live_job, is_live_child, is_done, drop_if_orphan}
-use Rattle.interleaving.specs.declared.job_table.JobEntry.{JobEntry}
+use Rattle.interleaving.specs.declared.job_entries.JobEntry.{JobEntry}
 use Rattle.interleaving.specs.JobEntry.{place_at}
 use Rattle.interleaving.specs.LatestJobs.{LatestJobsView, found, is_call}
 use Rattle.interleaving.specs.LiveJobs.{AreFound, AreSubmitBounds, SubmitBoundsStay, OrphansAreFound, AreOrphaned, is_done_job, jobs_in, RemovesNumber, RemovesFound, RemovesOrphan}

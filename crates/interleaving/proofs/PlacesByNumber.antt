@@ -1,26 +1,11 @@
--- The invariant of a map whose numbers are below a bound, after one number changes.
-use Rattle.std.proofs.Common.{◌≡◌, ℕ, ◌+◌, ◌<◌, ◌≤◌, ◌==◌, Bool, true, false, cond, List, [], ◌∷◌, ◌++◌, length, set, count_by, is_some, IsSome, Option, Some, None, ⊎_elim, refl, sym, ap, ◌∙◌, arith}
-use Rattle.std.proofs.lemmas.Bool.{cases_lt, cases_Bool, eqb-true}
+-- The number of occupied entries of a list, after one entry changes.
+use Rattle.std.proofs.Common.{◌≡◌, ℕ, ◌+◌, ◌<◌, Bool, true, false, cond, List, [], ◌∷◌, ◌++◌, length, set, count_by, is_some, IsSome, Option, Some, None, ⊎_elim, refl, sym, ap, ◌∙◌, arith}
+use Rattle.std.proofs.lemmas.Bool.{cases_lt}
 use Rattle.std.proofs.lemmas.List.{get_or_past, set_past}
 use Rattle.std.proofs.lemmas.List.Sums.{sum_by-append, sum_by-cons}
 use Rattle.support.proofs.Sums.{count_by-set}
-use Rattle.interleaving.specs.declared.job_table.JobEntry.{JobEntry}
+use Rattle.interleaving.specs.declared.job_entries.JobEntry.{JobEntry}
 use Rattle.interleaving.specs.JobEntry.{place_at}
-
-none_from_at : (end n : ℕ) (o : Option JobEntry) → ((place : JobEntry) → o ≡ Some place → n < end) → end ≤ n → o ≡ None
-none_from_at end n None below past = refl
-none_from_at end n (Some place) below past = let low = below place refl in absurd (omega (arith, low, past))
-
--- the map has no value at or above the bound
-pub none_from : (at : ℕ → Option JobEntry) (end : ℕ) → ((n : ℕ) (place : JobEntry) → at n ≡ Some place → n < end) → (n : ℕ) → end ≤ n → at n ≡ None
-none_from at end below n past = none_from_at end n (at n) (below n) past
-
--- a change at a number below the bound preserves the bound
-pub still_below : (at after : ℕ → Option JobEntry) (end n : ℕ) (w : Option JobEntry) → ((k : ℕ) (place : JobEntry) → at k ≡ Some place → k < end) → n < end → ((q : ℕ) → after q ≡ cond (n == q) w (at q)) → (q : ℕ) (place : JobEntry) → after q ≡ Some place → q < end
-still_below at after end n w below low e q place found = ⊎_elim
-    (λ same. let here : n ≡ q = eqb-true n q same in omega (arith, low, here))
-    (λ other. below q place (sym (e q ∙ ap (λ b. cond b w (at q)) other) ∙ found))
-    (cases_Bool (n == q))
 
 pub some_is : (o : Option JobEntry) → IsSome o → is_some o ≡ true
 some_is None some = absurd cc

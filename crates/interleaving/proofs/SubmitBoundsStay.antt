@@ -3,7 +3,7 @@ use Rattle.std.proofs.Common.{◌≡◌, ◌≢◌, ℕ, ◌≤◌, List, length
 use Rattle.std.proofs.lemmas.Bool.{cases_lt, cases_eq}
 use Rattle.std.proofs.lemmas.List.{get_or_past, get_or-set_same, get_or-set_other}
 use Rattle.interleaving.specs.ViewStep.{live_job}
-use Rattle.interleaving.specs.declared.job_table.JobEntry.{JobEntry}
+use Rattle.interleaving.specs.declared.job_entries.JobEntry.{JobEntry}
 use Rattle.interleaving.specs.JobEntry.{place_at, place_in_phase}
 use Rattle.interleaving.specs.LatestJobs.{found}
 use Rattle.interleaving.specs.LiveJobs.{SubmitBoundsStay, jobs_in}

@@ -1,7 +1,7 @@
 -- The stored data of a live job.
 use Rattle.std.specs.Prelude.{ℕ, List, Option, Some, None, slice_index_or}
 use Rattle.interleaving.specs.declared.job_view.Phase.{Phase}
-use Rattle.interleaving.specs.declared.job_table.JobEntry.{JobEntry}
+use Rattle.interleaving.specs.declared.job_entries.JobEntry.{JobEntry}
 
 -- the stored data of the job with this number, or None if the job is not live
 abbrev pub place_at : List (Option JobEntry) → ℕ → Option JobEntry

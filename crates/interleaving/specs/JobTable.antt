@@ -1,7 +1,6 @@
 -- The abstract view of the places of a world's live jobs, and the invariant of their number.
 use Rattle.std.specs.Prelude.{◌≡◌, ℕ, ◌+◌, ◌≤◌, List, Option, count_by, is_some, ◌==◌, if◌then◌else◌}
-use Rattle.interleaving.specs.declared.job_table.JobEntry.{JobEntry}
-use Rattle.interleaving.specs.JobRing.{Row, longest}
+use Rattle.interleaving.specs.declared.job_entries.JobEntry.{JobEntry}
 
 -- the table of live jobs. For each job number, `items` has the stored data, or None if the job is not live. `places` is the
 -- number of places, free ones included. `room` is the number of further jobs for which memory is reserved.
@@ -14,9 +13,7 @@ pub record JobTableView : Type 0 where
 abbrev pub places_after : JobTableView → ℕ
 places_after list = if count_by is_some list.items == list.places then list.places + 1 else list.places
 
--- `live` is the number of live jobs. It is at most `count`, the number of places. The ring is not longer than its maximum
--- length for `count` live jobs (`longest`).
-pub record AreCounted (row : Row) (live count : ℕ) : Type 0 where
-  pub each : live ≡ count_by is_some row.items
+-- `live` is the number of live jobs. It is at most `count`, the number of places.
+pub record AreCounted (items : List (Option JobEntry)) (live count : ℕ) : Type 0 where
+  pub each : live ≡ count_by is_some items
   pub within : live ≤ count
-  pub short : row.span ≤ longest count

@@ -4,7 +4,7 @@ pub mod Waiting
 pub mod ViewAnswers
 pub mod Laws
 pub mod JobEntry
-pub mod JobRing
+pub mod JobEntries
 pub mod JobTable
 pub mod SubmitMap
 pub mod LatestJobs

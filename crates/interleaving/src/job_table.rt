@@ -2,19 +2,10 @@
 
 ghost use Rattle.std.specs.Prelude.{◌≡◌, ◌+◌, ◌<◌, ◌^◌, [], ◌∷◌, ◌++◌, length, count_by, is_some, IsSome, slice_set, ◌≤◌, None, Some, OnOk};
 
-use crate::job_ring::JobRing;
-use crate::{JobView, Phase};
+use crate::Phase;
+use crate::job_entries::{JobEntries, JobEntry};
 use std::alloc::{AllocError, Global};
 use std::marker::Model;
-
-/// The stored data of a live job.
-#[derive(Clone, Copy)]
-pub(crate) struct JobEntry {
-    pub(crate) job: JobView,
-    // An upper bound on the submits of this job: each live job that this job created comes from a
-    // submit at a position below the bound.
-    pub(crate) submit_bound: usize,
-}
 
 /// A map from job numbers to the data of the live jobs.
 ///
@@ -23,7 +14,7 @@ pub(crate) struct JobEntry {
 /// were live at the same time.
 #[derive(Drop)]
 pub(crate) struct JobTable {
-    kept: JobRing,
+    kept: JobEntries,
     // The number of live jobs.
     live: usize,
     // The number of places, free ones included.
@@ -31,15 +22,13 @@ pub(crate) struct JobTable {
 }
 
 impl Model for JobTable {
-    ghost use Rattle.std.specs.Prelude.{◌-◌, min};
     ghost use Rattle.interleaving.specs.JobTable.{JobTableView, AreCounted};
-    ghost use Rattle.interleaving.specs.JobRing.{longest};
 
     ghost Value = { JobTableView };
 
-    ghost view = { λ p. record { items = p.kept.items; places = p.count; room = min p.kept.room (longest p.count - p.kept.span) } };
+    ghost view = { λ p. record { items = p.kept.items; places = p.count; room = p.kept.room } };
 
-    ghost invariant = { λ p. AreCounted p.kept p.live p.count };
+    ghost invariant = { λ p. AreCounted p.kept.items p.live p.count };
 }
 
 impl JobTable {
@@ -52,7 +41,7 @@ impl JobTable {
         ensures places { result.places ≡ 0 }
     {
         JobTable {
-            kept: JobRing::new(alloc),
+            kept: JobEntries::new(alloc),
             live: 0,
             count: 0,
         }
@@ -126,7 +115,7 @@ impl JobTable {
         ensures enough { count_by is_some self.new.items ≤ self.new.places }
         ensures room { OnOk result (0 < self.new.room) }
     {
-        self.kept.reserve(self.live)
+        self.kept.reserve()
     }
 
     /// Adds a new job with the data `place`. The job occupies a free place, if there is one.

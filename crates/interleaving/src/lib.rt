@@ -14,7 +14,7 @@ mod clients;
 mod event_line;
 mod finish;
 mod get;
-mod job_ring;
+mod job_entries;
 mod job_table;
 mod job_view;
 mod latest_jobs;

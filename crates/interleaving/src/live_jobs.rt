@@ -7,7 +7,8 @@ ghost use Rattle.interleaving.specs.declared.job_view.Phase.TheVariants.{At};
 ghost use Rattle.interleaving.specs.ViewStep.{live_job, live_child, is_done, is_unfinished_job, may_get_in, with_phase, in_phase, drop_if_stale, drop_if_orphan, finished_if_gettable};
 ghost use Rattle.interleaving.specs.LiveJobs.{room_for, WasMade, DoneAreLatest, NoOtherIsStale, IsOnlyLiveJob, places_made, jobs_in, AreSubmitBounds, SubmitBoundsStay, HasSubmitBound, OrphansAreFound, AreOrphaned, AreFound, IsGone, RemovesOrphan, is_done_job};
 
-use crate::job_table::{JobEntry, JobTable};
+use crate::job_entries::JobEntry;
+use crate::job_table::JobTable;
 use crate::latest_jobs::LatestJobs;
 use crate::{JobView, Phase};
 use pool_machine::Parent;

@@ -1,31 +1,13 @@
-//! The initial pools, and the events of a pool: an idle worker takes a job, or ends.
+//! The events of a pool: an idle worker takes a job, or ends.
 
-ghost use Rattle.std.specs.Prelude.{◌≡◌, length, map, All, IsTrue, IfOk};
-ghost use Rattle.job_bodies.specs.WellFormed.{IsWellFormed, has_valid_sizes};
-ghost use Rattle.pool_machine.specs.PoolState.{new_pool, taken, retired};
+ghost use Rattle.std.specs.Prelude.{◌≡◌, length};
+ghost use Rattle.job_bodies.specs.WellFormed.{IsWellFormed};
+ghost use Rattle.pool_machine.specs.PoolState.{taken, retired};
 ghost use Rattle.interleaving.specs.ViewStep.{pool_in, take_head_in, retire_worker_in};
 
 use crate::World;
-use job_bodies::{Plan, Pool};
-use pool_machine::{Outcome, PoolState};
-use std::alloc::{AllocError, Global};
-
-/// Creates the pools in their initial state. Each pool has an empty queue. A prestarted pool has
-/// `core` idle workers, and any other pool has no threads.
-///
-/// # Errors
-///
-/// Returns `AllocError` if memory runs out.
-pub(crate) fn new_pools(alloc: Global, pools: &[Pool]) -> Result<Vec<PoolState>, AllocError>
-    requires { All (λ pool. IsTrue (has_valid_sizes pool)) pools.now }
-    ensures { IfOk result (λ new. new.items ≡ map new_pool pools.now) }
-{
-    let mut new = Vec::with_capacity(alloc, pools.len())?;
-    for pool in pools.iter() {
-        new.push(PoolState::new(alloc, pool))?;
-    }
-    Ok(new)
-}
+use job_bodies::Plan;
+use pool_machine::Outcome;
 
 impl World {
     ghost use Rattle.interleaving.specs.Answers.{MatchesResult};

@@ -8,7 +8,6 @@ ghost use Rattle.job_bodies.specs.Plan as spec;
 ghost use Rattle.pool_machine.specs.State.{State, is_unfinished};
 ghost use Rattle.pool_machine.specs.Reach.{start};
 
-use crate::pools::new_pools;
 use crate::{Clients, JobView, LiveJobs};
 use job_bodies::Plan;
 use pool_machine::PoolState;
@@ -57,7 +56,7 @@ impl World {
         ensures of_plan { IfOk result (λ world. IsReachableView plan.now world.view) }
         ensures places { IfOk result (λ world. world.places ≡ 0) }
     {
-        let pools = new_pools(alloc, plan.pools())?;
+        let pools = PoolState::all_of(alloc, plan)?;
         let clients = Clients::new(alloc, plan.clients())?;
         Ok(World {
             jobs: LiveJobs::new(alloc),

@@ -1,13 +1,13 @@
 //! The state of a pool: its threads, its idle workers and its queue.
 
-ghost use Rattle.std.specs.Prelude.{◌≡◌, ◌-◌, ◌<◌, ◌≤◌, ◌⊎◌, ◌↔◌, ◌||◌, nat_lt, nat_le, [], length, slice_get};
-ghost use Rattle.std.specs.Prelude.{IsTrue, IsNone, IfSome, IfNone, IfOk, OnOk, OnErr};
+ghost use Rattle.std.specs.Prelude.{◌≡◌, ◌-◌, ◌<◌, ◌≤◌, ◌⊎◌, ◌↔◌, ◌||◌, nat_lt, nat_le, [], length, map, slice_get};
+ghost use Rattle.std.specs.Prelude.{IsTrue, IsNone, IfSome, IfNone, IfOk, OnOk, OnErr, is_some};
 ghost use Rattle.std.specs.Bool.{OnTrue, OnFalse};
 ghost use Rattle.job_bodies.specs.WellFormed.{has_valid_sizes};
 ghost use Rattle.pool_machine.specs.PoolState.{IsSound, queue_limit, has_room, has_spare_thread, new_pool, answer, offered, taken, finished, retired};
 
 use crate::Offer;
-use job_bodies::Pool;
+use job_bodies::{Plan, Pool};
 use std::alloc::{AllocError, Global};
 use std::collections::VecDeque;
 use std::marker::Model;
@@ -81,6 +81,42 @@ impl PoolState {
         }
     }
 
+    /// Creates the pools of a plan, in plan order, as [`new`](PoolState::new) does.
+    ///
+    /// # Errors
+    ///
+    /// Returns `AllocError` if there is not enough memory for the list of pools.
+    pub fn all_of(alloc: Global, plan: &Plan) -> Result<Vec<PoolState>, AllocError>
+        ensures { IfOk result (λ all. all.items ≡ map new_pool plan.now.pools) }
+    {
+        let pools = plan.pools();
+        let mut all = Vec::with_capacity(alloc, pools.len())?;
+        for pool in pools.iter() {
+            all.push(PoolState::new(alloc, pool))?;
+        }
+        Ok(all)
+    }
+
+    /// Creates a copy of this pool.
+    ///
+    /// # Errors
+    ///
+    /// Returns `AllocError` if there is not enough memory for a copy of the queue.
+    pub fn try_copy(&self) -> Result<PoolState, AllocError>
+        ensures { IfOk result (λ copy. copy ≡ self.now) }
+    {
+        Ok(PoolState {
+            core: self.core,
+            max: self.max,
+            capacity: self.capacity,
+            unbounded: self.unbounded,
+            times_out: self.times_out,
+            threads: self.threads,
+            idle: self.idle,
+            queue: self.queue.clone()?,
+        })
+    }
+
     /// Offers the job with this number to the pool, as Java's `execute` does. The first of these
     /// rules that applies decides what happens:
     ///
@@ -104,7 +140,7 @@ impl PoolState {
         ensures memory_only_to_queue { OnErr result (answer self.old ≡ Offer.Queued) }
         ensures error_unchanged { OnErr result (self.new ≡ self.old) }
     {
-        let answer = self.answer();
+        let answer = self.next_answer();
         match answer {
             Offer::Started => self.threads += 1,
             Offer::Queued => self.queue.push_back(job)?,
@@ -113,9 +149,10 @@ impl PoolState {
         Ok(answer)
     }
 
-    // Returns the maximum number of jobs in a bounded queue: its capacity, or the number of idle
-    // workers if the capacity is 0.
-    fn queue_limit(&self) -> u64
+    /// Returns the maximum number of jobs in a bounded queue: its capacity, or the number of idle
+    /// workers if the capacity is 0. It has no meaning if the queue is
+    /// [unbounded](PoolState::is_unbounded).
+    pub fn most_queued(&self) -> u64
         ensures { result ≡ queue_limit self.now.capacity self.now.idle }
     {
         if self.capacity == 0 {
@@ -129,11 +166,11 @@ impl PoolState {
     fn has_room(&self) -> bool
         ensures { result ≡ has_room self.now }
     {
-        self.unbounded || (self.queue.len() as u64) < self.queue_limit()
+        self.unbounded || (self.queue.len() as u64) < self.most_queued()
     }
 
-    // Returns the answer of the pool to the next offered job.
-    fn answer(&self) -> Offer
+    /// Returns the answer of the pool to the next [offered](PoolState::offer) job.
+    pub fn next_answer(&self) -> Offer
         ensures { result ≡ answer self.now }
     {
         if self.threads < self.core {
@@ -188,12 +225,19 @@ impl PoolState {
         ensures nothing { OnFalse result (retired self.old ≡ None) }
         ensures nothing_unchanged { OnFalse result (self.new ≡ self.old) }
     {
-        let ends = self.idle > 0 && self.has_spare_thread() && self.has_spare_worker();
+        let ends = self.can_retire();
         if ends {
             self.threads -= 1;
             self.idle -= 1;
         }
         ends
+    }
+
+    /// Returns whether an idle worker may end, by the rules of [`retire`](PoolState::retire).
+    pub fn can_retire(&self) -> bool
+        ensures { result ≡ is_some (retired self.now) }
+    {
+        self.idle > 0 && self.has_spare_thread() && self.has_spare_worker()
     }
 
     // Returns whether the pool can do without one of its threads. It can if it has more threads
@@ -285,6 +329,13 @@ impl PoolState {
         ensures sound { IsSound self.now }
     {
         self.queue.len()
+    }
+
+    /// Returns the numbers of the queued jobs, from the head of the queue to its end.
+    pub fn queued_jobs(&self) -> &VecDeque<usize>
+        ensures { result.now.items ≡ self.now.queue }
+    {
+        &self.queue
     }
 
     /// Returns the number of the job at the head of the queue, or `None` if the queue is empty.

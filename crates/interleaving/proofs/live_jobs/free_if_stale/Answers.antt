@@ -2,7 +2,7 @@ use Rattle.std.proofs.Common.{◌≡◌, Some, None, sym, ap, set, ◌∙◌, ar
 use Rattle.std.proofs.lemmas.Grind.{common_steps}
 use Rattle.std.specs.Option.{option_map}
 use Rattle.interleaving.specs.ViewStep.{drop_if_stale}
-use Rattle.interleaving.specs.declared.job_table.JobEntry.{JobEntry}
+use Rattle.interleaving.specs.declared.job_entries.JobEntry.{JobEntry}
 use Rattle.interleaving.specs.JobEntry.{place_at}
 use Rattle.interleaving.specs.LiveJobs.{jobs_in}
 use Rattle.interleaving.proofs.JobsInPlaces.{jobs_at, jobs_set}

@@ -1,6 +1,6 @@
 use Rattle.std.proofs.Common.{◌≡◌, Some, refl, ◌∙◌, arith}
 use Rattle.std.proofs.lemmas.Grind.{common_steps}
-use Rattle.interleaving.specs.declared.job_table.JobEntry.{JobEntry}
+use Rattle.interleaving.specs.declared.job_entries.JobEntry.{JobEntry}
 use Rattle.interleaving.specs.JobEntry.{place_at}
 use Rattle.interleaving.specs.LiveJobs.{jobs_in}
 use Rattle.interleaving.proofs.SubmitBoundsStay.{stays, stays_then}

@@ -4,7 +4,7 @@ use Rattle.std.specs.Int.{from_bool}
 use Rattle.interleaving.specs.ViewStep.{is_done, is_unfinished_job, drop_if_stale}
 use Rattle.std.specs.Option.{option_map}
 use Rattle.std.proofs.lemmas.List.{map-append}
-use Rattle.interleaving.specs.declared.job_table.JobEntry.{JobEntry}
+use Rattle.interleaving.specs.declared.job_entries.JobEntry.{JobEntry}
 use Rattle.interleaving.specs.LatestJobs.{found, is_call}
 use Rattle.interleaving.specs.LiveJobs.{JobList, WasMade, NoOtherIsStale, AreIndexed, jobs_in}
 use Rattle.interleaving.proofs.SubmitBoundsStay.{stays_then}
